@@ -71,8 +71,8 @@ impl HeapStore {
         (free - DESCRIPTOR_NEED) / NODE_NEED <= pairs
     }
 
-    // The core installs the PPI of permanent memory, with its descriptor, or does neither.
-    pub(crate) fn install_memory_ppi(&mut self) -> Result<Sweep, StoreFault>
+    /// The core installs the PPI of permanent memory, with its descriptor, or does neither.
+    pub fn install_memory_ppi(&mut self) -> Result<Sweep, StoreFault>
         requires { Present (StandsFor self.old) Anything }
         ensures { Performs false (StandsFor self.old) (StandsFor self.new) core_install result }
     {

@@ -43,8 +43,8 @@ impl HeapStore {
         }
     }
 
-    // A descriptor that nothing names yet.
-    pub(crate) fn make_desc(
+    /// A descriptor that nothing names yet.
+    pub fn make_desc(
         &mut self,
         kind: DescKind,
         guid: GuidFrom,
@@ -64,8 +64,8 @@ impl HeapStore {
         }
     }
 
-    // GUID and number of a descriptor.
-    pub(crate) fn tell_descriptor(&self, d: Desc) -> (Guid, u64)
+    /// GUID and number of a descriptor.
+    pub fn tell_descriptor(&self, d: Desc) -> (Guid, u64)
         requires { Present (StandsFor self.now) (λ s. IsDesc s d) }
         ensures { OfEach (StandsFor self.now) (λ s. IsDesc s d) (λ s. result ≡ descriptor s d) }
     {

@@ -27,8 +27,8 @@ const BODY_AT: usize = hob_codec::HEADER_LEN;
 impl HeapStore {
     ghost use Rattle.heap_store.specs.HeapState.{StandsFor};
 
-    // Makes a HOB and answers its address.
-    pub(crate) fn make_hob(&mut self, hob: &Hob) -> Result<u64, StoreFault>
+    /// Makes a HOB and answers its address.
+    pub fn make_hob(&mut self, hob: &Hob) -> Result<u64, StoreFault>
         requires state { Present (StandsFor self.old) Anything }
         requires hob { IsScriptHob (hob_value hob.now) }
         ensures { Performs false (StandsFor self.old) (StandsFor self.new) (λ s. create_hob s (hob_value hob.now)) result }
@@ -39,8 +39,8 @@ impl HeapStore {
         }
     }
 
-    // The HOB at an offset of the heap.
-    pub(crate) fn span_at(&self, offset: u64) -> Option<HobSpan>
+    /// The HOB at an offset of the heap.
+    pub fn span_at(&self, offset: u64) -> Option<HobSpan>
         requires { Present (StandsFor self.now) (IsHobPlace offset) }
         ensures { OfEach (StandsFor self.now) (IsHobPlace offset) (λ s. result ≡ hob_at s offset) }
     {
@@ -63,8 +63,8 @@ impl HeapStore {
         bases.push(word_in(&heap, offset as usize + BODY_AT))
     }
 
-    // The bases of the volumes that HOBs tell of.
-    pub(crate) fn volume_bases(&self) -> Result<Seq<u64>, OutOfMemory>
+    /// The bases of the volumes that HOBs tell of.
+    pub fn volume_bases(&self) -> Result<Seq<u64>, OutOfMemory>
         requires { Present (StandsFor self.now) Anything }
         ensures { OfEach (StandsFor self.now) Anything (λ s. IfOk result (λ bases. bases ≡ fv_bases s)) }
     {

@@ -128,8 +128,8 @@ impl HeapStore {
         Ok(sweep)
     }
 
-    // Installs PPIs, in the order of the list.
-    pub(crate) fn install_ppis(&mut self, list: &[Desc], by: u32) -> Result<Sweep, StoreFault>
+    /// Installs PPIs, in the order of the list.
+    pub fn install_ppis(&mut self, list: &[Desc], by: u32) -> Result<Sweep, StoreFault>
         requires state { Present (StandsFor self.old) (AreDescs list.now) }
         requires few { AreFew list.now }
         ensures { Performs false (And (StandsFor self.old) (AreDescs list.now)) (StandsFor self.new)
@@ -154,13 +154,8 @@ impl HeapStore {
         }
     }
 
-    // Puts a PPI in the place of another.
-    pub(crate) fn reinstall_ppi(
-        &mut self,
-        old: Desc,
-        new: Desc,
-        by: u32,
-    ) -> Result<Sweep, StoreFault>
+    /// Puts a PPI in the place of another.
+    pub fn reinstall_ppi(&mut self, old: Desc, new: Desc, by: u32) -> Result<Sweep, StoreFault>
         requires { Present (StandsFor self.old) (AreBothDescs old new) }
         ensures { Performs false (And (StandsFor self.old) (AreBothDescs old new)) (StandsFor self.new)
             (λ s. reinstall s old new by) result }

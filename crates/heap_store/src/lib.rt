@@ -19,7 +19,6 @@ mod moved_hobs;
 mod moved_node;
 mod notify;
 mod peek;
-mod pei_store;
 mod pool;
 mod queue;
 mod reading;

@@ -25,8 +25,8 @@ impl HeapStore {
             && self.planned.is_none()
     }
 
-    // Says where permanent memory is.
-    pub(crate) fn plan_memory(&mut self, begin: u64, len: u64) -> Result<(), StoreFault>
+    /// Says where permanent memory is.
+    pub fn plan_memory(&mut self, begin: u64, len: u64) -> Result<(), StoreFault>
         requires { Present (StandsFor self.old) Anything }
         ensures { Performs false (StandsFor self.old) (StandsFor self.new) (λ s. set_memory s begin len) result }
     {
@@ -38,8 +38,8 @@ impl HeapStore {
         Ok(())
     }
 
-    // Whether memory was planned and not yet moved to.
-    pub(crate) fn is_due(&self) -> bool
+    /// Whether memory was planned and not yet moved to.
+    pub fn is_due(&self) -> bool
         requires { Present (StandsFor self.now) Anything }
         ensures { OfEach (StandsFor self.now) Anything (λ s. result ≡ memory_due s) }
     {
@@ -70,8 +70,8 @@ impl HeapStore {
         }
     }
 
-    // Takes pages.
-    pub(crate) fn take_pages(&mut self, memory_type: u32, count: u32) -> Result<u64, StoreFault>
+    /// Takes pages.
+    pub fn take_pages(&mut self, memory_type: u32, count: u32) -> Result<u64, StoreFault>
         requires { Present (StandsFor self.old) Anything }
         ensures { Performs false (StandsFor self.old) (StandsFor self.new) (λ s. pages s memory_type count) result }
     {
@@ -84,16 +84,16 @@ impl HeapStore {
         }
     }
 
-    // The boot mode.
-    pub(crate) fn tell_boot_mode(&self) -> u32
+    /// The boot mode.
+    pub fn tell_boot_mode(&self) -> u32
         requires { Present (StandsFor self.now) Anything }
         ensures { OfEach (StandsFor self.now) Anything (λ s. result ≡ s.boot_mode) }
     {
         self.heap.boot_mode(&self.memory)
     }
 
-    // Sets the boot mode.
-    pub(crate) fn change_boot_mode(&mut self, mode: u32)
+    /// Sets the boot mode.
+    pub fn change_boot_mode(&mut self, mode: u32)
         requires { Present (StandsFor self.old) Anything }
         ensures { AfterEach (StandsFor self.old) (StandsFor self.new) (λ old new. new ≡ with_boot_mode old mode) }
     {

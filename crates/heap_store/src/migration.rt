@@ -8,8 +8,8 @@ use crate::store::HeapStore;
 impl HeapStore {
     ghost use Rattle.heap_store.specs.HeapState.{StandsFor};
 
-    // Moves to permanent memory, and answers the old base and the new.
-    pub(crate) fn move_to_memory(&mut self) -> (u64, u64)
+    /// Moves to permanent memory, and answers the old base and the new.
+    pub fn move_to_memory(&mut self) -> (u64, u64)
         requires { Present (StandsFor self.old) IsDue }
         ensures { AfterEach (And (StandsFor self.old) IsDue) (StandsFor self.new) (λ old new. Migrates old result new) }
     {

@@ -142,8 +142,8 @@ impl HeapStore {
         Ok(sweep)
     }
 
-    // Registers notifications, in the order of the list.
-    pub(crate) fn register(&mut self, list: &[Desc], by: u32) -> Result<Sweep, StoreFault>
+    /// Registers notifications, in the order of the list.
+    pub fn register(&mut self, list: &[Desc], by: u32) -> Result<Sweep, StoreFault>
         requires state { Present (StandsFor self.old) (AreDescs list.now) }
         requires few { AreFew list.now }
         ensures { Performs false (And (StandsFor self.old) (AreDescs list.now)) (StandsFor self.new)

@@ -10,8 +10,8 @@ use store_laws::heap::memory_read;
 impl HeapStore {
     ghost use Rattle.heap_store.specs.HeapState.{StandsFor};
 
-    // Reads bytes at an address. False where they do not lie in one mapped region.
-    pub(crate) fn read_bytes(&self, at: u64, into: &mut [u8]) -> bool
+    /// Reads bytes at an address. False where they do not lie in one mapped region.
+    pub fn read_bytes(&self, at: u64, into: &mut [u8]) -> bool
         requires { Present (StandsFor self.now) Anything }
         ensures { OfEach (StandsFor self.now) Anything (λ s. Peeks (bytes_at s at (length into.old)) result into.old into.new) }
     {

@@ -12,8 +12,8 @@ use store_model::{Pool, StoreFault};
 impl HeapStore {
     ghost use Rattle.heap_store.specs.HeapState.{StandsFor};
 
-    // A pool of zeros.
-    pub(crate) fn make_pool(&mut self, size: u32) -> Result<Pool, StoreFault>
+    /// A pool of zeros.
+    pub fn make_pool(&mut self, size: u32) -> Result<Pool, StoreFault>
         requires { Present (StandsFor self.old) Anything }
         ensures { Performs false (StandsFor self.old) (StandsFor self.new) (λ s. pool s size) result }
     {
@@ -23,8 +23,8 @@ impl HeapStore {
         }
     }
 
-    // Writes bytes into a pool. False where they pass the size that was asked for.
-    pub(crate) fn write_pool(&mut self, pool: Pool, at: u32, bytes: &[u8]) -> bool
+    /// Writes bytes into a pool. False where they pass the size that was asked for.
+    pub fn write_pool(&mut self, pool: Pool, at: u32, bytes: &[u8]) -> bool
         requires { Present (StandsFor self.old) (HasPool pool) }
         ensures { AfterEach (And (StandsFor self.old) (HasPool pool)) (StandsFor self.new)
             (λ s new. Stores (store s pool at bytes.now) s result new) }

@@ -10,8 +10,8 @@ use store_model::Firing;
 impl HeapStore {
     ghost use Rattle.heap_store.specs.HeapState.{StandsFor};
 
-    // The first queued pair leaves the queue.
-    pub(crate) fn pop_pending(&mut self) -> Option<Firing>
+    /// The first queued pair leaves the queue.
+    pub fn pop_pending(&mut self) -> Option<Firing>
         requires { Present (StandsFor self.old) Anything }
         ensures { AfterEach (StandsFor self.old) (StandsFor self.new) (λ old new. Takes (queue_pop old) old result new) }
     {

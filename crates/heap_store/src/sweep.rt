@@ -10,8 +10,8 @@ use store_model::{Firing, Sweep};
 impl HeapStore {
     ghost use Rattle.heap_store.specs.HeapState.{StandsFor};
 
-    // The first pair that fires now, the sweep then standing behind it.
-    pub(crate) fn next_firing(&self, sweep: &mut Sweep) -> Option<Firing>
+    /// The first pair that fires now, the sweep then standing behind it.
+    pub fn next_firing(&self, sweep: &mut Sweep) -> Option<Firing>
         requires { Present (StandsFor self.now) (IsAmong sweep.old) }
         ensures { OfEach (StandsFor self.now) (IsAmong sweep.old) (λ s. IsMatch (W.next_match s sweep.old) result sweep.new) }
     {

@@ -1,14 +1,12 @@
-// The board of all tests, temporary RAM, RAM and a volume, and the stores over it: in memory, the same with its index, and of plain lists.
+// The board of all tests, temporary RAM, RAM and a volume, and the stores over it: the program's, and of plain lists.
 ghost use Rattle.std.specs.Prelude.{◌≤◌, ◌+◌, IfOk};
 ghost use Rattle.boot_plan.specs.declared.limits.TheConstants.{MOST_TEMP};
 ghost use Rattle.store_model.specs.Service.{Present};
 ghost use Rattle.store_model.specs.StoreCall.{Anything};
-ghost use Rattle.heap_store.specs.HeapState.{StandsFor as HeapStandsFor};
 ghost use Rattle.mem_store.specs.MemState.{StandsFor};
 ghost use Rattle.store_plain.specs.PlainState.{stands_for};
 ghost use Rattle.heap_trials.specs.Volumes.{AreVolumes};
 
-use heap_store::HeapStore;
 use mem_store::MemStore;
 use phys_mem::Rom;
 use pi_base::{OutOfMemory, Seq, Span};
@@ -41,18 +39,7 @@ fn volumes(alloc: Global) -> Result<Seq<Rom>, OutOfMemory>
     Ok(roms)
 }
 
-/// A store in memory, without an index, over so many bytes of temporary RAM, the last of which are for early pages.
-pub(crate) fn heap_over(alloc: Global, len: u64, pages: u64) -> Result<HeapStore, OutOfMemory>
-    requires len { len ≤ MOST_TEMP }
-    requires pages { pages + 64 ≤ len }
-    ensures { IfOk result (λ store. Present (HeapStandsFor store) Anything) }
-{
-    let temp = Span { base: TEMP, len };
-    let roms = volumes(alloc)?;
-    HeapStore::new(alloc, temp, pages, RAM, roms)
-}
-
-/// The store of the program over the same.
+/// The store of the program over so many bytes of temporary RAM, the last of which are for early pages.
 pub(crate) fn store_over(alloc: Global, len: u64, pages: u64) -> Result<MemStore, OutOfMemory>
     requires len { len ≤ MOST_TEMP }
     requires pages { pages + 64 ≤ len }

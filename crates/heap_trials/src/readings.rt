@@ -5,7 +5,7 @@ ghost use Rattle.store_model.specs.Service.{Present, OfEach};
 ghost use Rattle.store_model.specs.StoreCall.{Anything, HasPool};
 ghost use Rattle.heap_trials.specs.Scene.{IsLaid};
 
-use crate::board::{ROM, TEMP, heap_over, lists_over, store_over};
+use crate::board::{ROM, TEMP, lists_over, store_over};
 use crate::calls::set_boot_mode;
 use crate::scene::{END, INSTALLED, NAME, OTHER, Of, desc_of, install, laid, reinstall};
 use pi_base::{Guid, MEMORY_PPI, OutOfMemory};
@@ -311,9 +311,8 @@ fn over<S: PeiStore + Drop>(rt: &impl Abort, store: S, trial: Trial)
     }
 }
 
-// The same in each store: of plain lists, in memory, and in memory with its index. Only these two functions own a store: each exit of an
-// owner is dear to prove.
-fn over_each(
+// The same in each store. Only these two functions own a store: each exit of an owner is dear to prove.
+fn over_both(
     rt: &impl Abort,
     alloc: Global,
     len: u64,
@@ -324,7 +323,6 @@ fn over_each(
     requires early { early + 64 ≤ len }
 {
     over(rt, lists_over(alloc, len, early)?, trial);
-    over(rt, heap_over(alloc, len, early)?, trial);
     over(rt, store_over(alloc, len, early)?, trial);
     Ok(())
 }
@@ -349,11 +347,11 @@ static TRIALS: [Trial; 7] = [
 #[test]
 fn what_stands_in_a_store_is_told(rt: HostRuntime) {
     for trial in &TRIALS {
-        assert!(rt; over_each(&rt, rt.alloc(), 0x4000, 0, *trial).is_ok());
+        assert!(rt; over_both(&rt, rt.alloc(), 0x4000, 0, *trial).is_ok());
     }
 }
 
 #[test]
 fn bytes_are_read_in_one_region(rt: HostRuntime) {
-    assert!(rt; over_each(&rt, rt.alloc(), 0x5000, 0x1000, Trial::Peeks).is_ok());
+    assert!(rt; over_both(&rt, rt.alloc(), 0x5000, 0x1000, Trial::Peeks).is_ok());
 }

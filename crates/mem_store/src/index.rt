@@ -15,7 +15,7 @@ use crate::guid_index::{GuidIndex, Indexed};
 use heap_store::HeapStore;
 use pi_base::{MEMORY_PPI, OutOfMemory};
 use std::alloc::Global;
-use store_model::{Desc, PeiStore};
+use store_model::Desc;
 
 /// The PPIs and the notifications of a store by GUID, each list in its order.
 #[derive(Drop)]
@@ -35,7 +35,7 @@ pub(crate) fn row_of(behind: &HeapStore, d: Desc) -> Indexed
     requires { Present (H.StandsFor behind.now) (λ s. IsDesc s d) }
     ensures { OfEach (H.StandsFor behind.now) (λ s. IsDesc s d) (λ s. result ≡ row_at s d.offset) }
 {
-    let told = behind.descriptor(d);
+    let told = behind.tell_descriptor(d);
     Indexed {
         guid: told.0,
         at: d.offset,
@@ -159,7 +159,7 @@ impl Index {
         let Ok(others) = u16::try_from(self.ppis.count(&MEMORY_PPI)) else {
             return;
         };
-        let Some(found) = behind.nth_ppi(&MEMORY_PPI, others) else {
+        let Some(found) = behind.find_ppi(&MEMORY_PPI, others) else {
             return;
         };
         self.right = self.ppis.push(Indexed {

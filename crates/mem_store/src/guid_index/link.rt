@@ -1,7 +1,7 @@
 // How an entry is linked to others of its GUID.
 
 /// The ways from an entry to others of its GUID.
-#[derive(Clone, Copy, PartialEq, Eq)]
+#[derive(Clone, Copy)]
 pub struct Link {
     /// The place behind the last one before it, or 0.
     pub before: usize,

@@ -12,4 +12,4 @@ pub returns-then-are_alone-clause-row : goal.returns-then-are_alone-clause-row
 returns-then-are_alone-clause-row c s both = c.install_counted.ensures s (both.0.memory, (both.1, sym (ap length (c.if-are_alone.ensures s both.0.memory both.1 both.0.index refl))))
 
 pub returns-clause-row : goal.returns-clause-row
-returns-clause-row c s both = c.install.ensures.row s (both.0.memory, both.1)
+returns-clause-row c s both = c.install_ppis.ensures s (both.0.memory, both.1)

@@ -12,4 +12,4 @@ pub returns-then-are_callbacks-clause-row : goal.returns-then-are_callbacks-clau
 returns-then-are_callbacks-clause-row c s both = c.register_counted.ensures s (both.0.memory, (both.1, sym (ap length (c.if-are_callbacks.ensures s both.0.memory both.1 refl))))
 
 pub returns-clause-row : goal.returns-clause-row
-returns-clause-row c s both = c.notify.ensures.row s (both.0.memory, both.1)
+returns-clause-row c s both = c.register.ensures s (both.0.memory, both.1)
