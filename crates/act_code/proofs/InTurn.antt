@@ -78,7 +78,7 @@ both_indexed first others first_blocks others_blocks count =
     rw (list_all-append (λ r. nat_lt r 16) first others, list_all-append (λ b. nat_lt b count) first_blocks others_blocks)
     (crossed (list_all (λ r. nat_lt r 16) first) (list_all (λ b. nat_lt b count) first_blocks) (list_all (λ r. nat_lt r 16) others) (list_all (λ b. nat_lt b count) others_blocks))
 
-abbrev indexes : ℕ → Operand → Bool
+abbrev pub indexes : ℕ → Operand → Bool
 indexes count operand = are_indexed (told registers_in operand) (told blocks_in operand) count
 
 all_indexed : (count : ℕ) (given : List Operand) → list_all (indexes count) given ≡ are_indexed (flat_map (told registers_in) given) (flat_map (told blocks_in) given) count

@@ -1,5 +1,5 @@
 -- Reading from any source, and from bytes.
-use Rattle.std.proofs.Common.{◌≡◌, ℕ, List, Option, Some, None, Result, Ok, refl, ap}
+use Rattle.std.proofs.Common.{◌≡◌, ℕ, List, Option, Some, None, Result, Ok, Err, refl, ap}
 use Rattle.std.specs.Prelude.{option_and_then}
 use Rattle.act_code.specs.declared.action.Action.{Action}
 use Rattle.act_code.specs.declared.code.Code.{Code}
@@ -7,8 +7,8 @@ use Rattle.act_code.specs.declared.operand.Unread.{Unread}
 use Rattle.act_code.specs.declared.operand.Unread.TheVariants as unread
 use Rattle.act_code.specs.Format.{Format, Nothing, Byte, Pair}
 use Rattle.act_code.specs.Table.{format_of, made}
-use Rattle.act_code.specs.Source.{◌>>=◌, Stops, read_by, operands_by}
-use Rattle.act_code.specs.Reading.{Fails, cause_of, answer_of, read, byte_way, operands_at}
+use Rattle.act_code.specs.Source.{◌>>=◌, Gives as SourceGives, Stops, read_by, operands_by}
+use Rattle.act_code.specs.Reading.{Fails, Gives, cause_of, answer_of, read, byte_way, operands_at}
 
 -- what stops a reading stops one that goes on behind it
 pub stops_then : {A B Cause : Type 0} (cause : Option Cause) (read : Result A Cause) (f : A → Result B Cause) → Stops cause read → Stops cause (read >>= f)
@@ -16,11 +16,17 @@ stops_then None read f stops = tt
 stops_then (Some cause) read f stops = ap (λ r. r >>= f) stops
 
 -- a failure of bytes is one of a source
-pub fails_stops : {A X Left : Type 0} (view : X → Left) (e : Unread) (read : Option (A × X)) → Fails e read → Stops (cause_of e) (answer_of view read)
-fails_stops view unread.Malformed read fails = ap (answer_of view) fails
-fails_stops view unread.Memory read fails = tt
+pub fails_stops : {A : Type 0} (e : Unread) (read : Option (A × List ℕ)) → Fails e read → Stops (cause_of e) (answer_of (λ rest. rest) read)
+fails_stops unread.Malformed read fails = ap (answer_of (λ rest. rest)) fails
+fails_stops unread.Memory read fails = tt
 
--- the same, with what is read behind the first operand
+-- what bytes give is what a source gives
+pub given : {A X : Type 0} (view : X → List ℕ) (result : Result (A × X) Unread) (read : Option (A × List ℕ))
+    → Gives (λ x. (x.0, view x.1)) result read → SourceGives view cause_of result (answer_of (λ rest. rest) read)
+given view (Ok x) read is = ap (answer_of (λ rest. rest)) is
+given view (Err e) read fails = fails_stops e read fails
+
+-- an action of what is read
 made_is : {A B X : Type 0} (one : Result (A × X) (Unit {0})) (read : Option (A × X)) (make : A → B)
     → one ≡ answer_of (λ rest. rest) read → (one >>= λ x. Ok (make x.0, x.1)) ≡ answer_of (λ rest. rest) (option_and_then (λ x. Some (make x.0, x.1)) read)
 made_is one None make is = rw is refl
@@ -55,8 +61,7 @@ stopped unread.Malformed None stops = refl
 stopped unread.Memory read stops = tt
 
 -- what any source gives, for bytes
-pub operands_found : (code : Code) (bytes : List ℕ) (x : Action × List ℕ) → operands_by byte_way code bytes ≡ Ok x → operands_at code bytes ≡ Some x
-operands_found code bytes x is = answered (operands_at code bytes) x (rw (← operands_are code bytes) is)
-
-pub operands_fail : (code : Code) (bytes : List ℕ) (e : Unread) → Stops (cause_of e) (operands_by byte_way code bytes) → Fails e (operands_at code bytes)
-operands_fail code bytes e stops = stopped e (operands_at code bytes) (rw (← operands_are code bytes) stops)
+pub operands_given : {X : Type 0} (code : Code) (bytes : List ℕ) (view : X → List ℕ) (result : Result (Action × X) Unread)
+    → SourceGives view cause_of result (operands_by byte_way code bytes) → Gives (λ x. (x.0, view x.1)) result (operands_at code bytes)
+operands_given code bytes view (Ok x) is = answered (operands_at code bytes) (x.0, view x.1) (rw (← operands_are code bytes) is)
+operands_given code bytes view (Err e) stops = stopped e (operands_at code bytes) (rw (← operands_are code bytes) stops)

@@ -1,5 +1,5 @@
 -- What is in the grammar can be written.
-use Rattle.std.proofs.Common.{ℕ, ◌-◌, ◌<◌, List, [], ◌∷◌, length, All, arith}
+use Rattle.std.proofs.Common.{ℕ, ◌-◌, List, [], ◌∷◌, length, All, arith}
 use Rattle.std.specs.List.{AllByRecursion}
 use Rattle.std.proofs.lemmas.List.Elements.{All-from_recursion}
 use Rattle.pi_base.specs.declared.phase.Phase.{Phase}
@@ -19,6 +19,3 @@ blocks_writable phase count left (block ∷ blocks) are =
 
 pub script_writable : (s : Script) → IsInGrammar s → All IsWritableBlock s.blocks
 script_writable s is = All-from_recursion IsWritableBlock s.blocks (blocks_writable s.phase (length s.blocks) (length s.blocks) s.blocks is.blocks)
-
-pub few_blocks : (s : Script) → IsInGrammar s → length s.blocks < 256
-few_blocks s is = omega (arith, within_le 1 64 (length s.blocks) is.number)

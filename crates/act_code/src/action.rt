@@ -6,7 +6,7 @@ use crate::code::Code;
 use pi_base::{Guid, Seq, Word};
 
 /// Where an action's GUID stands.
-#[derive(Clone, Copy, PartialEq, Eq)]
+#[derive(Clone, Copy)]
 pub enum GuidArg {
     /// In the script.
     Inline(Guid),

@@ -1,26 +1,15 @@
 // Reading an action of a phase.
-ghost use Rattle.act_code.specs.Reading.{Gives, operands_at, action_at};
+ghost use Rattle.act_code.specs.Reading.{Gives, action_at};
 
 use crate::action::Action;
-use crate::byte_source::Bytes;
 use crate::code::Code;
 use crate::operand::{Unread, byte};
 use crate::operands::read_operands;
 use pi_base::Phase;
 use std::alloc::Global;
 
-// The action of a code, by the bytes behind the code.
-fn operands(alloc: Global, code: Code, bytes: &[u8]) -> Result<(Action, &[u8]), Unread>
-    ensures { Gives (λ x. (x.0, x.1.now)) result (operands_at code bytes.now) }
-{
-    match read_operands(alloc, code, Bytes(bytes)) {
-        Ok((action, rest)) => Ok((action, rest.0)),
-        Err(unread) => Err(unread),
-    }
-}
-
 /// The action of a phase at the front of the bytes, and the bytes behind it.
-#[tactic(auto, unfolding(crate::specs::Reading::action_at))]
+#[tactic(auto, using(crate::proofs::Sources::operands_given), unfolding(crate::specs::Reading::action_at))]
 pub fn action(alloc: Global, phase: Phase, bytes: &[u8]) -> Result<(Action, &[u8]), Unread>
     ensures { Gives (λ x. (x.0, x.1.now)) result (action_at phase bytes.now) }
 {
@@ -28,7 +17,7 @@ pub fn action(alloc: Global, phase: Phase, bytes: &[u8]) -> Result<(Action, &[u8
     match Code::from_byte(first) {
         Some(code) => {
             if code.is_of(phase) {
-                operands(alloc, code, rest)
+                read_operands(alloc, code, rest)
             } else {
                 Err(Unread::Malformed)
             }

@@ -5,7 +5,7 @@ ghost use Rattle.act_code.specs.Table.{number_of, code_of, is_code_of, name_of};
 use pi_base::Phase;
 
 /// The code of an action, its first byte (own). Where both phases have an action of one name, that of drivers is here with `Dxe` in front.
-#[derive(Clone, Copy, PartialEq, Eq)]
+#[derive(Clone, Copy)]
 pub enum Code {
     Set = 0x01,
     Add = 0x02,

@@ -73,10 +73,3 @@ pub fn process<S: Source>(source: S) -> Result<(Action, S), S::Fault>
     let (v, source) = source.register()?;
     Ok((Action::Process { v }, source))
 }
-
-/// None.
-pub fn dispatch<S: Source>(source: S) -> Result<(Action, S), S::Fault>
-    ensures { Gives S.left S.cause result (operands_by S.way Code.Dispatch (S.left source)) }
-{
-    Ok((Action::Dispatch, source))
-}

@@ -6,7 +6,7 @@ ghost use Rattle.act_code.specs.declared.fault.WriteFault.TheVariants as write_f
 use pi_base::OutOfMemory;
 
 /// The first fault of a script, in reading order.
-#[derive(Clone, Copy, Debug, PartialEq, Eq)]
+#[derive(Clone, Copy, Debug)]
 pub struct ActFault {
     /// The offset in the script. 0 for want of memory.
     pub at: u32,
@@ -38,7 +38,7 @@ pub enum ActCause {
 }
 
 /// Why a text could not be written.
-#[derive(Clone, Copy, Debug, PartialEq, Eq)]
+#[derive(Clone, Copy, Debug)]
 pub enum WriteFault {
     /// The text passes its limit.
     TooLong,

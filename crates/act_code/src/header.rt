@@ -6,7 +6,7 @@ use crate::fault::{ActCause, ActFault};
 use pi_base::Phase;
 
 /// What a script's header says, and how long the script is.
-#[derive(Clone, Copy, PartialEq, Eq)]
+#[derive(Clone, Copy)]
 pub struct Header {
     /// The length of the whole script.
     pub size: usize,
@@ -45,13 +45,6 @@ const BLOCKS_AT: u32 = 6;
 
 const ZERO_AT: u32 = 7;
 
-// A fault of the header.
-fn fault(at: u32, cause: ActCause) -> ActFault
-    ensures { result ≡ record { at = at; cause = cause } }
-{
-    ActFault { at, cause }
-}
-
 // The phase of a byte.
 fn phase_of(byte: u8) -> Option<Phase>
     ensures { result ≡ phase_of byte }
@@ -68,15 +61,27 @@ fn fields(size: usize, version: u8, phase: u8, blocks: u8, zero: u8) -> Result<H
     ensures { result ≡ fields_of size version phase blocks zero }
 {
     if version != VERSION {
-        return Err(fault(VERSION_AT, ActCause::Version));
+        return Err(ActFault {
+            at: VERSION_AT,
+            cause: ActCause::Version,
+        });
     }
     match phase_of(phase) {
-        None => Err(fault(PHASE_AT, ActCause::Phase)),
+        None => Err(ActFault {
+            at: PHASE_AT,
+            cause: ActCause::Phase,
+        }),
         Some(phase) => {
             if blocks < 1 || MOST_BLOCKS < blocks || MOST_SCRIPT < size {
-                Err(fault(BLOCKS_AT, ActCause::Count))
+                Err(ActFault {
+                    at: BLOCKS_AT,
+                    cause: ActCause::Count,
+                })
             } else if zero != 0 {
-                Err(fault(ZERO_AT, ActCause::Count))
+                Err(ActFault {
+                    at: ZERO_AT,
+                    cause: ActCause::Count,
+                })
             } else {
                 Ok(Header {
                     size,
@@ -103,6 +108,9 @@ pub fn read_header(bytes: &[u8]) -> Result<Header, ActFault>
         [a, b, c, d, version, phase, blocks, zero, ..] if is_magic(*a, *b, *c, *d) => {
             fields(bytes.len(), *version, *phase, *blocks, *zero)
         }
-        _ => Err(fault(0, ActCause::Magic)),
+        _ => Err(ActFault {
+            at: 0,
+            cause: ActCause::Magic,
+        }),
     }
 }

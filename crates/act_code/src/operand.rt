@@ -2,11 +2,11 @@
 ghost use Rattle.std.specs.Prelude.{◌≡◌, ◌<◌};
 ghost use Rattle.std.specs.List.{list_all};
 ghost use Rattle.act_code.specs.Format.{is_within, is_hob};
-ghost use Rattle.act_code.specs.Reading.{Gives, byte_at, within_at, little_at, guid_front, word_at, bytes_at, counted_at, text_at, guid_arg_at, descriptor_at, hob_at};
+ghost use Rattle.act_code.specs.Reading.{Gives, byte_at, within_at, little_at, guid_front, bytes_at, counted_at, guid_arg_at};
 ghost use Rattle.act_code.specs.declared.operand.Unread.TheVariants as unread;
 
 use crate::action::GuidArg;
-use pi_base::{GUID_LEN, Guid, OutOfMemory, Seq, Word, u16_at, u32_at, u64_at};
+use pi_base::{GUID_LEN, Guid, OutOfMemory, Seq, u16_at};
 use std::alloc::Global;
 
 /// Why an action was not read, from bytes or from a line of text.
@@ -72,28 +72,6 @@ pub fn number_2(bytes: &[u8]) -> Result<(u16, &[u8]), Unread>
     Ok((u16_at(bytes, 0), &bytes[2..]))
 }
 
-/// A number of four bytes.
-#[tactic(auto, unfolding(crate::specs::Reading::little_at))]
-pub fn number_4(bytes: &[u8]) -> Result<(u32, &[u8]), Unread>
-    ensures { Gives (λ x. (x.0, x.1.now)) result (little_at 4 bytes.now) }
-{
-    if bytes.len() < 4 {
-        return Err(Unread::Malformed);
-    }
-    Ok((u32_at(bytes, 0), &bytes[4..]))
-}
-
-/// A number of eight bytes.
-#[tactic(auto, unfolding(crate::specs::Reading::little_at))]
-pub fn number_8(bytes: &[u8]) -> Result<(u64, &[u8]), Unread>
-    ensures { Gives (λ x. (x.0, x.1.now)) result (little_at 8 bytes.now) }
-{
-    if bytes.len() < 8 {
-        return Err(Unread::Malformed);
-    }
-    Ok((u64_at(bytes, 0), &bytes[8..]))
-}
-
 /// A GUID.
 #[tactic(auto, unfolding(crate::specs::Reading::guid_front))]
 pub fn guid(bytes: &[u8]) -> Result<(Guid, &[u8]), Unread>
@@ -105,9 +83,9 @@ pub fn guid(bytes: &[u8]) -> Result<(Guid, &[u8]), Unread>
     Ok((Guid::at(bytes, 0), &bytes[GUID_LEN..]))
 }
 
-// So many bytes.
+/// So many bytes.
 #[tactic(auto, unfolding(crate::specs::Reading::bytes_at))]
-fn bytes_of(alloc: Global, count: usize, bytes: &[u8]) -> Result<(Seq<u8>, &[u8]), Unread>
+pub fn bytes_of(alloc: Global, count: usize, bytes: &[u8]) -> Result<(Seq<u8>, &[u8]), Unread>
     ensures { Gives (λ x. (x.0, x.1.now)) result (bytes_at count bytes.now) }
 {
     if bytes.len() < count {
@@ -135,41 +113,16 @@ fn is_printable(byte: u8) -> bool
     b' ' <= byte && byte <= b'~'
 }
 
-// Whether all bytes are printable.
-fn are_printable(bytes: &[u8]) -> bool
+/// Whether all bytes are printable.
+pub fn are_printable(bytes: &[u8]) -> bool
     ensures { result ≡ list_all (is_within 32 126) bytes.now }
 {
     bytes.iter().all(|byte| is_printable(*byte))
 }
 
-/// The same, with printable bytes alone.
-#[tactic(auto, unfolding(crate::specs::Reading::text_at))]
-pub fn text(alloc: Global, bytes: &[u8]) -> Result<(Seq<u8>, &[u8]), Unread>
-    ensures { Gives (λ x. (x.0, x.1.now)) result (text_at bytes.now) }
-{
-    let (text, rest) = counted(alloc, bytes, MOST_BYTES)?;
-    if are_printable(text.as_slice()) {
-        Ok((text, rest))
-    } else {
-        Err(Unread::Malformed)
-    }
-}
-
-/// The number of a word.
-#[tactic(auto, unfolding(crate::specs::Reading::word_at))]
-pub fn word(bytes: &[u8]) -> Result<(Word, &[u8]), Unread>
-    ensures { Gives (λ x. (x.0, x.1.now)) result (word_at bytes.now) }
-{
-    let (number, rest) = byte(bytes)?;
-    match Word::from_number(number) {
-        Some(word) => Ok((word, rest)),
-        None => Err(Unread::Malformed),
-    }
-}
-
-// A form, and a GUID or the number of a register.
+/// A form, and a GUID or the number of a register.
 #[tactic(auto, unfolding(crate::specs::Reading::guid_arg_at))]
-fn guid_arg(bytes: &[u8]) -> Result<(GuidArg, &[u8]), Unread>
+pub fn guid_arg(bytes: &[u8]) -> Result<(GuidArg, &[u8]), Unread>
     ensures { Gives (λ x. (x.0, x.1.now)) result (guid_arg_at bytes.now) }
 {
     let (form, rest) = byte_within(bytes, GUID_FOLLOWS, REGISTER_FOLLOWS)?;
@@ -180,17 +133,6 @@ fn guid_arg(bytes: &[u8]) -> Result<(GuidArg, &[u8]), Unread>
         let (v, rest) = byte(rest)?;
         Ok((GuidArg::Register(v), rest))
     }
-}
-
-/// A kind, a GUID or the register of its address, and the number of a register or a block.
-#[tactic(auto, unfolding(crate::specs::Reading::descriptor_at))]
-pub fn descriptor(bytes: &[u8]) -> Result<((u8, GuidArg, u8), &[u8]), Unread>
-    ensures { Gives (λ x. ((x.0.0, x.0.1, x.0.2), x.1.now)) result (descriptor_at bytes.now) }
-{
-    let (kind, rest) = byte_within(bytes, 0, 2)?;
-    let (guid, rest) = guid_arg(rest)?;
-    let (arg, rest) = byte(rest)?;
-    Ok(((kind, guid, arg), rest))
 }
 
 /// The types of HOBs that a script may make (PI 1.8, volume 3, `EFI_HOB_TYPE_RESOURCE_DESCRIPTOR` and on).
@@ -206,8 +148,8 @@ mod hob_type {
     pub const FV2: u8 = 9;
 }
 
-// Whether a script may make a HOB of a type with so long a body.
-fn is_hob(kind: u8, length: u16) -> bool
+/// Whether a script may make a HOB of a type with so long a body.
+pub fn is_hob(kind: u8, length: u16) -> bool
     ensures { result ≡ is_hob kind length }
 {
     match kind {
@@ -217,20 +159,5 @@ fn is_hob(kind: u8, length: u16) -> bool
         hob_type::CPU => length == 8,
         hob_type::FV2 => length == 48,
         _ => false,
-    }
-}
-
-/// A HOB's type, and its body behind the body's length.
-#[tactic(auto, unfolding(crate::specs::Reading::hob_at))]
-pub fn hob(alloc: Global, bytes: &[u8]) -> Result<((u8, Seq<u8>), &[u8]), Unread>
-    ensures { Gives (λ x. ((x.0.0, x.0.1), x.1.now)) result (hob_at bytes.now) }
-{
-    let (kind, rest) = byte(bytes)?;
-    let (length, rest) = number_2(rest)?;
-    let (body, rest) = bytes_of(alloc, length as usize, rest)?;
-    if is_hob(kind, length) {
-        Ok(((kind, body), rest))
-    } else {
-        Err(Unread::Malformed)
     }
 }

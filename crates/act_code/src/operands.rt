@@ -34,7 +34,7 @@ pub fn read_operands<S: Source>(
         Code::Log => common_operands::log(alloc, source),
         Code::SkipIf => common_operands::skip_if(source),
         Code::Ret => common_operands::ret(source),
-        Code::Shadow => pei_operands::shadow(source),
+        Code::Shadow => Ok((Action::Shadow, source)),
         Code::DxeInstall => dxe_operands::install(source),
         Code::DxeReinstall => dxe_operands::reinstall(source),
         Code::DxeUninstall => dxe_operands::uninstall(source),
@@ -42,6 +42,6 @@ pub fn read_operands<S: Source>(
         Code::DxeNotify => dxe_operands::notify(source),
         Code::Schedule => dxe_operands::schedule(source),
         Code::Process => dxe_operands::process(source),
-        Code::Dispatch => dxe_operands::dispatch(source),
+        Code::Dispatch => Ok((Action::Dispatch, source)),
     }
 }

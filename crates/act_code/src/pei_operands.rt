@@ -132,10 +132,3 @@ pub fn boot_mode<S: Source>(source: S) -> Result<(Action, S), S::Fault>
     let (r, source) = source.register()?;
     Ok((Action::BootMode { form, r }, source))
 }
-
-/// None.
-pub fn shadow<S: Source>(source: S) -> Result<(Action, S), S::Fault>
-    ensures { Gives S.left S.cause result (operands_by S.way Code.Shadow (S.left source)) }
-{
-    Ok((Action::Shadow, source))
-}

@@ -111,11 +111,6 @@ pub found_tree : (line : List ℕ) (o : Option DepexTree) → behind (codes "bef
 found_tree line (Some node) a b c found = found
 found_tree line None a b c none = not_tree line a b c none
 
-pub tree_ok : (line : List ℕ) (r : Result (Option Depex) OutOfMemory) → behind (codes "before ") line ≡ None → behind (codes "after ") line ≡ None → behind (codes "sor ") line ≡ None
-    → IfOk r (λ found. (tree : Option DepexTree) × Finds (IsTreeOf line) tree × (found ≡ option_map (Expr false) tree)) → IfOk r (Finds (IsExpressionOf line))
-tree_ok line (Ok found) a b c x = subst (Finds (IsExpressionOf line)) (sym x.2) (found_tree line x.0 a b c x.1)
-tree_ok line (Err e) a b c x = tt
-
 -- an expression has no line feed
 chars_lack : (text : List ℕ) → list_all is_guid_char text ≡ true → Lacks 10 text
 chars_lack [] all = refl

@@ -1,5 +1,5 @@
 // A script that is put together line by line. Its last block may go on.
-ghost use Rattle.std.specs.Prelude.{◌≡◌, ◌-◌, ◌&&◌, length, nat_lt};
+ghost use Rattle.std.specs.Prelude.{◌≡◌, ◌-◌, ◌&&◌, length};
 ghost use Rattle.std.specs.List.{list_all};
 ghost use Rattle.act_code.specs.Index.{has_room};
 ghost use Rattle.act_code.specs.ScriptReading.{ends_in_ret};
@@ -140,13 +140,6 @@ pub(crate) fn with_line(alloc: Global, draft: Script, line: &[u8]) -> Result<Scr
     }
 }
 
-// Whether all blocks are below a number.
-fn are_below(blocks: &[u8], count: usize) -> bool
-    ensures { result ≡ list_all (λ b. nat_lt b count) blocks.now }
-{
-    blocks.iter().all(|block| usize::from(*block) < count)
-}
-
 // Whether an action names only blocks below a number.
 fn names_below(action: &Action, count: usize) -> bool
     ensures { result ≡ names_below count action.now }
@@ -156,10 +149,10 @@ fn names_below(action: &Action, count: usize) -> bool
             if *kind == PPI {
                 true
             } else {
-                are_below(&[*arg], count)
+                usize::from(*arg) < count
             }
         }
-        Action::DxeNotify { block, .. } => are_below(&[*block], count),
+        Action::DxeNotify { block, .. } => usize::from(*block) < count,
         _ => true,
     }
 }

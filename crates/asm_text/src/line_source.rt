@@ -1,8 +1,8 @@
 // The text of a line as a source of operands.
-use crate::list_reading::{counted, hob, logged, registers};
-use crate::operand_reading::{
-    block, descriptor, guid, number_2, number_4, number_8, register, small, small_of, status,
-};
+use crate::front::behind;
+use crate::list_reading::{MOST_BYTES, are_few, are_printable, bytes, few_registers, is_hob};
+use crate::operand_reading::{block, guid, guid_arg, last, register, small, small_of};
+use crate::word::{decimal_word, hexadecimal_word, kind_word, status_word, word};
 use act_code::{Code, GuidArg, Source, Unread};
 use pi_base::{Guid, Seq, Word};
 use std::alloc::Global;
@@ -14,7 +14,7 @@ pub(crate) struct Line<'a> {
     pub(crate) text: &'a [u8],
 }
 
-#[tactic(auto, using(crate::proofs::LineSources::fails_stops))]
+#[tactic(auto, using(crate::proofs::LineSources::fails_stops), unfolding(crate::specs::OperandReading::little_at, crate::specs::OperandReading::status_at, crate::specs::OperandReading::counted_at, crate::specs::OperandReading::text_at, crate::specs::OperandReading::registers_at, crate::specs::OperandReading::descriptor_at, crate::specs::OperandReading::hob_at))]
 impl Source for Line<'_> {
     type Fault = Unread;
 
@@ -59,20 +59,37 @@ impl Source for Line<'_> {
 
     fn number_2(self) -> Result<(u16, Self), Unread> {
         let code = self.code;
-        let (value, text) = number_2(self.text)?;
-        Ok((value, Line { code, text }))
+        let (word, text) = word(self.text)?;
+        let Some(n) = decimal_word(word) else {
+            return Err(Unread::Malformed);
+        };
+        if n <= u64::from(u16::MAX) {
+            Ok((n as u16, Line { code, text }))
+        } else {
+            Err(Unread::Malformed)
+        }
     }
 
     fn number_4(self) -> Result<(u32, Self), Unread> {
         let code = self.code;
-        let (value, text) = number_4(self.text)?;
-        Ok((value, Line { code, text }))
+        let (word, text) = word(self.text)?;
+        let Some(n) = hexadecimal_word(word) else {
+            return Err(Unread::Malformed);
+        };
+        if n <= u64::from(u32::MAX) {
+            Ok((n as u32, Line { code, text }))
+        } else {
+            Err(Unread::Malformed)
+        }
     }
 
     fn number_8(self) -> Result<(u64, Self), Unread> {
         let code = self.code;
-        let (value, text) = number_8(self.text)?;
-        Ok((value, Line { code, text }))
+        let (word, text) = word(self.text)?;
+        match hexadecimal_word(word) {
+            Some(n) => Ok((n, Line { code, text })),
+            None => Err(Unread::Malformed),
+        }
     }
 
     fn guid(self) -> Result<(Guid, Self), Unread> {
@@ -83,37 +100,65 @@ impl Source for Line<'_> {
 
     fn status(self) -> Result<(Word, Self), Unread> {
         let code = self.code;
-        let (value, text) = status(self.text)?;
-        Ok((value, Line { code, text }))
+        let (word, text) = word(self.text)?;
+        match status_word(word) {
+            Some(status) => Ok((status, Line { code, text })),
+            None => Err(Unread::Malformed),
+        }
     }
 
     fn counted(self, alloc: Global) -> Result<(Seq<u8>, Self), Unread> {
         let code = self.code;
-        let (value, text) = counted(alloc, self.text)?;
-        Ok((value, Line { code, text }))
+        let (bytes, text) = bytes(alloc, self.text)?;
+        if are_few(bytes.len(), MOST_BYTES) {
+            Ok((bytes, Line { code, text }))
+        } else {
+            Err(Unread::Malformed)
+        }
     }
 
     fn text(self, alloc: Global) -> Result<(Seq<u8>, Self), Unread> {
         let code = self.code;
-        let (value, text) = logged(alloc, self.text)?;
-        Ok((value, Line { code, text }))
+        let Some(logged) = behind(self.text, b" ") else {
+            return Err(Unread::Malformed);
+        };
+        if !are_few(logged.len(), MOST_BYTES) || !are_printable(logged) {
+            return Err(Unread::Malformed);
+        }
+        let mut list = Seq::new(alloc);
+        list.append(logged)?;
+        Ok((list, Line { code, text: &[] }))
     }
 
     fn registers(self, alloc: Global) -> Result<(Seq<u8>, Self), Unread> {
         let code = self.code;
-        let (value, text) = registers(alloc, self.text)?;
-        Ok((value, Line { code, text }))
+        let list = few_registers(alloc, self.text)?;
+        if list.len() > 0 {
+            Ok((list, Line { code, text: &[] }))
+        } else {
+            Err(Unread::Malformed)
+        }
     }
 
     fn descriptor(self) -> Result<((u8, GuidArg, u8), Self), Unread> {
         let code = self.code;
-        let (value, text) = descriptor(self.text)?;
-        Ok((value, Line { code, text }))
+        let (word, text) = word(self.text)?;
+        let Some(kind) = kind_word(word) else {
+            return Err(Unread::Malformed);
+        };
+        let (guid, text) = guid_arg(text)?;
+        let (arg, text) = last(kind, text)?;
+        Ok(((kind, guid, arg), Line { code, text }))
     }
 
     fn hob(self, alloc: Global) -> Result<((u8, Seq<u8>), Self), Unread> {
         let code = self.code;
-        let (value, text) = hob(alloc, self.text)?;
-        Ok((value, Line { code, text }))
+        let (kind, text) = small(self.text, 0, u8::MAX)?;
+        let (body, text) = bytes(alloc, text)?;
+        if is_hob(kind, body.len()) {
+            Ok(((kind, body), Line { code, text }))
+        } else {
+            Err(Unread::Malformed)
+        }
     }
 }

@@ -3,15 +3,13 @@ ghost use Rattle.std.specs.Prelude.{◌≡◌, ◌==◌, length};
 ghost use Rattle.act_code.specs.Format.{is_within};
 ghost use Rattle.act_code.specs.Reading.{Gives, only_if};
 ghost use Rattle.asm_text.specs.WordReading.{number_word, choice_word};
-ghost use Rattle.asm_text.specs.OperandReading.{register_at, within_at, little_at, guid_at, status_at, block_at, guid_arg_at, last_at, descriptor_at, small_word};
+ghost use Rattle.asm_text.specs.OperandReading.{register_at, within_at, guid_at, block_at, guid_arg_at, last_at, small_word};
 
 use crate::front::guid_word;
-use crate::word::{
-    choice_word, decimal_word, hexadecimal_word, kind_word, register_word, status_word, word,
-};
+use crate::word::{choice_word, decimal_word, register_word, word};
 use act_code::descriptor_kind::PPI;
 use act_code::{Action, Code, GuidArg, MOST_BLOCKS, Unread};
-use pi_base::{Guid, Word};
+use pi_base::Guid;
 
 /// The last number of a block.
 const LAST_BLOCK: u8 = MOST_BLOCKS - 1;
@@ -95,50 +93,6 @@ pub(crate) fn small_of(code: Code, text: &[u8], low: u8, high: u8) -> Result<(u8
     }
 }
 
-/// A number of two bytes, in decimal.
-#[tactic(auto, unfolding(crate::specs::OperandReading::little_at))]
-pub(crate) fn number_2(text: &[u8]) -> Result<(u16, &[u8]), Unread>
-    ensures { Gives (λ x. (x.0, x.1.now)) result (little_at 2 text.now) }
-{
-    let (word, rest) = word(text)?;
-    let Some(n) = decimal_word(word) else {
-        return Err(Unread::Malformed);
-    };
-    if n <= u64::from(u16::MAX) {
-        Ok((n as u16, rest))
-    } else {
-        Err(Unread::Malformed)
-    }
-}
-
-/// A number of four bytes, in hexadecimal.
-#[tactic(auto, unfolding(crate::specs::OperandReading::little_at))]
-pub(crate) fn number_4(text: &[u8]) -> Result<(u32, &[u8]), Unread>
-    ensures { Gives (λ x. (x.0, x.1.now)) result (little_at 4 text.now) }
-{
-    let (word, rest) = word(text)?;
-    let Some(n) = hexadecimal_word(word) else {
-        return Err(Unread::Malformed);
-    };
-    if n <= u64::from(u32::MAX) {
-        Ok((n as u32, rest))
-    } else {
-        Err(Unread::Malformed)
-    }
-}
-
-/// A number of eight bytes, in hexadecimal.
-#[tactic(auto, unfolding(crate::specs::OperandReading::little_at))]
-pub(crate) fn number_8(text: &[u8]) -> Result<(u64, &[u8]), Unread>
-    ensures { Gives (λ x. (x.0, x.1.now)) result (little_at 8 text.now) }
-{
-    let (word, rest) = word(text)?;
-    match hexadecimal_word(word) {
-        Some(n) => Ok((n, rest)),
-        None => Err(Unread::Malformed),
-    }
-}
-
 /// A GUID.
 #[tactic(auto, unfolding(crate::specs::OperandReading::guid_at))]
 pub(crate) fn guid(text: &[u8]) -> Result<(Guid, &[u8]), Unread>
@@ -147,18 +101,6 @@ pub(crate) fn guid(text: &[u8]) -> Result<(Guid, &[u8]), Unread>
     let (word, rest) = word(text)?;
     match guid_word(word) {
         Some(guid) => Ok((guid, rest)),
-        None => Err(Unread::Malformed),
-    }
-}
-
-/// A status.
-#[tactic(auto, unfolding(crate::specs::OperandReading::status_at))]
-pub(crate) fn status(text: &[u8]) -> Result<(Word, &[u8]), Unread>
-    ensures { Gives (λ x. (x.0, x.1.now)) result (status_at text.now) }
-{
-    let (word, rest) = word(text)?;
-    match status_word(word) {
-        Some(status) => Ok((status, rest)),
         None => Err(Unread::Malformed),
     }
 }
@@ -176,9 +118,9 @@ pub(crate) fn block(text: &[u8]) -> Result<(u8, &[u8]), Unread>
     }
 }
 
-// A GUID, or the register with its address.
+/// A GUID, or the register with its address.
 #[tactic(auto, unfolding(crate::specs::OperandReading::guid_arg_at))]
-fn guid_arg(text: &[u8]) -> Result<(GuidArg, &[u8]), Unread>
+pub(crate) fn guid_arg(text: &[u8]) -> Result<(GuidArg, &[u8]), Unread>
     ensures { Gives (λ x. (x.0, x.1.now)) result (guid_arg_at text.now) }
 {
     let (word, rest) = word(text)?;
@@ -191,9 +133,9 @@ fn guid_arg(text: &[u8]) -> Result<(GuidArg, &[u8]), Unread>
     }
 }
 
-// A PPI's register, or a notification's block.
+/// A PPI's register, or a notification's block.
 #[tactic(auto, unfolding(crate::specs::OperandReading::last_at))]
-fn last(kind: u8, text: &[u8]) -> Result<(u8, &[u8]), Unread>
+pub(crate) fn last(kind: u8, text: &[u8]) -> Result<(u8, &[u8]), Unread>
     ensures { Gives (λ x. (x.0, x.1.now)) result (last_at kind text.now) }
 {
     if kind == PPI {
@@ -201,18 +143,4 @@ fn last(kind: u8, text: &[u8]) -> Result<(u8, &[u8]), Unread>
     } else {
         block(text)
     }
-}
-
-/// What a descriptor is of, its GUID or the register of its address, and its last operand.
-#[tactic(auto, unfolding(crate::specs::OperandReading::descriptor_at))]
-pub(crate) fn descriptor(text: &[u8]) -> Result<((u8, GuidArg, u8), &[u8]), Unread>
-    ensures { Gives (λ x. ((x.0.0, x.0.1, x.0.2), x.1.now)) result (descriptor_at text.now) }
-{
-    let (word, rest) = word(text)?;
-    let Some(kind) = kind_word(word) else {
-        return Err(Unread::Malformed);
-    };
-    let (guid, rest) = guid_arg(rest)?;
-    let (arg, rest) = last(kind, rest)?;
-    Ok(((kind, guid, arg), rest))
 }

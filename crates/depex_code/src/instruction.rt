@@ -7,7 +7,7 @@ use crate::opcode_byte::{AFTER, AND, BEFORE, END, FALSE, NOT, OR, PUSH, SOR, TRU
 use pi_base::{GUID_LEN, Guid};
 
 /// An opcode of a dependency expression (PI 1.8, volume 1, "Dependency Expression Instruction Set"; volume 2 has `EFI_DEP_BEFORE`, `EFI_DEP_AFTER` and `EFI_DEP_SOR`).
-#[derive(Clone, Copy, PartialEq, Eq)]
+#[derive(Clone, Copy)]
 pub enum Instruction {
     /// Directly before the driver of a file name.
     Before(Guid),
@@ -38,9 +38,18 @@ pub fn instruction_at(bytes: &[u8]) -> Option<(Instruction, &[u8])>
 {
     let (code, rest) = bytes.split_first()?;
     match *code {
-        BEFORE => guid_front(rest).map(|(guid, rest)| (Instruction::Before(guid), rest)),
-        AFTER => guid_front(rest).map(|(guid, rest)| (Instruction::After(guid), rest)),
-        PUSH => guid_front(rest).map(|(guid, rest)| (Instruction::Of(Opcode::Push(guid)), rest)),
+        BEFORE => {
+            let (guid, rest) = guid_front(rest)?;
+            Some((Instruction::Before(guid), rest))
+        }
+        AFTER => {
+            let (guid, rest) = guid_front(rest)?;
+            Some((Instruction::After(guid), rest))
+        }
+        PUSH => {
+            let (guid, rest) = guid_front(rest)?;
+            Some((Instruction::Of(Opcode::Push(guid)), rest))
+        }
         AND => Some((Instruction::Of(Opcode::And), rest)),
         OR => Some((Instruction::Of(Opcode::Or), rest)),
         NOT => Some((Instruction::Of(Opcode::Not), rest)),

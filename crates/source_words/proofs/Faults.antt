@@ -1,5 +1,5 @@
 -- The first line at which something is wrong, looked for line by line.
-use Rattle.std.proofs.Common.{◌≡◌, ℕ, suc, ◌+◌, ◌-◌, ◌<◌, ◌≤◌, Bool, true, false, not, List, [], ◌∷◌, ◌++◌, length, take, drop, length-drop, get_or, Option, Some, None, refl, sym, ap, ◌∙◌, arith}
+use Rattle.std.proofs.Common.{◌≡◌, ℕ, suc, ◌+◌, ◌-◌, ◌<◌, ◌≤◌, Bool, true, false, not, List, [], ◌∷◌, ◌++◌, length, take, drop, get_or, Option, Some, None, refl, sym, ap, ◌∙◌, arith}
 use Rattle.std.specs.Prelude.{nat_le, if◌then◌else◌}
 use Rattle.std.proofs.lemmas.Bool.Decides.{nat_tests}
 use Rattle.std.proofs.lemmas.List.{append-nil, take_more, drop_more, drop_all, take_all}
@@ -59,16 +59,6 @@ few_actions place count before (action ∷ actions) none few =
     let here = not_full count before (length actions + 1) action parts.0 in
     let more = few_actions (place + 1) count (before + 1) actions parts.1 (omega arith) in
     omega arith
-
--- a step of the search in a block
-pub one_action : (count index : ℕ) (actions : List Action) (action : Action) (found : Option ScriptCause) → index < length actions → action ≡ get_or actions index action
-    → found ≡ action_cause count index (length actions - index) action
-    → first_fault index (action_causes count index (drop index actions)) ≡ first_fault index (found ∷ action_causes count (index + 1) (drop (index + 1) actions))
-one_action count index actions action found within is cause =
-    let left : length (drop (index + 1) actions) + 1 ≡ length actions - index = omega (arith, length-drop (index + 1) actions) in
-    let split : drop index actions ≡ action ∷ drop (index + 1) actions = drop_more actions index action within ∙ ap (λ a. a ∷ drop (index + 1) actions) (sym is) in
-    ap (λ l. first_fault index (action_causes count index l)) split
-    ∙ ap (λ o. first_fault index (o ∷ action_causes count (index + 1) (drop (index + 1) actions))) (ap (λ n. action_cause count index n action) left ∙ sym cause)
 
 -- a step of the search among blocks
 one_block : (count index place : ℕ) (blocks : List (List Action)) (actions : List Action) → index < length blocks → actions ≡ get_or blocks index actions

@@ -1,13 +1,12 @@
 -- The words of operands are read as the values that they show.
-use Rattle.std.proofs.Common.{◌≡◌, ℕ, suc, zero, ◌<◌, ◌≤◌, ◌^◌, ◌&&◌, Bool, true, false, eqb, ltb, List, [], ◌∷◌, ◌++◌, length, map, flat_map, Option, Some, Ok, refl, sym, ap, subst, ◌∙◌, arith, decimal, append_assoc}
-use Rattle.std.specs.Prelude.{⊤, nat_le, nat_lt, not, ◌==◌, if◌then◌else◌, codes}
-use Rattle.std.specs.List.{list_all, AllByRecursion}
+use Rattle.std.proofs.Common.{◌≡◌, ℕ, suc, zero, ◌<◌, ◌≤◌, ◌^◌, ◌&&◌, Bool, true, false, eqb, ltb, List, [], ◌∷◌, ◌++◌, length, map, Some, Ok, refl, sym, ◌∙◌, arith, decimal, append_assoc}
+use Rattle.std.specs.Prelude.{nat_le, nat_lt, not, ◌==◌, if◌then◌else◌, codes}
+use Rattle.std.specs.List.{AllByRecursion}
 use Rattle.std.proofs.lemmas.Bool.{and_parts, false≢true}
 use Rattle.std.proofs.lemmas.Bool.Decides.{nat_tests}
 use Rattle.std.proofs.lemmas.List.{append-nil}
-use Rattle.hex.specs.Hex.{IsBytes, encode_lower, decode_of}
+use Rattle.hex.specs.Hex.{IsBytes, encode_lower}
 use Rattle.hex.proofs.HexLemmas.{decode_of-encode_lower}
-use Rattle.line_words.specs.Number.{number_of}
 use Rattle.pi_base.specs.declared.guid.Guid.{Guid}
 use Rattle.pi_base.specs.declared.word.Word.{Word}
 use Rattle.pi_base.specs.declared.word.Word.TheVariants.{Success}
@@ -17,13 +16,11 @@ use Rattle.act_code.specs.declared.action.GuidArg.TheVariants.{Inline, Register}
 use Rattle.act_code.specs.declared.code.Code.{Code}
 use Rattle.act_code.specs.declared.code.Code.TheVariants as code
 use Rattle.act_code.specs.Format.{Format, Value, is_within, is_hob, Nothing, Byte, Within, RegisterNumber, BlockNumber, Little, GuidBytes, WordNumber, Counted, Text, Registers, Descriptor, HobBody, Pair}
-use Rattle.act_code.specs.Table.{format_of}
-use Rattle.asm_text.specs.ActionText.{spaced, words_of, small_number, kind_word, guid_words, last_words, block_words}
+use Rattle.asm_text.specs.ActionText.{words_of, small_number, kind_word, guid_words, last_words, block_words}
 use Rattle.asm_text.specs.Numerals.{register}
 use Rattle.source_words.proofs.PrintedValues.{is_most, IsShown, IsShownArg, IsShownLast, most_of}
 use Rattle.line_words.specs.PrintedWords.{IsGuid}
 use Rattle.source_words.specs.Words.{is_keyword}
-use Rattle.source_words.specs.Reading.{only_if, there}
 use Rattle.source_words.specs.Word.{register_of, status_of, kind_of, choice_of, bytes_at}
 use Rattle.source_words.specs.Operands.{read, register_at, within_at, choice_at, little_at, guid_at, status_at, counted_at, registers_within, registers_at, block_at, guid_arg_at, last_at, descriptor_at, hob_at, small_at}
 use Rattle.source_words.proofs.LineWords.{IsWord}

@@ -4,15 +4,15 @@ ghost use Rattle.act_code.specs.Format.{is_within};
 ghost use Rattle.source_words.specs.Words.{words};
 ghost use Rattle.source_words.specs.Reading.{Gives, only_if};
 ghost use Rattle.source_words.specs.declared.script.fault.LineFault.TheVariants as fault;
-ghost use Rattle.source_words.specs.Operands.{register_at, within_at, choice_at, little_at, guid_at, status_at, block_at, guid_arg_at, last_at, descriptor_at, small_at};
+ghost use Rattle.source_words.specs.Operands.{register_at, within_at, choice_at, guid_at, block_at, guid_arg_at, last_at, small_at};
 
 use crate::script::fault::{LineFault, Stop};
-use crate::script::word::{choice_of, kind_of, register_of, status_of, word};
+use crate::script::word::{choice_of, register_of, word};
 use crate::{guid_of, is_keyword, next_word};
 use act_code::descriptor_kind::PPI;
 use act_code::{Action, Code, GuidArg};
 use line_words::number_of;
-use pi_base::{Guid, Word};
+use pi_base::Guid;
 
 /// The last number of a block.
 const LAST_BLOCK: u8 = 63;
@@ -85,50 +85,6 @@ pub(crate) fn small_of(code: Code, text: &[u8], low: u8, high: u8) -> Result<(u8
     }
 }
 
-/// A number of two bytes.
-#[tactic(auto, unfolding(crate::specs::Operands::little_at))]
-pub(crate) fn number_2(text: &[u8]) -> Result<(u16, &[u8]), Stop>
-    ensures { Gives (λ x. (x.0, words x.1.now)) result (little_at 2 (words text.now)) }
-{
-    let (word, rest) = word(text)?;
-    let Some(n) = number_of(word) else {
-        return Err(Stop::Fault(LineFault::Number));
-    };
-    if n <= u64::from(u16::MAX) {
-        Ok((n as u16, rest))
-    } else {
-        Err(Stop::Fault(LineFault::Range))
-    }
-}
-
-/// A number of four bytes.
-#[tactic(auto, unfolding(crate::specs::Operands::little_at))]
-pub(crate) fn number_4(text: &[u8]) -> Result<(u32, &[u8]), Stop>
-    ensures { Gives (λ x. (x.0, words x.1.now)) result (little_at 4 (words text.now)) }
-{
-    let (word, rest) = word(text)?;
-    let Some(n) = number_of(word) else {
-        return Err(Stop::Fault(LineFault::Number));
-    };
-    if n <= u64::from(u32::MAX) {
-        Ok((n as u32, rest))
-    } else {
-        Err(Stop::Fault(LineFault::Range))
-    }
-}
-
-/// A number of eight bytes.
-#[tactic(auto, unfolding(crate::specs::Operands::little_at))]
-pub(crate) fn number_8(text: &[u8]) -> Result<(u64, &[u8]), Stop>
-    ensures { Gives (λ x. (x.0, words x.1.now)) result (little_at 8 (words text.now)) }
-{
-    let (word, rest) = word(text)?;
-    match number_of(word) {
-        Some(n) => Ok((n, rest)),
-        None => Err(Stop::Fault(LineFault::Number)),
-    }
-}
-
 /// A GUID.
 #[tactic(auto, unfolding(crate::specs::Operands::guid_at))]
 pub(crate) fn guid(text: &[u8]) -> Result<(Guid, &[u8]), Stop>
@@ -138,18 +94,6 @@ pub(crate) fn guid(text: &[u8]) -> Result<(Guid, &[u8]), Stop>
     match guid_of(word) {
         Some(guid) => Ok((guid, rest)),
         None => Err(Stop::Fault(LineFault::Guid)),
-    }
-}
-
-/// A status by its name.
-#[tactic(auto, unfolding(crate::specs::Operands::status_at))]
-pub(crate) fn status(text: &[u8]) -> Result<(Word, &[u8]), Stop>
-    ensures { Gives (λ x. (x.0, words x.1.now)) result (status_at (words text.now)) }
-{
-    let (word, rest) = word(text)?;
-    match status_of(word) {
-        Some(status) => Ok((status, rest)),
-        None => Err(Stop::Fault(LineFault::Status)),
     }
 }
 
@@ -166,9 +110,9 @@ pub(crate) fn block(text: &[u8]) -> Result<(u8, &[u8]), Stop>
     }
 }
 
-// A GUID, or the register with its address.
+/// A GUID, or the register with its address.
 #[tactic(auto, unfolding(crate::specs::Operands::guid_arg_at))]
-fn guid_arg(text: &[u8]) -> Result<(GuidArg, &[u8]), Stop>
+pub(crate) fn guid_arg(text: &[u8]) -> Result<(GuidArg, &[u8]), Stop>
     ensures { Gives (λ x. (x.0, words x.1.now)) result (guid_arg_at (words text.now)) }
 {
     let (word, rest) = word(text)?;
@@ -181,9 +125,9 @@ fn guid_arg(text: &[u8]) -> Result<(GuidArg, &[u8]), Stop>
     }
 }
 
-// A PPI's register, or a notification's block.
+/// A PPI's register, or a notification's block.
 #[tactic(auto, unfolding(crate::specs::Operands::last_at))]
-fn last(kind: u8, text: &[u8]) -> Result<(u8, &[u8]), Stop>
+pub(crate) fn last(kind: u8, text: &[u8]) -> Result<(u8, &[u8]), Stop>
     ensures { Gives (λ x. (x.0, words x.1.now)) result (last_at kind (words text.now)) }
 {
     if kind == PPI {
@@ -191,18 +135,4 @@ fn last(kind: u8, text: &[u8]) -> Result<(u8, &[u8]), Stop>
     } else {
         block(text)
     }
-}
-
-/// What a descriptor is of, its GUID or the register of its address, and its last operand.
-#[tactic(auto, unfolding(crate::specs::Operands::descriptor_at))]
-pub(crate) fn descriptor(text: &[u8]) -> Result<((u8, GuidArg, u8), &[u8]), Stop>
-    ensures { Gives (λ x. ((x.0.0, x.0.1, x.0.2), words x.1.now)) result (descriptor_at (words text.now)) }
-{
-    let (word, rest) = word(text)?;
-    let Some(kind) = kind_of(word) else {
-        return Err(Stop::Fault(LineFault::Word));
-    };
-    let (guid, rest) = guid_arg(rest)?;
-    let (arg, rest) = last(kind, rest)?;
-    Ok(((kind, guid, arg), rest))
 }

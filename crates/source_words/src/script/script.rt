@@ -1,6 +1,5 @@
 // Scripts whose lines are read one by one.
-ghost use Rattle.std.specs.Prelude.{◌≡◌, ◌≤◌, [], length, nat_lt, IfOk, IfErr, IfSome};
-ghost use Rattle.std.specs.List.{list_all};
+ghost use Rattle.std.specs.Prelude.{◌≡◌, ◌≤◌, [], length, IfOk, IfErr, IfSome};
 ghost use Rattle.act_code.specs.ScriptReading.{ends_in_ret};
 ghost use Rattle.act_code.specs.Index.{has_room};
 ghost use Rattle.source_words.specs.Script.{AreSaid, IsUnfit, IsWhole, names_below, action_cause, action_causes, may_end, block_cause, block_causes, end_cause, causes_behind, first_fault};
@@ -40,7 +39,7 @@ impl Display for ScriptCause {
 }
 
 /// Why a draft is no script.
-#[derive(Clone, Copy, Debug, PartialEq, Eq)]
+#[derive(Clone, Copy, Debug)]
 pub enum ScriptFault {
     /// What is wrong at a line. The place counts the script's lines from 0: each block's own line, and then those of its actions. The end stands behind them all.
     Bad { place: usize, cause: ScriptCause },
@@ -70,13 +69,6 @@ fn has_room(action: &Action, left: usize) -> bool
     }
 }
 
-// Whether all blocks are below a number.
-fn are_below(blocks: &[u8], count: usize) -> bool
-    ensures { result ≡ list_all (λ b. nat_lt b count) blocks.now }
-{
-    blocks.iter().all(|block| usize::from(*block) < count)
-}
-
 // Whether an action names only blocks below a number.
 fn names_below(action: &Action, count: usize) -> bool
     ensures { result ≡ names_below count action.now }
@@ -86,10 +78,10 @@ fn names_below(action: &Action, count: usize) -> bool
             if *kind == PPI {
                 true
             } else {
-                are_below(&[*arg], count)
+                usize::from(*arg) < count
             }
         }
-        Action::DxeNotify { block, .. } => are_below(&[*block], count),
+        Action::DxeNotify { block, .. } => usize::from(*block) < count,
         _ => true,
     }
 }

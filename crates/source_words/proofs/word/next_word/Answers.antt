@@ -1,4 +1,4 @@
-use Rattle.std.proofs.Common.{◌≡◌, ◌<◌, false, true, length, get_or, sym, ◌∙◌, arith, rules}
+use Rattle.std.proofs.Common.{◌≡◌, ◌<◌, false, true, length, get_or, sym, ◌∙◌, arith}
 use Rattle.source_words.specs.Words.{is_blank, is_bracket}
 use Rattle.source_words.proofs.FirstWord.{bracket_first, inner_word}
 use Rattle.source_words.proofs.word.next_word.Goals as goal
