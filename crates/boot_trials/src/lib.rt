@@ -7,6 +7,4 @@ mod over_lists;
 pub use over_lists::boot_over_lists;
 
 #[cfg(test)]
-mod reasons;
-#[cfg(test)]
 mod tests;

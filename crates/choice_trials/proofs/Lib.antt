@@ -1,3 +1,2 @@
 mod SmallMachines
-mod Sounds
 mod Serving

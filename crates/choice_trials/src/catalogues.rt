@@ -1,57 +1,29 @@
-// The board of all tests: catalogues, each made of a table of its volumes and a table of its modules.
+// The board of all tests: catalogues, each made of the texts of a plan and of its volumes.
+ghost use Rattle.boot_plan.specs.Range.{IsPlanInRange};
 ghost use Rattle.mod_catalog.specs.WellFormed.{IsWellFormed};
 
-use crate::well_formed::is_well_formed;
-use act_code::Script;
-use depex_code::{Depex, Opcode, Tree};
-use mod_catalog::{Catalog, Module, Part, PartExpr, VolumeEntry};
-use pi_base::{Guid, OutOfMemory, Phase, Seq};
+use boot_plan::{Plan, read_plan};
+use mod_catalog::{Catalog, catalog, catalogues_are_well_formed};
+use pi_base::{Guid, Seq};
 use std::alloc::Global;
 use std::process::Abort;
 use std::test::*;
+use volume_text::volume_of;
 
-/// The base of a volume, and the number of the one that it is nested in.
-pub(crate) type Volume = (u64, Option<u32>);
+/// A plan of one volume, and one of two.
+pub(crate) const ONE: &str =
+    "temp 0x80000000 0x10000\nram 0x40000000 0x4000000\nvolume 0x100000 a\n";
 
-/// A driver: the number of its volume, its name, its place in the a priori list, and its expression.
-pub(crate) type Row = (u32, Guid, Option<u32>, Needs);
+pub(crate) const TWO: &str =
+    "temp 0x80000000 0x10000\nram 0x40000000 0x4000000\nvolume 0x100000 a\nvolume 0x200000 b\n";
 
-// The type of its file. PI 1.8, volume 3, `EFI_FV_FILETYPE_DRIVER`.
-const DRIVER: u8 = 7;
+/// The bases of the two.
+pub(crate) const BASE: u64 = 0x10_0000;
 
-/// The expression of a part.
-#[derive(Clone, Copy)]
-pub(crate) enum Needs {
-    /// It has none.
-    Nothing,
-    /// It has one that cannot be read.
-    Unreadable,
-    Before(Guid),
-    After(Guid),
-    /// SOR and TRUE.
-    Sor,
-}
+pub(crate) const OTHER_BASE: u64 = 0x20_0000;
 
-/// GUIDs: names of files, PPIs and protocols.
-pub(crate) const FIRST: Guid = Guid([1; 16]);
-
-pub(crate) const SECOND: Guid = Guid([2; 16]);
-
-pub(crate) const THIRD: Guid = Guid([3; 16]);
-
-pub(crate) const FOURTH: Guid = Guid([4; 16]);
-
-/// The name of files that nothing names.
-pub(crate) const UNNAMED: Guid = Guid([0; 16]);
-
-/// One volume, and a volume with one nested in it and another volume.
-pub(crate) static ONE: [Volume; 1] = [(0x10_0000, None)];
-
-pub(crate) static NESTED: [Volume; 3] = [
-    (0x10_0000, None),
-    (0x10_1000, Some(0)),
-    (0x20_0000, None),
-];
+/// The base of a volume that is nested in the first file of the first one: behind the headers of the volume, the file and the section, of 72, 24 and 4 bytes.
+pub(crate) const NESTED_BASE: u64 = 0x10_0064;
 
 /// The GUID that ends with a byte behind zeros.
 pub(crate) fn guid(last: u8) -> Guid {
@@ -60,81 +32,37 @@ pub(crate) fn guid(last: u8) -> Guid {
     Guid(bytes)
 }
 
-// SOR and TRUE.
-fn requested(alloc: Global) -> Result<Depex, OutOfMemory> {
-    let mut code = Seq::new(alloc);
-    code.push(Opcode::True)?;
-    match Tree::from_code(code) {
-        Some(tree) => Ok(Depex::Expr { sor: true, tree }),
-        None => Err(OutOfMemory),
+fn plan_of(rt: &impl Abort, alloc: Global, text: &str) -> Plan
+    ensures { IsPlanInRange result }
+{
+    assert!(rt; text.len() < 10_000);
+    match read_plan(alloc, text.as_bytes()) {
+        Ok(plan) => plan,
+        Err(_) => panic!(rt; "a plan"),
     }
 }
 
-fn expression(alloc: Global, needs: Needs) -> Result<PartExpr, OutOfMemory> {
-    match needs {
-        Needs::Nothing => Ok(PartExpr::Absent),
-        Needs::Unreadable => Ok(PartExpr::Malformed(0)),
-        Needs::Before(name) => Ok(PartExpr::Held(Depex::Before(name))),
-        Needs::After(name) => Ok(PartExpr::Held(Depex::After(name))),
-        Needs::Sor => Ok(PartExpr::Held(requested(alloc)?)),
+fn images_of(rt: &impl Abort, alloc: Global, volumes: &[&str]) -> Seq<Seq<u8>> {
+    let mut images = Seq::new(alloc);
+    for text in volumes {
+        match volume_of(alloc, text.as_bytes()) {
+            Ok(image) => assert!(rt; images.push(image).is_ok()),
+            Err(_) => panic!(rt; "a volume"),
+        }
     }
+    images
 }
 
-fn driver(alloc: Global, row: &Row) -> Result<Part, OutOfMemory> {
-    let (_, _, rank, needs) = *row;
-    Ok(Part {
-        rank,
-        expr: expression(alloc, needs)?,
-        script: Script {
-            phase: Phase::Dxe,
-            blocks: Seq::new(alloc),
-        },
-    })
-}
-
-fn module(alloc: Global, at: u64, row: &Row) -> Result<Module, OutOfMemory> {
-    let (volume, name, _, _) = *row;
-    Ok(Module {
-        volume,
-        at,
-        name,
-        kind: DRIVER,
-        pei: None,
-        dxe: Some(driver(alloc, row)?),
-    })
-}
-
-fn modules(alloc: Global, rows: &[Row]) -> Result<Seq<Module>, OutOfMemory> {
-    let mut made = Seq::new(alloc);
-    let mut at = 72;
-    'rows: for row in rows {
-        made.push(module(alloc, at, row)?)?;
-        at = at.saturating_add(8);
-    }
-    Ok(made)
-}
-
-fn volumes(alloc: Global, rows: &[Volume]) -> Result<Seq<VolumeEntry>, OutOfMemory> {
-    let mut made = Seq::new(alloc);
-    'rows: for (base, parent) in rows {
-        made.push(VolumeEntry {
-            base: *base,
-            len: 0x80,
-            name: None,
-            parent: *parent,
-        })?;
-    }
-    Ok(made)
-}
-
-/// The catalogue of these volumes and modules, each of which begins behind the one before it. The test fails where memory is wanting, or where a catalogue cannot be so.
-pub(crate) fn catalogue(rt: &impl Abort, alloc: Global, mapped: &[Volume], rows: &[Row]) -> Catalog
+/// The catalogue of a plan and its volumes. The test fails where memory is wanting, or where a text has a fault.
+pub(crate) fn catalogue(rt: &impl Abort, alloc: Global, plan: &str, volumes: &[&str]) -> Catalog
     ensures { IsWellFormed result }
 {
-    let catalog = Catalog {
-        volumes: volumes(alloc, mapped).expect(rt, "ample memory"),
-        modules: modules(alloc, rows).expect(rt, "ample memory"),
-    };
-    assert!(rt; is_well_formed(&catalog));
-    catalog
+    catalogues_are_well_formed();
+    let plan = plan_of(rt, alloc, plan);
+    let images = images_of(rt, alloc, volumes);
+    assert!(rt; images.len() == plan.volumes.len());
+    match catalog(alloc, &plan, images.as_slice()) {
+        Ok(catalog) => catalog,
+        Err(_) => panic!(rt; "volumes without a fault"),
+    }
 }

@@ -5,53 +5,50 @@ ghost use Rattle.mod_catalog.specs.WellFormed.{IsWellFormed};
 ghost use Rattle.dxe_core.specs.Order.{IsOrderOf};
 ghost use Rattle.dxe_dispatch.specs.Queue.{IsNewQueue, IsQueueFor, IsSeen};
 
-use crate::catalogues::{FIRST, FOURTH, Needs, ONE, Row, SECOND, THIRD, UNNAMED, catalogue};
+use crate::catalogues::{BASE, ONE, catalogue};
 use boot_model::{ARCHITECTURAL, Licence, Scheduled};
 use depex_code::Steps;
 use dxe_core::DriverOrder;
 use dxe_dispatch::DriverQueue;
 use mod_catalog::Catalog;
-use pi_base::{Guid, OutOfMemory, Seq};
+use pi_base::{OutOfMemory, Seq};
 use std::alloc::Global;
 use std::marker::Brand;
 use std::process::Abort;
 use std::sync::ledger::{Blank, Ledger};
 use std::test::*;
 
-/// The names of the files that others name.
-const TARGET: Guid = FIRST;
-
-const BEFORE_TARGET: Guid = SECOND;
-
-const AFTER_TARGET: Guid = THIRD;
-
-const RANKED: Guid = FOURTH;
-
-const CYCLE: Guid = Guid([5; 16]);
-
-const OTHER_CYCLE: Guid = Guid([6; 16]);
-
 /// A target that holds once it is requested, with companions on both sides, which have companions of their own, and a driver without an expression.
-static COMPANIONS: [Row; 6] = [
-    (0, TARGET, None, Needs::Sor),
-    (0, BEFORE_TARGET, None, Needs::Before(TARGET)),
-    (0, UNNAMED, None, Needs::Before(BEFORE_TARGET)),
-    (0, AFTER_TARGET, None, Needs::After(TARGET)),
-    (0, UNNAMED, None, Needs::After(AFTER_TARGET)),
-    (0, UNNAMED, None, Needs::Nothing),
-];
+static COMPANIONS: &str = "volume 4096
+file driver 00000000-0000-0000-0000-000000000001
+depex dxe sor true
+file driver 00000000-0000-0000-0000-000000000002
+depex dxe before 00000000-0000-0000-0000-000000000001
+file driver 00000000-0000-0000-0000-000000000000
+depex dxe before 00000000-0000-0000-0000-000000000002
+file driver 00000000-0000-0000-0000-000000000003
+depex dxe after 00000000-0000-0000-0000-000000000001
+file driver 00000000-0000-0000-0000-000000000000
+depex dxe after 00000000-0000-0000-0000-000000000003
+file driver 00000000-0000-0000-0000-000000000000
+end
+";
 
-/// One without an expression, two that name each other, one with a place in the a priori list, and one that names it.
-static OTHERS: [Row; 5] = [
-    (0, UNNAMED, None, Needs::Nothing),
-    (0, CYCLE, None, Needs::After(OTHER_CYCLE)),
-    (0, OTHER_CYCLE, None, Needs::After(CYCLE)),
-    (0, RANKED, Some(0), Needs::Unreadable),
-    (0, UNNAMED, None, Needs::After(RANKED)),
-];
-
-/// The base of the one volume.
-const BASE: u64 = 0x10_0000;
+/// One without an expression, two that name each other, one with a place in the a priori list and an expression that cannot be read, and one that names it.
+static OTHERS: &str = "volume 4096
+file freeform dxe-apriori
+guids 00000000-0000-0000-0000-000000000004
+file driver 00000000-0000-0000-0000-000000000000
+file driver 00000000-0000-0000-0000-000000000005
+depex dxe after 00000000-0000-0000-0000-000000000006
+file driver 00000000-0000-0000-0000-000000000006
+depex dxe after 00000000-0000-0000-0000-000000000005
+file driver 00000000-0000-0000-0000-000000000004
+section 13 ff
+file driver 00000000-0000-0000-0000-000000000000
+depex dxe after 00000000-0000-0000-0000-000000000004
+end
+";
 
 // So many of the architectural protocols are installed.
 fn install(queue: &mut DriverQueue, catalog: &Catalog, order: &DriverOrder, protocols: usize)
@@ -222,9 +219,9 @@ fn start_so(rt: &impl Abort, catalog: &Catalog, rows: &[Case])
     }
 }
 
-// The same over a catalogue of these drivers.
-fn start_over(rt: &impl Abort, alloc: Global, drivers: &[Row], rows: &[Case]) {
-    let catalog = catalogue(rt, alloc, &ONE, drivers);
+// The same over the catalogue of a volume.
+fn start_over(rt: &impl Abort, alloc: Global, volume: &str, rows: &[Case]) {
+    let catalog = catalogue(rt, alloc, ONE, &[volume]);
     start_so(rt, &catalog, rows);
     drop(catalog);
 }
@@ -282,6 +279,6 @@ static OF_OTHERS: [Case; 2] = [
 fn companions_start_with_their_target_and_all_architectural_protocols_are_asked_for(
     rt: HostRuntime,
 ) {
-    start_over(&rt, rt.alloc(), &COMPANIONS, &OF_COMPANIONS);
-    start_over(&rt, rt.alloc(), &OTHERS, &OF_OTHERS);
+    start_over(&rt, rt.alloc(), COMPANIONS, &OF_COMPANIONS);
+    start_over(&rt, rt.alloc(), OTHERS, &OF_OTHERS);
 }

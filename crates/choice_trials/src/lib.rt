@@ -11,5 +11,3 @@ mod drivers;
 mod place_sets;
 #[cfg(test)]
 mod volumes;
-#[cfg(test)]
-mod well_formed;

@@ -1,20 +1,32 @@
 // The volumes that become known one after the other. What PPIs report needs a whole store, and is tested over whole boots.
 ghost use Rattle.mod_catalog.specs.WellFormed.{IsWellFormed};
 
-use crate::catalogues::{Volume, catalogue};
+use crate::catalogues::{BASE, NESTED_BASE, OTHER_BASE, TWO, catalogue};
 use mod_catalog::Catalog;
 use phase_parts::VolumeList;
 use std::process::Abort;
 use std::test::*;
 
-/// A volume with two nested in it, the first of which has one nested in it, and another volume.
-static VOLUMES: [Volume; 5] = [
-    (0x10_0000, None),
-    (0x10_1000, Some(0)),
-    (0x10_1100, Some(1)),
-    (0x10_2000, Some(0)),
-    (0x20_0000, None),
-];
+/// A volume with two nested in it, the first of which has one nested in it.
+static NEST: &str = "volume 4096
+file volume-image 00000000-0000-0000-0000-00000000000a
+volume 512
+    file volume-image 00000000-0000-0000-0000-00000000000b
+    volume 72
+    end
+end
+volume 72
+end
+end
+";
+
+/// A volume without files.
+static EMPTY: &str = "volume 72\nend\n";
+
+/// The base of the one that is nested the deepest, 100 bytes behind that of the volume around it, and of the second one, behind 512 bytes and the header of its section.
+const DEEPEST: u64 = NESTED_BASE + 100;
+
+const SECOND: u64 = NESTED_BASE + 516;
 
 // What is known after the volumes at these bases.
 fn discovered(catalog: &Catalog, bases: &[u64]) -> VolumeList
@@ -29,9 +41,9 @@ fn discovered(catalog: &Catalog, bases: &[u64]) -> VolumeList
 static BASES: [(&[u64], &[u32]); 4] = [
     (&[], &[]),
     // At the first volume's second byte no volume is mapped.
-    (&[0x10_0001, 0x20_0000], &[4]),
-    (&[0x10_2000, 0x10_0000], &[3, 0, 1, 2]),
-    (&[0x10_1100, 0x20_0000, 0x10_1100, 0x10_1000], &[2, 4, 1]),
+    (&[BASE + 1, OTHER_BASE], &[4]),
+    (&[SECOND, BASE], &[3, 0, 1, 2]),
+    (&[DEEPEST, OTHER_BASE, DEEPEST, NESTED_BASE], &[2, 4, 1]),
 ];
 
 fn try_bases(rt: &impl Abort, catalog: &Catalog)
@@ -44,7 +56,7 @@ fn try_bases(rt: &impl Abort, catalog: &Catalog)
 
 #[test]
 fn volumes_are_discovered_base_by_base_with_those_nested_in_them(rt: HostRuntime) {
-    let catalog = catalogue(&rt, rt.alloc(), &VOLUMES, &[]);
+    let catalog = catalogue(&rt, rt.alloc(), TWO, &[NEST, EMPTY]);
     try_bases(&rt, &catalog);
     drop(catalog);
 }

@@ -6,11 +6,6 @@ use std::alloc::Global;
 /// Texts of the tests are shorter.
 pub(crate) const MOST_TEXT: usize = 10_000;
 
-/// The script of a module of PEI that logs `a` and ends.
-pub(crate) static SMALLEST_SCRIPT: [u8; 15] = [
-    0x50, 0x49, 0x41, 0x53, 0x01, 0x01, 0x01, 0x00, 0x02, 0x00, 0x11, 0x01, 0x61, 0x13, 0x00,
-];
-
 /// The parts, one behind another. Where memory runs out bytes are missing, and the test fails for it; so it is with the next two.
 pub(crate) fn joined(alloc: Global, parts: &[&[u8]]) -> Vec<u8> {
     let mut bytes = Vec::new(alloc);

@@ -163,19 +163,22 @@ const ZERO: Opcode = Opcode::Push(Guid([0; 16]));
 
 const ONE: Opcode = Opcode::Push(Guid([1; 16]));
 
-/// Postfix opcodes, and whether they hold with no GUID, with the first, and with both.
-static TRUTHS: [(&[Opcode], [bool; 3]); 9] = [
-    (&[Opcode::True], [true, true, true]),
-    (&[Opcode::False], [false, false, false]),
-    (&[ZERO], [false, true, true]),
-    (&[ONE, Opcode::Not], [true, true, false]),
-    (&[ZERO, ONE, Opcode::And], [false, false, true]),
-    (&[ZERO, ONE, Opcode::Or], [false, true, true]),
+/// Postfix opcodes, and whether they hold with no GUID, with the first, and with both; none where they are of no tree.
+static TRUTHS: [(&[Opcode], Option<[bool; 3]>); 13] = [
+    (&[Opcode::True], Some([true, true, true])),
+    (&[Opcode::False], Some([false, false, false])),
+    (&[ZERO], Some([false, true, true])),
+    (&[ONE, Opcode::Not], Some([true, true, false])),
+    (&[ZERO, ONE, Opcode::And], Some([false, false, true])),
+    (&[ZERO, ONE, Opcode::Or], Some([false, true, true])),
     // One and not the other, in both orders.
-    (&[ZERO, ONE, Opcode::Not, Opcode::And], [false, true, false]),
+    (
+        &[ZERO, ONE, Opcode::Not, Opcode::And],
+        Some([false, true, false]),
+    ),
     (
         &[ONE, ZERO, Opcode::Not, Opcode::And],
-        [false, false, false],
+        Some([false, false, false]),
     ),
     (
         &[
@@ -187,42 +190,33 @@ static TRUTHS: [(&[Opcode], [bool; 3]); 9] = [
             Opcode::Or,
             Opcode::And,
         ],
-        [false, false, true],
+        Some([false, false, true]),
     ),
+    // What leaves no single value is no tree.
+    (&[], None),
+    (&[Opcode::True, Opcode::True], None),
+    (&[Opcode::True, Opcode::And], None),
+    (&[Opcode::Not, Opcode::True], None),
 ];
 
-// Whether a tree has this code, and where it holds: with no GUID, with the first, and with both.
-fn is_tree(rt: &impl Abort, tree: &Tree, code: &[Opcode], truths: [bool; 3]) -> bool {
-    let held = [truth(rt, tree, 0), truth(rt, tree, 1), truth(rt, tree, 2)];
-    tree.code() == code && held == truths
-}
-
-// Whether there is a tree of this code, and it holds so.
-fn are_true(rt: &impl Abort, alloc: Global, code: &[Opcode], truths: [bool; 3]) -> bool {
+// Where the tree of this code holds: with no GUID, with the first, and with both; none where there is no tree.
+fn truths_of(rt: &impl Abort, alloc: Global, code: &[Opcode]) -> Option<[bool; 3]> {
     match Tree::from_code(list_of(alloc, code)) {
-        Some(tree) => is_tree(rt, &tree, code, truths),
-        None => false,
+        Some(tree) => {
+            assert!(rt; tree.code() == code);
+            Some([
+                truth(rt, &tree, 0),
+                truth(rt, &tree, 1),
+                truth(rt, &tree, 2),
+            ])
+        }
+        None => None,
     }
 }
 
 #[test]
 fn an_expression_is_true_by_the_guids_that_are_there(rt: HostRuntime) {
     for (code, truths) in &TRUTHS {
-        assert!(rt; are_true(&rt, rt.alloc(), code, *truths));
-    }
-}
-
-/// Opcodes of no tree.
-static NO_TREES: [&[Opcode]; 4] = [
-    &[],
-    &[Opcode::True, Opcode::True],
-    &[Opcode::True, Opcode::And],
-    &[Opcode::Not, Opcode::True],
-];
-
-#[test]
-fn what_leaves_no_single_value_is_no_tree(rt: HostRuntime) {
-    for code in &NO_TREES {
-        assert!(rt; Tree::from_code(list_of(rt.alloc(), code)).is_none());
+        assert!(rt; truths_of(&rt, rt.alloc(), code) == *truths);
     }
 }

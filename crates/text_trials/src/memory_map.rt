@@ -4,8 +4,8 @@ use crate::hob_rows::Row::*;
 use crate::hob_rows::{Row, hob_list};
 use boot_io::MemSink;
 use gcd_map::{
-    Answer, Command, CommandFault, GcdRange, MOST_BYTES, from_hobs, one_map, put_answers,
-    put_command_refusal, put_hobs_refusal, put_map, read_commands,
+    Answer, Command, CommandFault, GcdRange, MOST_BYTES, from_hobs, one_map, one_space,
+    put_answers, put_command_refusal, put_hobs_refusal, put_map, read_commands,
 };
 use std::alloc::Global;
 use std::test::*;
@@ -17,7 +17,7 @@ struct Case {
     text: &'static [u8],
 }
 
-static CASES: [Case; 13] = [
+static CASES: [Case; 30] = [
     // The greatest base, an allocation across what is allocated, and an end behind the space.
     Case {
         hobs: &[Cpu(32), Resource(0, 0x40000000, 0x10000)],
@@ -197,6 +197,120 @@ static CASES: [Case; 13] = [
             \x20free 1 2\nadd system 0xd5000000 0x80000000\n",
         text: b"refused command 3\n",
     },
+    // Why there is no map of a HOB list, and the first fault.
+    // No CPU HOB comes before a resource without addresses.
+    Case {
+        hobs: &[],
+        commands: b"",
+        text: b"refused hobs NoCpu 0\n",
+    },
+    Case {
+        hobs: &[Resource(0, 0, 0)],
+        commands: b"",
+        text: b"refused hobs NoCpu 0\n",
+    },
+    // The first CPU HOB's bits, behind a resource without addresses.
+    Case {
+        hobs: &[Cpu(11), Cpu(12)],
+        commands: b"",
+        text: b"refused hobs Bits 56\n",
+    },
+    Case {
+        hobs: &[Resource(0, 0, 0), Cpu(53)],
+        commands: b"",
+        text: b"refused hobs Bits 104\n",
+    },
+    // A resource without addresses, with its end behind the space, and with its end behind all numbers.
+    Case {
+        hobs: &[Cpu(52), Resource(1, 0x1000, 0)],
+        commands: b"",
+        text: b"refused hobs Range 72\n",
+    },
+    Case {
+        hobs: &[Cpu(12), Resource(3, 0xfff, 2)],
+        commands: b"",
+        text: b"refused hobs Range 72\n",
+    },
+    Case {
+        hobs: &[Cpu(12), Resource(5, 0xffff_ffff_ffff_ffff, 2)],
+        commands: b"",
+        text: b"refused hobs Range 72\n",
+    },
+    // The first resource with a fault, and its range before what it meets.
+    Case {
+        hobs: &[
+            Cpu(12),
+            Resource(0, 0, 0x10),
+            Resource(4, 0xf, 1),
+            Resource(0, 0, 0),
+        ],
+        commands: b"",
+        text: b"refused hobs Overlap 120\n",
+    },
+    Case {
+        hobs: &[Cpu(12), Resource(0, 0, 0x1000), Resource(0, 0xff0, 0x11)],
+        commands: b"",
+        text: b"refused hobs Range 120\n",
+    },
+    // A resource that meets another comes before an allocation.
+    Case {
+        hobs: &[
+            Cpu(12),
+            Allocation(0, 0),
+            Resource(0, 0, 2),
+            Resource(0, 1, 1),
+        ],
+        commands: b"",
+        text: b"refused hobs Overlap 168\n",
+    },
+    // Resources of other types are passed over, whatever their addresses.
+    Case {
+        hobs: &[
+            Cpu(12),
+            Resource(2, 0, 0),
+            Resource(6, 0, 0x2000),
+            Resource(0, 0, 0),
+        ],
+        commands: b"",
+        text: b"refused hobs Range 168\n",
+    },
+    // An allocation without addresses, behind the space, of what is not system memory, partly of it, and twice.
+    Case {
+        hobs: &[Cpu(12), Allocation(0, 0)],
+        commands: b"",
+        text: b"refused hobs Outside 72\n",
+    },
+    Case {
+        hobs: &[Cpu(12), Resource(0, 0, 0x1000), Allocation(0xfff, 2)],
+        commands: b"",
+        text: b"refused hobs Outside 120\n",
+    },
+    Case {
+        hobs: &[Cpu(12), Resource(1, 0, 0x10), Allocation(0, 1)],
+        commands: b"",
+        text: b"refused hobs Outside 120\n",
+    },
+    Case {
+        hobs: &[Cpu(12), Resource(5, 0, 0x10), Allocation(0, 1)],
+        commands: b"",
+        text: b"refused hobs Outside 120\n",
+    },
+    Case {
+        hobs: &[Cpu(12), Resource(0, 0, 0x10), Allocation(0xf, 2)],
+        commands: b"",
+        text: b"refused hobs Outside 120\n",
+    },
+    Case {
+        hobs: &[
+            Cpu(12),
+            Resource(0, 0, 0x10),
+            Allocation(0, 1),
+            Allocation(0xf, 1),
+            Allocation(0, 0x10),
+        ],
+        commands: b"",
+        text: b"refused hobs Outside 216\n",
+    },
 ];
 
 // Prints what commands are answered, and a map; whether the sink takes it.
@@ -254,4 +368,5 @@ fn answers_and_maps_are_printed(rt: HostRuntime) {
         assert!(rt; is_printed(rt.alloc(), case));
     }
     one_map();
+    one_space();
 }

@@ -1,7 +1,7 @@
 // The text of a boot plan: what is read of it, and the first bad line with its cause.
 use crate::board::{MOST_TEXT, joined, repeated};
 use boot_plan::PlanCause::*;
-use boot_plan::{Plan, PlanCause, PlanVolume, one_reading, read_plan};
+use boot_plan::{PlanCause, one_reading, read_plan};
 use std::alloc::Global;
 use std::process::Abort;
 use std::test::*;
@@ -31,62 +31,49 @@ fn check(rt: &impl Abort, alloc: Global, front: &[u8], rows: &[(&[u8], Fault)]) 
 }
 
 /// A plan with all that its text may have.
-static WHOLE: &[u8] = b"# a comment\x00\xff\r\n\nram 1073741824 0x4000000\r\nfuel 000007\n#\n\
+const WHOLE: &[u8] = b"# a comment\x00\xff\r\n\nram 1073741824 0x4000000\r\nfuel 000007\n#\n\
     pages 0xC000\ntemp   0x00080000000  0x10000\nvolume 0xfff00000 a.fv\nvolume 0x100000 ~!";
 
-// The numbers of a plan: its temporary RAM and its RAM, each with its length, its fuel and its pages.
-fn numbers(plan: &Plan) -> [u64; 6] {
-    [
-        plan.temp.base,
-        plan.temp.len,
-        plan.ram.base,
-        plan.ram.len,
-        u64::from(plan.fuel),
-        plan.pages,
-    ]
-}
-
-/// The volumes of that plan.
-static VOLUMES: [(u64, &[u8]); 2] = [(0xfff0_0000, b"a.fv"), (0x10_0000, b"~!")];
-
-fn are_volumes(volumes: &[PlanVolume]) -> bool {
-    let mut is_right = volumes.len() == VOLUMES.len();
-    for (volume, want) in volumes.iter().zip(&VOLUMES) {
-        is_right = is_right && volume.base == want.0 && volume.name.as_slice() == want.1;
+// The numbers of a plan: its temporary RAM and its RAM, each with its length, its fuel and its pages, and how many volumes it has.
+fn numbers_of(alloc: Global, text: &[u8]) -> Option<([u64; 6], usize)> {
+    if text.len() >= MOST_TEXT {
+        return None;
     }
-    is_right
-}
-
-fn is_whole(plan: &Plan) -> bool {
-    numbers(plan) == [0x8000_0000, 0x1_0000, 0x4000_0000, 0x400_0000, 7, 0xc000]
-        && are_volumes(plan.volumes.as_slice())
-}
-
-// Whether it is read.
-fn reads_whole(alloc: Global) -> bool {
-    match read_plan(alloc, WHOLE) {
-        Ok(plan) => is_whole(&plan),
-        Err(_) => false,
-    }
-}
-
-// The fuel and the pages of the usual plan.
-fn usual_numbers(alloc: Global) -> Option<(u32, u64)> {
-    match read_plan(alloc, USUAL) {
-        Ok(plan) => Some((plan.fuel, plan.pages)),
+    match read_plan(alloc, text) {
+        Ok(plan) => {
+            let (temp, ram) = (plan.temp, plan.ram);
+            let (fuel, pages) = (u64::from(plan.fuel), plan.pages);
+            let numbers = [temp.base, temp.len, ram.base, ram.len, fuel, pages];
+            Some((numbers, plan.volumes.len()))
+        }
         Err(_) => None,
     }
 }
 
+/// Plans, their numbers, and how many volumes they have.
+static NUMBERS: [(&[u8], [u64; 6], usize); 2] = [
+    (
+        WHOLE,
+        [0x8000_0000, 0x1_0000, 0x4000_0000, 0x400_0000, 7, 0xc000],
+        2,
+    ),
+    (
+        USUAL,
+        [0x8000_0000, 0x1_0000, 0x4000_0000, 0x400_0000, 100_000, 0],
+        1,
+    ),
+];
+
 #[test]
 fn a_plan_is_read(rt: HostRuntime) {
-    assert!(rt; reads_whole(rt.alloc()));
-    assert!(rt; usual_numbers(rt.alloc()) == Some((100_000, 0)));
+    for (text, numbers, volumes) in &NUMBERS {
+        assert!(rt; numbers_of(rt.alloc(), text) == Some((*numbers, *volumes)));
+    }
     one_reading();
 }
 
 /// Texts, and the first bad line with its cause; none where they are plans.
-static PLANS: [(&[u8], Fault); 20] = [
+static PLANS: [(&[u8], Fault); 34] = [
     (USUAL, None),
     (
         b"temp 0x80000000 0x10000\nram 0x80008000 0x100000\nvolume 0xfff00000 a.fv",
@@ -149,6 +136,21 @@ static PLANS: [(&[u8], Fault); 20] = [
         b"temp 0x80000000 0x100000\nram 0x40000000 0x10000000\nvolume 0xfffffffffffffff8 a",
         None,
     ),
+    // Single lines of memory.
+    (b"temp 0x80000000 0x3000", Some((1, Limit))),
+    (b"temp 0x80000000 0x101000", Some((1, Limit))),
+    (b"temp 0x80000001 0x4000", Some((1, Limit))),
+    (b"temp 0x80000000 0x4800", Some((1, Limit))),
+    (b"temp 0xff000 0x4000", Some((1, Limit))),
+    (b"temp 0xfffffff000 0x4000", Some((1, Limit))),
+    (b"temp 0x10000000000 0x4000", Some((1, Limit))),
+    (b"temp 0xfffffffffffff000 0x4000", Some((1, Limit))),
+    (b"temp 0xff000 0x10000000000000000", Some((1, Number))),
+    (b"ram 0x40000000 0", Some((1, Limit))),
+    (b"ram 0x40000000 0x10001000", Some((1, Limit))),
+    (b"ram 0x40000800 0x1000", Some((1, Limit))),
+    (b"ram 0xffffff000 0x1000\n#", Some((3, Missing))),
+    (b"ram 0xfffffff000 0x2000", Some((1, Limit))),
 ];
 
 /// The same of lines behind the usual plan.
@@ -199,31 +201,6 @@ static LINES: [(&[u8], Fault); 44] = [
     (b"volume 0x100004 a", Some((4, Limit))),
 ];
 
-/// Single lines of memory.
-static MEMORY: [(&[u8], Fault); 14] = [
-    (b"temp 0x80000000 0x3000", Some((1, Limit))),
-    (b"temp 0x80000000 0x101000", Some((1, Limit))),
-    (b"temp 0x80000001 0x4000", Some((1, Limit))),
-    (b"temp 0x80000000 0x4800", Some((1, Limit))),
-    (b"temp 0xff000 0x4000", Some((1, Limit))),
-    (b"temp 0xfffffff000 0x4000", Some((1, Limit))),
-    (b"temp 0x10000000000 0x4000", Some((1, Limit))),
-    (b"temp 0xfffffffffffff000 0x4000", Some((1, Limit))),
-    (b"temp 0xff000 0x10000000000000000", Some((1, Number))),
-    (b"ram 0x40000000 0", Some((1, Limit))),
-    (b"ram 0x40000000 0x10001000", Some((1, Limit))),
-    (b"ram 0x40000800 0x1000", Some((1, Limit))),
-    (b"ram 0xffffff000 0x1000\n#", Some((3, Missing))),
-    (b"ram 0xfffffff000 0x2000", Some((1, Limit))),
-];
-
-#[test]
-fn a_plan_is_refused_at_its_first_bad_line(rt: HostRuntime) {
-    check(&rt, rt.alloc(), b"", &PLANS);
-    check(&rt, rt.alloc(), USUAL, &LINES);
-    check(&rt, rt.alloc(), b"", &MEMORY);
-}
-
 /// Lines behind a plan of sixteen volumes.
 static BEHIND_SIXTEEN: [(&[u8], Fault); 4] = [
     (b"", None),
@@ -236,8 +213,10 @@ static BEHIND_SIXTEEN: [(&[u8], Fault); 4] = [
 static BEHIND_A_NAME: [(&[u8], Fault); 3] = [(b"", None), (b"\n", None), (b"n", Some((4, Word)))];
 
 #[test]
-fn sixteen_volumes_and_long_names_are_read(rt: HostRuntime) {
+fn a_plan_is_refused_at_its_first_bad_line(rt: HostRuntime) {
     let alloc = rt.alloc();
+    check(&rt, alloc, b"", &PLANS);
+    check(&rt, alloc, USUAL, &LINES);
     let sixteen = repeated(alloc, USUAL, b"volume 0x100000 a\n", 15, b"");
     check(&rt, alloc, &sixteen, &BEHIND_SIXTEEN);
     let named = repeated(alloc, USUAL, b"volume 0x100000 ", 1, &[b'n'; 255]);

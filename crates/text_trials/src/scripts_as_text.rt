@@ -1,5 +1,5 @@
 // Scripts as a person writes them: each action both ways between its text and its bytes, each refusal once, and the limits.
-use crate::board::{SMALLEST_SCRIPT, are, joined, repeated};
+use crate::board::{are, joined, repeated};
 use act_code::{read_script, write_script};
 use asm_text::{TextFault, parse_script, print_script};
 use pi_base::{Phase, Seq};
@@ -7,7 +7,7 @@ use std::alloc::Global;
 use std::test::*;
 
 /// Actions as text, and their bytes.
-static ACTIONS: [(Phase, &[u8], &[u8]); 29] = [
+static ACTIONS: [(Phase, &[u8], &[u8]); 31] = [
     (Phase::Pei, b"set r1 0x10", &[1, 1, 16, 0, 0, 0, 0, 0, 0, 0]),
     (
         Phase::Dxe,
@@ -59,6 +59,7 @@ static ACTIONS: [(Phase, &[u8], &[u8]); 29] = [
     (Phase::Pei, b"memory r8 r9", &[14, 8, 9]),
     (Phase::Pei, b"pages r1 4 0x2", &[15, 1, 4, 2, 0, 0, 0]),
     (Phase::Pei, b"boot_mode set r1", &[16, 1, 1]),
+    (Phase::Pei, b"boot_mode get r10", &[16, 0, 10]),
     (Phase::Dxe, b"log a b", &[17, 3, 97, 32, 98]),
     (Phase::Dxe, b"skip_if 1 1", &[18, 1, 1]),
     (Phase::Pei, b"ret NotFound", &[19, 2]),
@@ -68,6 +69,13 @@ static ACTIONS: [(Phase, &[u8], &[u8]); 29] = [
         b"install new r1 03020100-0504-0706-0809-0a0b0c0d0e0f r2",
         &[
             32, 0, 1, 0, 1, 2, 3, 4, 5, 6, 7, 8, 9, 10, 11, 12, 13, 14, 15, 2,
+        ],
+    ),
+    (
+        Phase::Dxe,
+        b"install on r1 03020100-0504-0706-0809-0a0b0c0d0e0f r2",
+        &[
+            32, 1, 1, 0, 1, 2, 3, 4, 5, 6, 7, 8, 9, 10, 11, 12, 13, 14, 15, 2,
         ],
     ),
     (
@@ -122,7 +130,7 @@ fn disassembled(alloc: Global, bytes: &[u8]) -> Option<Seq<u8>> {
 }
 
 /// What stands in front of the action and behind it: two rets, and another block.
-static PEI_TEXT: &[u8] = b"phase pei\nblock\n";
+const PEI_TEXT: &[u8] = b"phase pei\nblock\n";
 
 static DXE_TEXT: &[u8] = b"phase dxe\nblock\n";
 
@@ -135,12 +143,7 @@ static DXE_BYTES: &[u8] = &[0x50, 0x49, 0x41, 0x53, 1, 2, 2, 0, 3, 0];
 
 static BYTES_BEHIND: &[u8] = &[19, 0, 19, 0, 1, 0, 19, 0];
 
-// Whether a text and bytes go both ways.
-fn go_both_ways(alloc: Global, text: &[u8], bytes: &[u8]) -> bool {
-    are(assembled(alloc, text), bytes) && are(disassembled(alloc, bytes), text)
-}
-
-// The same of an action in a script.
+// Whether an action in a script goes both ways between its text and its bytes.
 fn goes_both_ways(alloc: Global, phase: Phase, line: &[u8], action: &[u8]) -> bool {
     let (text_front, bytes_front) = match phase {
         Phase::Pei => (PEI_TEXT, PEI_BYTES),
@@ -148,7 +151,7 @@ fn goes_both_ways(alloc: Global, phase: Phase, line: &[u8], action: &[u8]) -> bo
     };
     let text = joined(alloc, &[text_front, line, TEXT_BEHIND]);
     let bytes = joined(alloc, &[bytes_front, action, BYTES_BEHIND]);
-    go_both_ways(alloc, &text, &bytes)
+    are(assembled(alloc, &text), &bytes) && are(disassembled(alloc, &bytes), &text)
 }
 
 #[test]
@@ -156,12 +159,6 @@ fn actions_go_both_ways(rt: HostRuntime) {
     for (phase, line, action) in &ACTIONS {
         assert!(rt; goes_both_ways(rt.alloc(), *phase, line, action));
     }
-}
-
-#[test]
-fn the_smallest_script_is_read(rt: HostRuntime) {
-    let bytes = assembled(rt.alloc(), b"phase pei\nblock\nlog a\nret Success\n");
-    assert!(rt; are(bytes, &SMALLEST_SCRIPT));
 }
 
 /// Texts of no script, and the line with which they go wrong.
@@ -195,53 +192,75 @@ static NO_SCRIPTS: [(&[u8], u32); 20] = [
     ),
 ];
 
-// The line with which a text goes wrong, 0 where it is a script's, and none where it is refused otherwise.
-fn bad_line(alloc: Global, text: &[u8]) -> Option<u32> {
-    match parse_script(alloc, text) {
-        Ok(_) => Some(0),
-        Err(TextFault::Bad { line }) => Some(line),
-        Err(_) => None,
-    }
+// Why a text is no script's, none where it is.
+fn fault_of(alloc: Global, text: &[u8]) -> Option<TextFault> {
+    parse_script(alloc, text).err()
 }
 
 #[test]
 fn what_is_no_script_is_bad_at_its_line(rt: HostRuntime) {
     for (text, line) in &NO_SCRIPTS {
-        assert!(rt; bad_line(rt.alloc(), text) == Some(*line));
+        assert!(rt; fault_of(rt.alloc(), text) == Some(TextFault::Bad { line: *line }));
     }
 }
 
-/// Lines, a line and how many times it stands behind them, other lines, and the line with which the text
-/// goes wrong; 0 where it is a script's.
-static LIMITS: [(&[u8], &[u8], usize, &[u8], u32); 8] = [
+/// A line of 992 that are alike, whose text of 64 characters takes 66 bytes.
+const LONG: &[u8] = b"log 0123456789abcdef0123456789abcdef0123456789abcdef0123456789abcdef\n";
+
+/// The last lines of the longest script, and of one that is a byte longer.
+const LAST: &[u8] = b"log 0123456789abcdef0123456789abcdef0123456789abcdef01\nret Success\n";
+
+const LAST_LONGER: &[u8] =
+    b"log 0123456789abcdef0123456789abcdef0123456789abcdef012\nret Success\n";
+
+/// Lines, a line and how many times it stands behind them, other lines, and why the text is no script's; none where it is.
+static LIMITS: [(&[u8], &[u8], usize, &[u8], Option<TextFault>); 10] = [
     // 1,024 actions
-    (b"phase pei\nblock\n", b"log a\n", 1023, b"ret Success\n", 0),
+    (
+        b"phase pei\nblock\n",
+        b"log a\n",
+        1023,
+        b"ret Success\n",
+        None,
+    ),
     // and one that is no ret, or one more
-    (b"phase pei\nblock\n", b"log a\n", 1024, b"", 1026),
+    (
+        b"phase pei\nblock\n",
+        b"log a\n",
+        1024,
+        b"",
+        Some(TextFault::Bad { line: 1026 }),
+    ),
     (
         b"phase pei\nblock\n",
         b"ret Success\n",
         1024,
         b"ret Success\n",
-        1027,
+        Some(TextFault::Bad { line: 1027 }),
     ),
     // 64 blocks
-    (b"phase pei\n", b"block\nret Success\n", 64, b"", 0),
-    (b"phase pei\n", b"block\nret Success\n", 64, b"block\n", 130),
+    (b"phase pei\n", b"block\nret Success\n", 64, b"", None),
+    (
+        b"phase pei\n",
+        b"block\nret Success\n",
+        64,
+        b"block\n",
+        Some(TextFault::Bad { line: 130 }),
+    ),
     // an action that skips 255, 257 before the block's last place and 256
     (
         b"phase pei\nblock\n",
         b"log a\n",
         767,
         b"skip_if 0 255\n",
-        771,
+        Some(TextFault::Bad { line: 771 }),
     ),
     (
         b"phase pei\nblock\n",
         b"log a\n",
         768,
         b"skip_if 0 255\n",
-        771,
+        Some(TextFault::Bad { line: 771 }),
     ),
     // the highest number of a block, reached by none
     (
@@ -249,41 +268,17 @@ static LIMITS: [(&[u8], &[u8], usize, &[u8], u32); 8] = [
         b"block\nnotify 03020100-0504-0706-0809-0a0b0c0d0e0f block 63\nret Success\n",
         63,
         b"",
-        191,
+        Some(TextFault::Bad { line: 191 }),
     ),
+    // 65,536 bytes, and one more
+    (PEI_TEXT, LONG, 992, LAST, None),
+    (PEI_TEXT, LONG, 992, LAST_LONGER, Some(TextFault::TooLong)),
 ];
 
 #[test]
 fn scripts_keep_within_their_limits(rt: HostRuntime) {
-    for (front, line, count, behind, bad) in &LIMITS {
+    for (front, line, count, behind, fault) in &LIMITS {
         let text = repeated(rt.alloc(), front, line, *count, behind);
-        assert!(rt; bad_line(rt.alloc(), &text) == Some(*bad));
+        assert!(rt; fault_of(rt.alloc(), &text) == *fault);
     }
-}
-
-/// A line of 992 that are alike, whose text of 64 characters takes 66 bytes.
-static LONG: &[u8] = b"log 0123456789abcdef0123456789abcdef0123456789abcdef0123456789abcdef\n";
-
-/// The last lines of the longest script, and of one that is a byte longer.
-static LAST: &[u8] = b"log 0123456789abcdef0123456789abcdef0123456789abcdef01\nret Success\n";
-
-static LAST_LONGER: &[u8] =
-    b"log 0123456789abcdef0123456789abcdef0123456789abcdef012\nret Success\n";
-
-// How many bytes the script of a text has, 0 where there is none.
-fn length_of(alloc: Global, text: &[u8]) -> usize {
-    match assembled(alloc, text) {
-        Some(bytes) => bytes.len(),
-        None => 0,
-    }
-}
-
-#[test]
-fn the_longest_script_is_read(rt: HostRuntime) {
-    let alloc = rt.alloc();
-    assert!(rt; length_of(alloc, &repeated(alloc, PEI_TEXT, LONG, 992, LAST)) == 65536);
-    assert!(rt;
-        parse_script(alloc, &repeated(alloc, PEI_TEXT, LONG, 992, LAST_LONGER)).err()
-            == Some(TextFault::TooLong)
-    );
 }

@@ -2,7 +2,7 @@
 ghost use Rattle.std.specs.Prelude.{◌≤◌};
 ghost use Rattle.fv_volume.specs.declared.build.volume.TheConstants.{MOST_LEN};
 
-use crate::board::{ONE_PEIM, add, guid};
+use crate::board::{ONE_PEIM, guid};
 use crate::volumes::lists;
 use fv_volume::build::{
     Body, BuildFault, FileAttributes, MOST_MODULES, NewFile, NewSection, build_volume,
@@ -13,7 +13,6 @@ use fv_volume::sections::section_type::RAW;
 use fv_volume::{FfsFile, MOST_FILES};
 use pi_base::{Guid, Seq};
 use std::alloc::Global;
-use std::process::Abort;
 use std::test::*;
 
 /// The three generated modules from byte 72 on, made by another program from the layout.
@@ -80,9 +79,9 @@ fn file(alloc: Global, last: u8, kind: u8, lens: &[usize]) -> NewFile {
 }
 
 // The file of the one-PEIM volume.
-fn one_peim(rt: &impl Abort, alloc: Global) -> NewFile {
+fn one_peim(alloc: Global) -> NewFile {
     let mut body = Vec::new(alloc);
-    add(rt, &mut body, &ONE_PEIM[100..]);
+    let _ = body.extend_from_slice(&ONE_PEIM[100..]);
     let mut sections = Vec::new(alloc);
     let _ = sections.push(section(body));
     new_file(0x0a, PEIM, sections)
@@ -128,7 +127,7 @@ fn is_built(
 
 #[test]
 fn one_peim_is_built_byte_by_byte(rt: HostRuntime) {
-    let files = [one_peim(&rt, rt.alloc())];
+    let files = [one_peim(rt.alloc())];
     assert!(rt;
         is_built(
             build_volume(rt.alloc(), &files, 4096),
@@ -212,7 +211,7 @@ fn faults_of(alloc: Global, files: &[NewFile]) -> [Option<BuildFault>; 3] {
 
 #[test]
 fn a_volume_is_refused_by_one_byte(rt: HostRuntime) {
-    let files = [one_peim(&rt, rt.alloc())];
+    let files = [one_peim(rt.alloc())];
     let full = BuildFault::NoRoom {
         need: 115,
         have: 114,

@@ -1,9 +1,11 @@
 // Expressions in the words of an INF file: what they are read as, and each refusal.
+use crate::board::{Text, whole};
 use crate::gendepex::{FIFTH, FIRST, FOURTH, SECOND, THIRD};
 use depex_code::{Depex, Opcode};
 use pi_base::{Guid, OutOfMemory, Phase, Seq};
 use source_words::depex::{ExpressionFault, read_expression};
 use std::alloc::Global;
+use std::process::Abort;
 use std::test::*;
 
 // The words, each digit as the GUID that it stands for.
@@ -86,27 +88,20 @@ fn are_read_as(alloc: Global, rows: &[(bool, &str, &str)]) -> bool {
     true
 }
 
-#[test]
-fn two_hundred_are_read_as_gendepex_reads_them(rt: HostRuntime) {
-    let alloc = rt.alloc();
-    assert!(rt; are_read_as(alloc, &FIRST) && are_read_as(alloc, &SECOND));
-    assert!(rt; are_read_as(alloc, &THIRD) && are_read_as(alloc, &FOURTH));
-    assert!(rt; are_read_as(alloc, &FIFTH));
-}
-
-/// Expressions in other spellings of their words.
-static SPELLINGS: [(&str, &str); 4] = [
-    ("\t 1   and\t2 ", "12&."),
-    ("((1)AND(2))OR(3)end", "12&3|."),
-    ("not(not(TRUE))", "T!!."),
-    ("1 AND 2 OR 3", "123|&."),
+/// The same of other spellings of words: blanks and brackets may stand anywhere.
+static SPELLINGS: [(bool, &str, &str); 4] = [
+    (false, "\t 1   and\t2 ", "12&."),
+    (false, "((1)AND(2))OR(3)end", "12&3|."),
+    (false, "not(not(TRUE))", "T!!."),
+    (false, "1 AND 2 OR 3", "123|&."),
 ];
 
 #[test]
-fn blanks_and_brackets_may_stand_anywhere(rt: HostRuntime) {
-    for (words, opcodes) in &SPELLINGS {
-        assert!(rt; is_read_as(rt.alloc(), Phase::Pei, words, opcodes));
-    }
+fn two_hundred_and_other_spellings_are_read_as_gendepex_reads_them(rt: HostRuntime) {
+    let alloc = rt.alloc();
+    assert!(rt; are_read_as(alloc, &FIRST) && are_read_as(alloc, &SECOND));
+    assert!(rt; are_read_as(alloc, &THIRD) && are_read_as(alloc, &FOURTH));
+    assert!(rt; are_read_as(alloc, &FIFTH) && are_read_as(alloc, &SPELLINGS));
 }
 
 /// Words that are no expression, and why.
@@ -150,30 +145,25 @@ fn the_first_word_with_which_no_expression_goes_on_is_told(rt: HostRuntime) {
     }
 }
 
-// A text, so many times one behind the other, and an end.
-fn repeated(alloc: Global, text: &[u8], count: usize, end: &[u8]) -> Result<Seq<u8>, OutOfMemory> {
-    let mut whole = Seq::new(alloc);
-    for _ in 0..count {
-        whole.append(text)?;
-    }
-    whole.append(end)?;
-    Ok(whole)
-}
+/// Words in front of TRUE so many times, and why they are no expression; none where they are one.
+static DEEP: [(Text, Option<ExpressionFault>); 4] = [
+    (("", "(", 100_000, "TRUE"), Some(ExpressionFault::Bracket)),
+    (
+        ("", "not ", 100_000, "TRUE"),
+        Some(ExpressionFault::TooLong),
+    ),
+    (("", "NOT ", 1022, "TRUE"), None),
+    (("", "NOT ", 1023, "TRUE"), Some(ExpressionFault::TooLong)),
+];
 
-// Why TRUE behind so many words of one kind is no expression.
-fn fault_behind(alloc: Global, words: &[u8], count: usize, end: &[u8]) -> Option<ExpressionFault> {
-    match repeated(alloc, words, count, end) {
-        Ok(text) => read_expression(alloc, Phase::Pei, text.as_slice()).err(),
-        Err(OutOfMemory) => None,
-    }
+fn fault_behind(rt: &impl Abort, alloc: Global, text: &Text) -> Option<ExpressionFault> {
+    let text = whole(rt, alloc, text);
+    read_expression(alloc, Phase::Pei, text.as_slice()).err()
 }
 
 #[test]
 fn depth_costs_no_stack_and_length_has_a_limit(rt: HostRuntime) {
-    assert!(rt; fault_behind(rt.alloc(), b"(", 100_000, b"TRUE") == Some(ExpressionFault::Bracket));
-    assert!(rt;
-        fault_behind(rt.alloc(), b"not ", 100_000, b"TRUE") == Some(ExpressionFault::TooLong)
-    );
-    assert!(rt; fault_behind(rt.alloc(), b"NOT ", 1022, b"TRUE").is_none());
-    assert!(rt; fault_behind(rt.alloc(), b"NOT ", 1023, b"TRUE") == Some(ExpressionFault::TooLong));
+    for (text, fault) in &DEEP {
+        assert!(rt; fault_behind(&rt, rt.alloc(), text) == *fault);
+    }
 }

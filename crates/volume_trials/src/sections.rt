@@ -25,19 +25,17 @@ fn are(found: &[Section], rows: &[Row]) -> bool {
     is_right
 }
 
-// Whether the bytes are read as these sections.
-fn reads(alloc: Global, bytes: &[u8], sections: &[Row]) -> bool {
+// Whether the bytes are read as these sections, or have this fault.
+fn is_so(alloc: Global, bytes: &[u8], want: &Result<&[Row], SecFault>) -> bool {
     match read_sections(alloc, bytes) {
-        Ok(found) => are(found.as_slice(), sections),
-        Err(_) => false,
-    }
-}
-
-// Whether the bytes have this fault.
-fn fails(alloc: Global, bytes: &[u8], at: u64, cause: SecCause) -> bool {
-    match read_sections(alloc, bytes) {
-        Ok(_) => false,
-        Err(fault) => fault == SecFault { at, cause },
+        Ok(found) => match want {
+            Ok(rows) => are(found.as_slice(), rows),
+            Err(_) => false,
+        },
+        Err(fault) => match want {
+            Ok(_) => false,
+            Err(want) => fault == *want,
+        },
     }
 }
 
@@ -53,49 +51,77 @@ const FIRST: [u8; 5] = [5, 0, 0, 0x10, 0xaa];
 /// The type of a section, where its body stands and how long it is.
 type Row = (u8, u64, u64);
 
-/// Streams, and their sections.
-static STREAMS: [(&[u8], &[Row]); 6] = [
+/// Streams, and their sections, or where they go wrong and why.
+static STREAMS: [(&[u8], Result<&[Row], SecFault>); 13] = [
     // No bytes; a whole section; an extended one, and one of the least size.
-    (&[], &[]),
-    (&ONE_SECTION, &[(RAW, 4, 15)]),
-    (&EXTENDED_RAW, &[(RAW, 8, 15)]),
-    (&[0xff, 0xff, 0xff, 0x10, 8, 0, 0, 0], &[(PE32, 8, 0)]),
+    (&[], Ok(&[])),
+    (&ONE_SECTION, Ok(&[(RAW, 4, 15)])),
+    (&EXTENDED_RAW, Ok(&[(RAW, 8, 15)])),
+    (&[0xff, 0xff, 0xff, 0x10, 8, 0, 0, 0], Ok(&[(PE32, 8, 0)])),
     // The second section begins at the next multiple of four; three bytes may be left at the end.
-    (&TWO, &[(PE32, 4, 1), (RAW, 12, 0)]),
+    (&TWO, Ok(&[(PE32, 4, 1), (RAW, 12, 0)])),
     // The rounded place may lie behind the end.
-    (&FIRST, &[(PE32, 4, 1)]),
-];
-
-#[test]
-fn sound_streams_are_read(rt: HostRuntime) {
-    for (bytes, sections) in &STREAMS {
-        assert!(rt; reads(rt.alloc(), bytes, sections));
-    }
-}
-
-/// Streams, where they go wrong, and why.
-static FAULTS: [(&[u8], u64, SecCause); 7] = [
+    (&FIRST, Ok(&[(PE32, 4, 1)])),
     // A size below its header's length.
-    (&[3, 0, 0, 0x19], 0, SecCause::Size),
-    (&[0xff, 0xff, 0xff, 0x19, 7, 0, 0, 0], 0, SecCause::Size),
+    (
+        &[3, 0, 0, 0x19],
+        Err(SecFault {
+            at: 0,
+            cause: SecCause::Size,
+        }),
+    ),
+    (
+        &[0xff, 0xff, 0xff, 0x19, 7, 0, 0, 0],
+        Err(SecFault {
+            at: 0,
+            cause: SecCause::Size,
+        }),
+    ),
     // The top of both size fields.
-    (&[0xfe, 0xff, 0xff, 0x19, 0, 0, 0, 0], 0, SecCause::Size),
+    (
+        &[0xfe, 0xff, 0xff, 0x19, 0, 0, 0, 0],
+        Err(SecFault {
+            at: 0,
+            cause: SecCause::Size,
+        }),
+    ),
     (
         &[0xff, 0xff, 0xff, 0x19, 0xff, 0xff, 0xff, 0xff],
-        0,
-        SecCause::Size,
+        Err(SecFault {
+            at: 0,
+            cause: SecCause::Size,
+        }),
     ),
     // Sections that are not opened, behind a sound one; a wrong size comes before the type.
-    (&[4, 0, 0, 0x19, 4, 0, 0, 1], 4, SecCause::Compressed),
-    (&[4, 0, 0, 0x19, 4, 0, 0, 2], 4, SecCause::GuidDefined),
-    (&[4, 0, 0, 0x19, 5, 0, 0, 1], 4, SecCause::Size),
+    (
+        &[4, 0, 0, 0x19, 4, 0, 0, 1],
+        Err(SecFault {
+            at: 4,
+            cause: SecCause::Compressed,
+        }),
+    ),
+    (
+        &[4, 0, 0, 0x19, 4, 0, 0, 2],
+        Err(SecFault {
+            at: 4,
+            cause: SecCause::GuidDefined,
+        }),
+    ),
+    (
+        &[4, 0, 0, 0x19, 5, 0, 0, 1],
+        Err(SecFault {
+            at: 4,
+            cause: SecCause::Size,
+        }),
+    ),
 ];
 
 #[test]
-fn each_fault_comes_at_its_place(rt: HostRuntime) {
-    for (bytes, at, cause) in &FAULTS {
-        assert!(rt; fails(rt.alloc(), bytes, *at, *cause));
+fn sound_streams_are_read_and_each_fault_comes_at_its_place(rt: HostRuntime) {
+    for (bytes, want) in &STREAMS {
+        assert!(rt; is_so(rt.alloc(), bytes, want));
     }
+    one_reading();
 }
 
 // 257 sections without bodies.
@@ -119,21 +145,13 @@ fn count_of(alloc: Global, bytes: &[u8]) -> usize {
 #[test]
 fn the_most_sections_are_read(rt: HostRuntime) {
     let mut bytes = many();
+    let fault = SecFault {
+        at: 1024,
+        cause: SecCause::TooMany,
+    };
     // 256 sections are read, and the next one is too many, also where it has another fault.
     assert!(rt; count_of(rt.alloc(), front(&bytes, 1024)) == 256);
-    assert!(rt; fails(rt.alloc(), &bytes, 1024, SecCause::TooMany));
+    assert!(rt; is_so(rt.alloc(), &bytes, &Err(fault)));
     bytes[1024] = 0;
-    assert!(rt; fails(rt.alloc(), &bytes, 1024, SecCause::TooMany));
-}
-
-#[test]
-fn each_cause_has_its_number(rt: HostRuntime) {
-    one_reading();
-    let numbers = [
-        SecCause::Size as u8,
-        SecCause::Compressed as u8,
-        SecCause::GuidDefined as u8,
-        SecCause::TooMany as u8,
-    ];
-    assert!(rt; numbers == [20, 21, 22, 23]);
+    assert!(rt; is_so(rt.alloc(), &bytes, &Err(fault)));
 }

@@ -1,8 +1,8 @@
 // The files that stand in a volume, and the first fault of its header and of its files.
-use crate::board::{ONE_PEIM, add, equal_files, front, guid, volume};
+use crate::board::{ONE_PEIM, Text, front, guid, made};
 use fv_volume::file_type::{PEIM, RAW};
 use fv_volume::{FfsFile, MOST_FILES, VolCause, VolFault, one_reading, places, read_volume};
-use pi_base::{Guid, put_u16, put_u64, sum16};
+use pi_base::{Guid, Seq, put_u16, put_u64, sum16};
 use std::alloc::Global;
 use std::process::Abort;
 use std::test::*;
@@ -14,8 +14,6 @@ const LEN: usize = 4096;
 static EMPTY_FILE: [u8; 24] = [
     0, 0, 0, 0, 0, 0, 0, 0, 0, 0, 0, 0, 0, 0, 0, 0, 0xe7, 0xaa, 0x01, 0x00, 0x18, 0, 0, 0xf8,
 ];
-
-const ERASED: [u8; 24] = [0xff; 24];
 
 /// The name of the file system FFS3.
 static FFS3: [u8; 16] = [
@@ -100,15 +98,8 @@ fn fails(alloc: Global, bytes: &[u8], at: u64, cause: VolCause) -> bool {
 /// Places in the one-PEIM volume, each with the byte that it gets, and the fault.
 type Row = (&'static [u8], u64, VolCause);
 
-// Each changed volume has its fault.
-fn each_fails(rt: &impl Abort, alloc: Global, rows: &[Row]) {
-    for (changes, at, cause) in rows {
-        assert!(rt; fails(alloc, &changed(changes), *at, *cause));
-    }
-}
-
-/// Faults of a header.
-static OF_A_HEADER: [Row; 11] = [
+/// Faults of a header, and of the file at 72.
+static FAULTS: [Row; 21] = [
     (&[50, 0xd0], 50, VolCause::HeaderSum),
     // Each cause with a later one beside it: the first in order is told.
     (&[40, 0x2d, 55, 1], 40, VolCause::Signature),
@@ -123,13 +114,28 @@ static OF_A_HEADER: [Row; 11] = [
     // An extended header inside the header, and one whose size passes FvLength.
     (&[52, 70, 50, 0x8b], 52, VolCause::ExtHeader),
     (&[52, 96, 50, 0x71], 52, VolCause::ExtHeader),
+    (&[88, 0xc4, 89, 0xab], 72, VolCause::FileSum),
+    (&[88, 0xc4, 95, 0xe0], 72, VolCause::FileSum),
+    (&[89, 0xab], 72, VolCause::DataSum),
+    (&[89, 0xab, 95, 0xf0], 72, VolCause::DataSum),
+    (&[88, 0x85, 91, 0x40, 89, 0x1d], 72, VolCause::DataSum),
+    // A pad's checksum is tested too.
+    (&[88, 0xdb, 90, 0xf0, 89, 0xab], 72, VolCause::DataSum),
+    // Size 23; 4,025 of 4,024 bytes; a large file under FFS2.
+    (&[88, 0xd9, 92, 0x17], 72, VolCause::FileSize),
+    (&[88, 0x28, 92, 0xb9, 93, 0x0f], 72, VolCause::FileSize),
+    (&[88, 0xc4, 91, 0x01], 72, VolCause::FileSize),
+    // A deleted file's size is tested.
+    (&[88, 0xd9, 92, 0x17, 95, 0xe0], 72, VolCause::FileSize),
 ];
 
 #[test]
-fn each_fault_of_a_header_comes_in_its_order(rt: HostRuntime) {
+fn each_fault_comes_in_its_order_and_at_its_place(rt: HostRuntime) {
+    for (changes, at, cause) in &FAULTS {
+        assert!(rt; fails(rt.alloc(), &changed(changes), *at, *cause));
+    }
     one_reading();
     places();
-    each_fails(&rt, rt.alloc(), &OF_A_HEADER);
 }
 
 /// So many bytes of it, and the fault.
@@ -143,15 +149,15 @@ static ENDS: [(usize, u64, VolCause); 4] = [
 #[test]
 fn bytes_that_end_before_their_volume_are_refused(rt: HostRuntime) {
     let bytes = changed(&[]);
-    assert!(rt; lists(rt.alloc(), &bytes, 4096, None, &[THE_PEIM]));
     for (len, at, cause) in &ENDS {
         assert!(rt; fails(rt.alloc(), front(&bytes, *len), *at, *cause));
     }
 }
 
 /// Places in the one-PEIM volume, each with the byte that it gets, and whether the file is listed.
-static STATES: [(&[u8], bool); 11] = [
-    // Marked for update; bits above 0x20 say nothing.
+static STATES: [(&[u8], bool); 12] = [
+    // The volume as it is; marked for update; bits above 0x20 say nothing.
+    (&[], true),
     (&[95, 0xf0], true),
     (&[95, 0xb8], true),
     // A body with its checksum.
@@ -182,33 +188,8 @@ fn files_are_listed_by_their_states(rt: HostRuntime) {
     }
 }
 
-/// Faults of the file at 72.
-static OF_A_FILE: [Row; 10] = [
-    (&[88, 0xc4, 89, 0xab], 72, VolCause::FileSum),
-    (&[88, 0xc4, 95, 0xe0], 72, VolCause::FileSum),
-    (&[89, 0xab], 72, VolCause::DataSum),
-    (&[89, 0xab, 95, 0xf0], 72, VolCause::DataSum),
-    (&[88, 0x85, 91, 0x40, 89, 0x1d], 72, VolCause::DataSum),
-    // A pad's checksum is tested too.
-    (&[88, 0xdb, 90, 0xf0, 89, 0xab], 72, VolCause::DataSum),
-    // Size 23; 4,025 of 4,024 bytes; a large file under FFS2.
-    (&[88, 0xd9, 92, 0x17], 72, VolCause::FileSize),
-    (&[88, 0x28, 92, 0xb9, 93, 0x0f], 72, VolCause::FileSize),
-    (&[88, 0xc4, 91, 0x01], 72, VolCause::FileSize),
-    // A deleted file's size is tested.
-    (&[88, 0xd9, 92, 0x17, 95, 0xe0], 72, VolCause::FileSize),
-];
-
 #[test]
-fn each_fault_of_a_file_comes_at_its_place(rt: HostRuntime) {
-    each_fails(&rt, rt.alloc(), &OF_A_FILE);
-    // A file may end with the volume.
-    let whole = changed(&[88, 0x29, 92, 0xb8, 93, 0x0f]);
-    assert!(rt; lists(rt.alloc(), &whole, 4096, None, &[peim(72, 96, 4000)]));
-}
-
-#[test]
-fn a_second_file_is_listed_or_refused(rt: HostRuntime) {
+fn a_second_file_and_one_at_the_end_are_listed_or_refused(rt: HostRuntime) {
     // The file ends at 115, and the next one begins at 120.
     let mut bytes = changed(&[]);
     put(&mut bytes, 120, &EMPTY_FILE);
@@ -222,6 +203,9 @@ fn a_second_file_is_listed_or_refused(rt: HostRuntime) {
     assert!(rt; lists(rt.alloc(), &bytes, 4096, None, &[THE_PEIM, second]));
     bytes[136] = 0;
     assert!(rt; fails(rt.alloc(), &bytes, 120, VolCause::FileSum));
+    // A file may end with the volume.
+    let whole = changed(&[88, 0x29, 92, 0xb8, 93, 0x0f]);
+    assert!(rt; lists(rt.alloc(), &whole, 4096, None, &[peim(72, 96, 4000)]));
 }
 
 /// A pad file, which holds an extended header.
@@ -297,11 +281,20 @@ fn large_files_are_listed(rt: HostRuntime) {
     }
 }
 
-// A volume of so many raw files, and what stands behind them.
-fn raw_files(rt: &impl Abort, alloc: Global, count: usize, behind: &[u8]) -> Vec<u8> {
-    let mut files = equal_files(rt, alloc, count, RAW, guid(0), &[]);
-    add(rt, &mut files, behind);
-    volume(rt, alloc, &files)
+/// The most raw files, with 24 erased bytes behind them.
+static MOST: Text = (
+    "volume 393312\n",
+    "file raw 00000000-0000-0000-0000-000000000000\n",
+    MOST_FILES,
+    "end\n",
+);
+
+// The volume of the most files with one more in the place of its last bytes.
+fn with_one_more(rt: &impl Abort, alloc: Global, most: &[u8]) -> Seq<u8> {
+    let mut bytes = Seq::new(alloc);
+    assert!(rt; bytes.append(front(most, 393_288)).is_ok());
+    assert!(rt; bytes.append(&EMPTY_FILE).is_ok());
+    bytes
 }
 
 // How many files are listed, none where the bytes are refused.
@@ -315,7 +308,6 @@ fn count_of(alloc: Global, bytes: &[u8]) -> usize {
 // Whether the volume is that of one file too many, which is refused.
 fn is_too_many(alloc: Global, bytes: &[u8]) -> bool {
     bytes.len() == 393_312
-        && bytes[50..52] == [0x6b, 0xdd]
         && bytes[72..96] == EMPTY_FILE[..]
         && fails(alloc, bytes, 393_288, VolCause::TooManyFiles)
 }
@@ -323,17 +315,8 @@ fn is_too_many(alloc: Global, bytes: &[u8]) -> bool {
 #[test]
 fn the_most_files_are_listed(rt: HostRuntime) {
     let alloc = rt.alloc();
-    assert!(rt; count_of(alloc, &raw_files(&rt, alloc, MOST_FILES, &ERASED)) == 16_384);
-    assert!(rt; is_too_many(alloc, &raw_files(&rt, alloc, MOST_FILES + 1, &[])));
-}
-
-#[test]
-fn each_cause_has_its_number(rt: HostRuntime) {
-    let numbers = [
-        VolCause::Short as u8,
-        VolCause::FileSystem as u8,
-        VolCause::ExtHeader as u8,
-        VolCause::TooManyFiles as u8,
-    ];
-    assert!(rt; numbers == [1, 4, 8, 12]);
+    let most = made(&rt, alloc, &MOST);
+    assert!(rt; count_of(alloc, most.as_slice()) == 16_384);
+    let more = with_one_more(&rt, alloc, most.as_slice());
+    assert!(rt; is_too_many(alloc, more.as_slice()));
 }

@@ -1,81 +1,60 @@
 // Which PEIM starts next, and the hand-off: volumes, what is printed of their boots, and the status.
-use super::modules::{FIRST_PEIMS, HAND_OFF, Module, PEIM};
-use super::text::Text;
+use super::text::{HAND_OFF, NOTHING, Text};
 use super::{Case, EXPRESSIONS, Image, SMALLEST, VOLUME};
 use boot_core::Status;
 
 // The first PEIM waits for the PPI of the second.
-const ROTATION: [Module<'static>; 3] = [
-    Module {
-        name: "00000000-0000-0000-0000-00000000000a",
-        expression: "00000000-0000-0000-0000-000000000001",
-        ..PEIM
-    },
-    Module {
-        name: "00000000-0000-0000-0000-00000000000b",
-        script: "phase pei
+const ROTATION: Text<'static> = Text {
+    head: b"volume 4096
+file peim 00000000-0000-0000-0000-00000000000a
+depex pei 00000000-0000-0000-0000-000000000001
+file peim 00000000-0000-0000-0000-00000000000b
+script pei
 block
 set r0 0x0
 desc r1 ppi 00000000-0000-0000-0000-000000000001 r0
 install r1
 ret Success
+end
+file peim 00000000-0000-0000-0000-00000000000c
+end
 ",
-        ..PEIM
-    },
-    Module {
-        name: "00000000-0000-0000-0000-00000000000c",
-        ..PEIM
-    },
-];
+    ..NOTHING
+};
 
 const ROTATION_TEXT: Text<'static> = Text {
     head: b"report 0\npei start 0 00000000-0000-0000-0000-00000000000b absent\ncall desc Success 0x80000040\ncall install Success\nend Success\npei start 0 00000000-0000-0000-0000-00000000000c absent\nend Success\npei start 0 00000000-0000-0000-0000-00000000000a true\nend Success\npei stop\nppis 1\nppi 1 00000000-0000-0000-0000-000000000001 0x0\ncallbacks 0\ndispatches 0\npendings 0\nhobs 3\nhob 1 090000000000000000000180000000000000008000000000000001800000000098000080000000009000008000000000\nhob 7 10000080000000005800008000000000000000000000000000000000000000000000000000000001\nhob 7 0000000000000000400000800000000000000000000000000100000000000000\nhandles 0\nresult NoMemory\n",
-    turn: &[],
-    turns: 0,
-    tail: &[],
+    ..NOTHING
 };
 
 // The list names a file that is not there, the second PEIM twice, and has bytes of no whole GUID behind.
-const A_PRIORI: [Module<'static>; 3] = [
-    Module {
-        list: &[
-            "00000000-0000-0000-0000-0000000000ff",
-            "00000000-0000-0000-0000-00000000000b",
-            "00000000-0000-0000-0000-00000000000b",
-        ],
-        behind: &[1, 2, 3],
-        ..FIRST_PEIMS
-    },
-    Module {
-        name: "00000000-0000-0000-0000-00000000000a",
-        ..PEIM
-    },
-    Module {
-        name: "00000000-0000-0000-0000-00000000000b",
-        expression: "false",
-        ..PEIM
-    },
-];
+const A_PRIORI: Text<'static> = Text {
+    head: b"volume 4096
+file freeform pei-apriori
+raw 000000000000000000000000000000ff 0000000000000000000000000000000b 0000000000000000000000000000000b 010203
+file peim 00000000-0000-0000-0000-00000000000a
+file peim 00000000-0000-0000-0000-00000000000b
+depex pei false
+end
+",
+    ..NOTHING
+};
 
 const A_PRIORI_TEXT: Text<'static> = Text {
     head: b"report 0\npei start 0 00000000-0000-0000-0000-00000000000b apriori\nend Success\npei start 0 00000000-0000-0000-0000-00000000000a absent\nend Success\npei stop\nppis 0\ncallbacks 0\ndispatches 0\npendings 0\nhobs 1\nhob 1 090000000000000000000180000000000000008000000000000001800000000040000080000000003800008000000000\nhandles 0\nresult NoMemory\n",
-    turn: &[],
-    turns: 0,
-    tail: &[],
+    ..NOTHING
 };
 
 const EXPRESSIONS_BOOT_TEXT: Text<'static> = Text {
     head: b"report 0\npei start 0 00000000-0000-0000-0000-00000000000b true\nend Success\npei stop\nwaiting 0 00000000-0000-0000-0000-00000000000a malformed\nwaiting 0 00000000-0000-0000-0000-00000000000c malformed\nppis 0\ncallbacks 0\ndispatches 0\npendings 0\nhobs 1\nhob 1 090000000000000000000180000000000000008000000000000001800000000040000080000000003800008000000000\nhandles 0\nresult NoMemory\n",
-    turn: &[],
-    turns: 0,
-    tail: &[],
+    ..NOTHING
 };
 
 // The first PEIM registers for shadow and gives memory, but not when it was registered before.
-const SHADOW: [Module<'static>; 2] = [
-    Module {
-        name: "00000000-0000-0000-0000-00000000000a",
-        script: "phase pei
+const SHADOW: Text<'static> = Text {
+    head: b"volume 4096
+file peim 00000000-0000-0000-0000-00000000000a
+script pei
 block
 shadow
 skip_if 1 3
@@ -83,48 +62,49 @@ set r0 0x40000000
 set r1 0x100000
 memory r0 r1
 ret Success
+end
+file peim 00000000-0000-0000-0000-00000000000b
+end
 ",
-        ..PEIM
-    },
-    Module {
-        name: "00000000-0000-0000-0000-00000000000b",
-        ..PEIM
-    },
-];
+    ..NOTHING
+};
 
 const SHADOW_TEXT: Text<'static> = Text {
     head: b"report 0\npei start 0 00000000-0000-0000-0000-00000000000a absent\ncall shadow Success\ncall memory Success\nend Success\nmigrate 0x80000000 0x40000000\ncore install Success\npei start 0 00000000-0000-0000-0000-00000000000b absent\nend Success\npei start 0 00000000-0000-0000-0000-00000000000a shadow\ncall shadow AlreadyStarted\nend Success\npei stop\nppis 1\nppi core f894643d-c449-42d1-8ea8-85bdd8c65bde 0x0\ncallbacks 0\ndispatches 0\npendings 0\nhobs 3\nhob 1 090000000000000000001040000000000000004000000000000010400000000098000040000000009000004000000000\nhob 7 1000008000000000580000400000000000000000000000003d6494f849c4d1428ea885bdd8c65bde\nhob 7 000000000000000040000040000000000000000000000000ffffffff00000000\nhandles 0\nresult NoIpl\n",
-    turn: &[],
-    turns: 0,
-    tail: &[],
+    ..NOTHING
 };
 
 // A PEIM registers for shadow, and none gives memory.
-const SHADOW_WITHOUT_MEMORY: [Module<'static>; 1] = [Module {
-    name: "00000000-0000-0000-0000-00000000000a",
-    script: "phase pei
+const SHADOW_WITHOUT_MEMORY: Text<'static> = Text {
+    head: b"volume 4096
+file peim 00000000-0000-0000-0000-00000000000a
+script pei
 block
 shadow
 ret Success
+end
+end
 ",
-    ..PEIM
-}];
+    ..NOTHING
+};
 
 const SHADOW_WITHOUT_MEMORY_TEXT: Text<'static> = Text {
     head: b"report 0\npei start 0 00000000-0000-0000-0000-00000000000a absent\ncall shadow Success\nend Success\npei stop\nwaiting 0 00000000-0000-0000-0000-00000000000a shadow\nppis 0\ncallbacks 0\ndispatches 0\npendings 0\nhobs 1\nhob 1 090000000000000000000180000000000000008000000000000001800000000040000080000000003800008000000000\nhandles 0\nresult NoMemory\n",
-    turn: &[],
-    turns: 0,
-    tail: &[],
+    ..NOTHING
 };
 
 // No driver.
-const HANDED_OFF: [Module<'static>; 1] = [HAND_OFF];
+const HANDED_OFF: Text<'static> = Text {
+    head: b"volume 4096\n",
+    turn: HAND_OFF,
+    turns: 1,
+    tail: b"end
+",
+};
 
 const HANDOFF_TEXT: Text<'static> = Text {
     head: b"report 0\npei start 0 00000000-0000-0000-0000-00000000000f absent\ncall memory Success\ncall desc Success 0x80000040\ncall install Success\ncall hob Success 0x80000090\nend Success\nmigrate 0x80000000 0x40000000\ncore install Success\npei stop\nhandoff 0x40000000\ndxe volume 0\ndxe stop\nppis 2\nppi 0 0ae8ce5d-e448-4437-a8d7-ebf5f194f731 0x0\nppi core f894643d-c449-42d1-8ea8-85bdd8c65bde 0x0\ncallbacks 0\ndispatches 0\npendings 0\nhobs 6\nhob 1 090000000000000000001040000000000000004000000000000010400000000008010040000000000001004000000000\nhob 7 1000008000000000580000400000000000000000000000005dcee80a48e43744a8d7ebf5f194f731\nhob 7 e000004000000000400000400000000000000000000000000000000000000000\nhob 5 0000f0ff000000000010000000000000\nhob 7 1000008000000000c80000400000000000000000000000003d6494f849c4d1428ea885bdd8c65bde\nhob 7 0000000000000000b0000040000000000000000000000000ffffffff00000000\nhandles 0\nresult Done\n",
-    turn: &[],
-    turns: 0,
-    tail: &[],
+    ..NOTHING
 };
 
 /// Which PEIM starts next, and the hand-off: each boot, its text and its status.
@@ -133,7 +113,7 @@ pub(super) static CHOICES: [(Case<'static>, Text<'static>, Status); 6] = [
     (
         Case {
             images: &[Image {
-                modules: &ROTATION,
+                volume: ROTATION,
                 ..VOLUME
             }],
             ..SMALLEST
@@ -145,7 +125,7 @@ pub(super) static CHOICES: [(Case<'static>, Text<'static>, Status); 6] = [
     (
         Case {
             images: &[Image {
-                modules: &A_PRIORI,
+                volume: A_PRIORI,
                 ..VOLUME
             }],
             ..SMALLEST
@@ -157,7 +137,7 @@ pub(super) static CHOICES: [(Case<'static>, Text<'static>, Status); 6] = [
     (
         Case {
             images: &[Image {
-                modules: &EXPRESSIONS,
+                volume: EXPRESSIONS,
                 ..VOLUME
             }],
             ..SMALLEST
@@ -169,7 +149,7 @@ pub(super) static CHOICES: [(Case<'static>, Text<'static>, Status); 6] = [
     (
         Case {
             images: &[Image {
-                modules: &SHADOW,
+                volume: SHADOW,
                 ..VOLUME
             }],
             ..SMALLEST
@@ -181,7 +161,7 @@ pub(super) static CHOICES: [(Case<'static>, Text<'static>, Status); 6] = [
     (
         Case {
             images: &[Image {
-                modules: &SHADOW_WITHOUT_MEMORY,
+                volume: SHADOW_WITHOUT_MEMORY,
                 ..VOLUME
             }],
             ..SMALLEST
@@ -193,7 +173,7 @@ pub(super) static CHOICES: [(Case<'static>, Text<'static>, Status); 6] = [
     (
         Case {
             images: &[Image {
-                modules: &HANDED_OFF,
+                volume: HANDED_OFF,
                 ..VOLUME
             }],
             ..SMALLEST

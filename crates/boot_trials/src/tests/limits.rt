@@ -1,13 +1,13 @@
 // How much may stand, run and be taken: volumes, what is printed of their boots, and the status.
-use super::modules::{Module, PEIM};
-use super::text::Text;
+use super::text::{NOTHING, Text};
 use super::{Case, Image, SMALLEST, VOLUME};
 use boot_core::Status;
 
 // A callback that reinstalls the PPI that it waits for.
-const CALLBACK_AGAIN: [Module<'static>; 1] = [Module {
-    name: "00000000-0000-0000-0000-00000000000a",
-    script: "phase pei
+const CALLBACK_AGAIN: Text<'static> = Text {
+    head: b"volume 4096
+file peim 00000000-0000-0000-0000-00000000000a
+script pei
 block
 set r0 0x0
 desc r1 callback 00000000-0000-0000-0000-000000000001 block 1
@@ -19,9 +19,11 @@ block
 locate r2 r3 00000000-0000-0000-0000-000000000001 0
 reinstall r2 r2
 ret Success
+end
+end
 ",
-    ..PEIM
-}];
+    ..NOTHING
+};
 
 const FRAMES_FUEL_50_PLAN: &[u8; 80] =
     b"temp 0x80000000 0x10000\nram 0x40000000 0x4000000\nvolume 0xfff00000 a.fv\nfuel 50\n";
@@ -54,17 +56,20 @@ const FRAMES_FUEL_1000000_TEXT: Text<'static> = Text {
 };
 
 // A pool that fills the heap, one of 8 bytes, and one of 0xfff8.
-const ROOM: [Module<'static>; 1] = [Module {
-    name: "00000000-0000-0000-0000-00000000000a",
-    script: "phase pei
+const ROOM: Text<'static> = Text {
+    head: b"volume 4096
+file peim 00000000-0000-0000-0000-00000000000a
+script pei
 block
 pool r0 0x3fb8
 pool r1 0x8
 pool r2 0xfff8
 ret OutOfResources
+end
+end
 ",
-    ..PEIM
-}];
+    ..NOTHING
+};
 
 const ROOM_PLAN: &[u8; 71] =
     b"temp 0x80000000 0x4000\nram 0x40000000 0x4000000\nvolume 0xfff00000 a.fv\n";
@@ -77,26 +82,27 @@ const ROOM_TEXT: Text<'static> = Text {
 };
 
 // Two pages, and one page twice, of a region of one page.
-const ONE_PAGE: [Module<'static>; 1] = [Module {
-    name: "00000000-0000-0000-0000-00000000000a",
-    script: "phase pei
+const ONE_PAGE: Text<'static> = Text {
+    head: b"volume 4096
+file peim 00000000-0000-0000-0000-00000000000a
+script pei
 block
 pages r0 4 0x2
 pages r0 4 0x1
 pages r0 4 0x1
 ret Success
+end
+end
 ",
-    ..PEIM
-}];
+    ..NOTHING
+};
 
 const ONE_PAGE_PLAN: &[u8; 85] =
     b"temp 0x80000000 0x10000\nram 0x40000000 0x4000000\nvolume 0xfff00000 a.fv\npages 0x1000\n";
 
 const ONE_PAGE_TEXT: Text<'static> = Text {
     head: b"report 0\npei start 0 00000000-0000-0000-0000-00000000000a absent\ncall pages OutOfResources\ncall pages Success 0x8000f000\ncall pages OutOfResources\nend Success\npei stop\nppis 0\ncallbacks 0\ndispatches 0\npendings 0\nhobs 2\nhob 1 090000000000000000f0008000000000000000800000000000f000800000000070000080000000006800008000000000\nhob 2 0000000000000000000000000000000000f000800000000000100000000000000400000000000000\nhandles 0\nresult NoMemory\n",
-    turn: &[],
-    turns: 0,
-    tail: &[],
+    ..NOTHING
 };
 
 /// How much may stand, run and be taken: each boot, its text and its status.
@@ -106,7 +112,7 @@ pub(super) static FRAMES: [(Case<'static>, Text<'static>, Status); 5] = [
         Case {
             plan: FRAMES_FUEL_50_PLAN,
             images: &[Image {
-                modules: &CALLBACK_AGAIN,
+                volume: CALLBACK_AGAIN,
                 ..VOLUME
             }],
             ..SMALLEST
@@ -119,7 +125,7 @@ pub(super) static FRAMES: [(Case<'static>, Text<'static>, Status); 5] = [
         Case {
             plan: FRAMES_FUEL_131_PLAN,
             images: &[Image {
-                modules: &CALLBACK_AGAIN,
+                volume: CALLBACK_AGAIN,
                 ..VOLUME
             }],
             ..SMALLEST
@@ -132,7 +138,7 @@ pub(super) static FRAMES: [(Case<'static>, Text<'static>, Status); 5] = [
         Case {
             plan: FRAMES_FUEL_1000000_PLAN,
             images: &[Image {
-                modules: &CALLBACK_AGAIN,
+                volume: CALLBACK_AGAIN,
                 ..VOLUME
             }],
             ..SMALLEST
@@ -145,7 +151,7 @@ pub(super) static FRAMES: [(Case<'static>, Text<'static>, Status); 5] = [
         Case {
             plan: ROOM_PLAN,
             images: &[Image {
-                modules: &ROOM,
+                volume: ROOM,
                 ..VOLUME
             }],
             ..SMALLEST
@@ -158,7 +164,7 @@ pub(super) static FRAMES: [(Case<'static>, Text<'static>, Status); 5] = [
         Case {
             plan: ONE_PAGE_PLAN,
             images: &[Image {
-                modules: &ONE_PAGE,
+                volume: ONE_PAGE,
                 ..VOLUME
             }],
             ..SMALLEST
