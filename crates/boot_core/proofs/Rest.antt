@@ -1,17 +1,12 @@
 -- Lines that are put one after the other, seen from what is left to put.
-use Rattle.std.proofs.Common.{◌≡◌, ℕ, List, [], ◌++◌, Option, sym, ◌∙◌, ap, append_assoc, subst}
-use Rattle.std.proofs.lemmas.List.{append-nil}
+use Rattle.std.proofs.Common.{◌≡◌, ℕ, List, ◌++◌, Option, sym, ◌∙◌, ap, append_assoc, subst}
 use Rattle.std.specs.Io.KnownBytes.{Appends}
 use Rattle.boot_io.specs.Sink.{AppendsPart}
-use Rattle.boot_io.proofs.PutsLaws.{appends_then, appends_none, part_then, part_of_more}
+use Rattle.boot_io.proofs.PutsLaws.{appends_then, part_then, part_of_more}
 
 -- what was put, and what is left, make the whole
 abbrev pub Leaves : Option (List ℕ) → Option (List ℕ) → List ℕ → List ℕ → Type 0
 Leaves old now rest whole = (done : List ℕ) × Appends old now done × (done ++ rest ≡ whole)
-
--- nothing was put
-pub leaves_all : (old : Option (List ℕ)) (whole rest : List ℕ) → rest ≡ whole → Leaves old old rest whole
-leaves_all old whole rest same = ([], appends_none old, same)
 
 -- one text more
 pub leaves_less : (old mid now : Option (List ℕ)) (text rest left whole : List ℕ) → rest ≡ text ++ left → Leaves old mid rest whole → Appends mid now text → Leaves old now left whole
@@ -23,9 +18,3 @@ pub leaves_part : (old mid now : Option (List ℕ)) (text rest left whole : List
 leaves_part old mid now text rest left whole is so put =
     let P : List ℕ → Type 0 = λ t. AppendsPart old now t in
     subst P (append_assoc so.0 text left ∙ ap (λ t. so.0 ++ t) (sym is) ∙ so.2) (part_of_more old now (so.0 ++ text) left (part_then old mid now so.0 text so.1 put))
-
--- nothing is left
-pub leaves_nothing : (old now : Option (List ℕ)) (rest whole : List ℕ) → rest ≡ [] → Leaves old now rest whole → Appends old now whole
-leaves_nothing old now rest whole none so =
-    let P : List ℕ → Type 0 = λ t. Appends old now t in
-    subst P (sym (append-nil so.0) ∙ ap (λ t. so.0 ++ t) (sym none) ∙ so.2) so.1

@@ -3,11 +3,11 @@ ghost use Rattle.std.specs.Prelude.{◌≡◌, ◌≤◌, length};
 ghost use Rattle.boot_io.specs.Sink.{Puts, SinkFaultsAfter};
 ghost use Rattle.mod_catalog.specs.declared.limits.TheConstants.{MOST_MODULES, MOST_VOLUMES};
 ghost use Rattle.boot_model.specs.Audit.{expression_word, part_word, part_rank};
-ghost use Rattle.boot_core.specs.AuditText.{audit_text, volume_text, module_text, text_in, members_text, entry_text, entries_text, done_line};
+ghost use Rattle.boot_core.specs.AuditText.{audit_text, volume_text, module_text, text_in, members_text, entry_text, entries_text};
 
+use crate::putting::put_made;
 use boot_io::{Sink, SinkFault};
 use boot_model::{ExpressionWord, Line, RunEnd};
-use boot_trace::put;
 use depex_code::Depex;
 use mod_catalog::{Catalog, Module, Part, PartExpr, VolumeEntry};
 
@@ -49,9 +49,9 @@ fn put_volume<S: Sink>(sink: &mut S, number: u32, entry: &VolumeEntry) -> Result
     ensures text { Puts result (S.text sink.old) (S.text sink.new) (volume_text (record { number = number; item = entry.now })) }
     ensures cause { SinkFaultsAfter result (S.faults sink.old) (S.faults sink.new) }
 {
-    put(
+    put_made(
         sink,
-        &Line::Volume {
+        Line::Volume {
             volume: number,
             base: entry.base,
             len: entry.len,
@@ -66,9 +66,9 @@ fn put_module<S: Sink>(sink: &mut S, number: u32, member: &Module) -> Result<(),
     ensures text { Puts result (S.text sink.old) (S.text sink.new) (module_text (record { number = number; item = member.now })) }
     ensures cause { SinkFaultsAfter result (S.faults sink.old) (S.faults sink.new) }
 {
-    put(
+    put_made(
         sink,
-        &Line::Module {
+        Line::Module {
             by: number,
             volume: member.volume,
             name: member.name,
@@ -146,15 +146,6 @@ fn put_entries<S: Sink>(
     Ok(())
 }
 
-#[tactic(auto, unfolding(crate::specs::AuditText::done_line))]
-fn put_done<S: Sink>(sink: &mut S) -> Result<(), SinkFault>
-    ensures text { Puts result (S.text sink.old) (S.text sink.new) done_line }
-    ensures cause { SinkFaultsAfter result (S.faults sink.old) (S.faults sink.new) }
-{
-    let outcome = RunEnd::Done;
-    put(sink, &Line::Result { outcome })
-}
-
 /// The text of an audit.
 pub(crate) fn put_audit<S: Sink>(sink: &mut S, catalog: &Catalog) -> Result<(), SinkFault>
     requires volumes { length catalog.now.volumes ≤ MOST_VOLUMES }
@@ -162,8 +153,7 @@ pub(crate) fn put_audit<S: Sink>(sink: &mut S, catalog: &Catalog) -> Result<(), 
     ensures text { Puts result (S.text sink.old) (S.text sink.new) (audit_text catalog.now) }
     ensures cause { SinkFaultsAfter result (S.faults sink.old) (S.faults sink.new) }
 {
-    match put_entries(sink, catalog.volumes.as_slice(), catalog.modules.as_slice()) {
-        Ok(()) => put_done(sink),
-        Err(SinkFault) => Err(SinkFault),
-    }
+    put_entries(sink, catalog.volumes.as_slice(), catalog.modules.as_slice())?;
+    let outcome = RunEnd::Done;
+    put_made(sink, Line::Result { outcome })
 }

@@ -1,5 +1,5 @@
 // The words of a command line.
-ghost use Rattle.std.specs.Prelude.{◌≡◌, ◌≢◌, ◌↔◌, ℕ, List, [], ◌∷◌, codes, decimal, IfSome, IfNone, IsTrue};
+ghost use Rattle.std.specs.Prelude.{◌≡◌, ◌≢◌, ◌↔◌, ℕ, List, [], ◌∷◌, codes, IfSome, IfNone, IsTrue};
 ghost use Rattle.boot_core.specs.CommandLine.{AskFor, AskForGenerated, IsCount, NameNoPlan, verb_of};
 ghost use Rattle.boot_io.specs.Words.{words_of};
 
@@ -47,21 +47,14 @@ pub(crate) fn asked_plan(words: &[String]) -> Option<(Command, &str)>
     }
 }
 
-// Whether a word is a number in shortest decimal digits.
-fn is_spelled(word: &[u8], number: u32) -> bool
-    ensures { IsTrue result ↔ (word.now ≡ decimal number) }
+// Whether a word is this number of modules of a generated volume, in shortest decimal digits.
+fn is_count(word: &[u8], number: u32) -> bool
+    ensures { IsTrue result ↔ IsCount word.now number }
 {
     let mut digits = [0u8; 20];
     let len = decimal(u64::from(number), &mut digits);
     let (text, _) = digits.split_at(len);
-    text == word
-}
-
-// Whether a word is this number of modules of a generated volume.
-fn is_count(word: &[u8], number: u32) -> bool
-    ensures { IsTrue result ↔ IsCount word.now number }
-{
-    number >= 1 && number <= MOST_MODULES && is_spelled(word, number)
+    number >= 1 && number <= MOST_MODULES && text == word
 }
 
 // The number of modules of a generated volume that a word is.

@@ -1,7 +1,7 @@
 // What the words and the files come to, before anything is put.
 ghost use Rattle.std.specs.Prelude.{◌≡◌, IfOk};
 ghost use Rattle.boot_io.specs.Words.{words_of};
-ghost use Rattle.boot_core.specs.Deciding.{CanBeDone, IsAsked, IsRefused, IsSoundJob, Names, asked_of};
+ghost use Rattle.boot_core.specs.Deciding.{CanBeDone, IsAsked, IsRefused, Names};
 ghost use Rattle.boot_core.specs.Reading.{Reads};
 
 use crate::command_line::{Command, asked_number, asked_plan};
@@ -21,18 +21,6 @@ pub(crate) enum Asked {
     Generate(u32),
 }
 
-// What a command asks for of a job.
-fn asked_of(command: Command, job: Job) -> Asked
-    requires { IsSoundJob job }
-    ensures asked { result ≡ asked_of command job }
-    ensures sound { CanBeDone result }
-{
-    match command {
-        Command::Boot => Asked::Boot(job),
-        Command::Audit => Asked::Audit(job),
-    }
-}
-
 /// What the words ask for, with the plan and the images that they lead to. Or the first refusal on that way: of the words, or of a file.
 pub(crate) fn decide<F: Files>(
     alloc: Global,
@@ -46,7 +34,10 @@ pub(crate) fn decide<F: Files>(
 {
     if let Some((command, plan)) = asked_plan(words) {
         let job = read_job(alloc, plan, files)?;
-        return Ok(asked_of(command, job));
+        return match command {
+            Command::Boot => Ok(Asked::Boot(job)),
+            Command::Audit => Ok(Asked::Audit(job)),
+        };
     }
     match asked_number(words) {
         Some(number) => Ok(Asked::Generate(number)),

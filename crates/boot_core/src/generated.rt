@@ -1,16 +1,12 @@
 // The boot of a generated volume.
-ghost use Rattle.std.specs.Prelude.{◌≡◌, ◌≤◌, ℕ, None, IfOk, length};
+ghost use Rattle.std.specs.Prelude.{◌≡◌, ◌≤◌, None, IfOk, length};
 ghost use Rattle.pi_base.specs.Field.{AreBytes};
 ghost use Rattle.boot_core.specs.Examining.{IsExamined, IsJob};
 ghost use Rattle.boot_core.specs.GeneratedOutcome.{GeneratedOutcome, generated_images, generated_plan};
 ghost use Rattle.boot_core.specs.Outcome.{Ends};
-ghost use Rattle.boot_core.specs.FirstBoot.{IsRun};
 ghost use Rattle.boot_core.specs.Summing.{IsSummary, IsSummaryBy, SumsUp};
 ghost use Rattle.fv_volume.specs.Generated.{generated};
-ghost use Rattle.mod_catalog.specs.declared.catalogue.Catalog.{Catalog as Cat};
 ghost use Rattle.mod_catalog.specs.WellFormed.{IsWellFormed};
-ghost use Rattle.store_model.specs.Service.{Present};
-ghost use Rattle.store_model.specs.StoreCall.{Anything};
 ghost use Rattle.store_model.specs.StoreState.{Board, empty_store};
 
 use crate::answer::answer;
@@ -21,7 +17,7 @@ use crate::plan_files::NoJob;
 use crate::refusal::refuse;
 use crate::status::{Status, status_of};
 use crate::summary::{SummaryLine, put_summary, summary_of};
-use crate::whole::{Ran, boot_store};
+use crate::whole::boot_store;
 use boot_io::{Halt, Sink};
 use boot_model::RunEnd;
 use boot_plan::{Plan, PlanVolume};
@@ -96,31 +92,11 @@ fn generated_images(alloc: Global, n: u32) -> Result<Seq<Seq<u8>>, OutOfMemory>
     }
 }
 
-// The plan of a generated volume of n modules, and its images.
-fn job(alloc: Global, n: u32) -> Result<(Plan, Seq<Seq<u8>>), OutOfMemory>
-    requires some { 1 ≤ n }
-    requires most { n ≤ MOST_MODULES }
-    ensures { IfOk result (λ job. IsJob n job.0 job.1) }
-{
-    Ok((generated_plan(alloc)?, generated_images(alloc, n)?))
-}
 // The summary of a boot of a generated volume, and how the boot ended.
 #[derive(Drop)]
 struct Summary {
     lines: [SummaryLine; 8],
     end: RunEnd,
-}
-
-// The summary of a boot of n modules that came to its end.
-fn summary_by<M: PeiStore + Drop>(n: u32, ran: &Ran<M>) -> Summary
-    requires state { Present (M.stands_for ran.now.pei.store) Anything }
-    ensures { (board : Board) (catalog : Cat) (fuel : ℕ) → IsRun M.stands_for board catalog fuel ran.now
-        → IsSummaryBy n board catalog fuel result }
-{
-    Summary {
-        lines: summary_of(n, &ran.pei, ran.end),
-        end: ran.end,
-    }
 }
 
 // Boots n modules over a store that is as it was made, and sums that boot up.
@@ -137,7 +113,10 @@ fn sum_up_on<M: PeiStore + Drop>(
     ensures { (board : Board) → M.stands_for store (empty_store board) → IfOk result (IsSummaryBy n board catalog.now fuel) }
 {
     match boot_store(alloc, store, catalog, fuel, &mut Nowhere) {
-        Ok(ran) => Ok(summary_by(n, &ran)),
+        Ok(ran) => Ok(Summary {
+            lines: summary_of(n, &ran.pei, ran.end),
+            end: ran.end,
+        }),
         Err(Halt::Sink) => unreachable!(),
         Err(Halt::Memory) => Err(OutOfMemory),
     }
@@ -170,7 +149,9 @@ fn sum_up_examined(
     ensures { SumsUp n result }
 {
     let catalog = examine(alloc, plan, images.as_slice())?;
-    let summary = sum_up(alloc, n, plan, &catalog, images)?;
+    let summed = sum_up(alloc, n, plan, &catalog, images);
+    drop(catalog);
+    let summary = summed?;
     Ok(summary)
 }
 
@@ -180,7 +161,8 @@ fn summarize(alloc: Global, n: u32) -> Result<Summary, NoJob>
     requires most { n ≤ MOST_MODULES }
     ensures { SumsUp n result }
 {
-    let (plan, images) = job(alloc, n)?;
+    let plan = generated_plan(alloc)?;
+    let images = generated_images(alloc, n)?;
     sum_up_examined(alloc, n, &plan, images)
 }
 

@@ -10,7 +10,7 @@ ghost use Rattle.store_model.specs.StateFacts.{IsBoard};
 ghost use Rattle.store_model.specs.StoreState.{Board, empty_store};
 ghost use Rattle.store_model.specs.StoreCall.{Anything};
 ghost use Rattle.boot_core.specs.Examining.{AreRefused};
-ghost use Rattle.boot_core.specs.HandOff.{result_of, HandsOn, IsHandOff};
+ghost use Rattle.boot_core.specs.HandOff.{HandsOn, IsHandOff};
 
 use crate::images::examine;
 use crate::nowhere::Nowhere;
@@ -35,28 +35,18 @@ pub enum HandOff {
     Ended(RunEnd),
 }
 
-// The result of a boot whose PEI ended so, where it handed nothing on.
-fn result_of(end: PeiEnd) -> Option<RunEnd>
-    ensures { result ≡ result_of end }
-{
-    match end {
-        PeiEnd::Handoff => None,
-        PeiEnd::NoMemory => Some(RunEnd::NoMemory),
-        PeiEnd::NoIpl => Some(RunEnd::NoIpl),
-        PeiEnd::Spent => Some(RunEnd::Spent),
-        PeiEnd::Deep => Some(RunEnd::Deep),
-    }
-}
-
 // What a PEI that has ended hands on.
 fn handed_by<M: PeiStore + Drop>(alloc: Global, pei: &Ended<M>) -> Result<HandOff, OutOfMemory>
     requires state { Present (M.stands_for pei.now.store) Anything }
     ensures { IfOk result
         (λ handed. (m : PeiMachine) → M.stands_for pei.now.store m.store → m.ended ≡ Some pei.now.end → HandsOn m handed) }
 {
-    match result_of(pei.end) {
-        Some(end) => Ok(HandOff::Ended(end)),
-        None => Ok(HandOff::Hobs(hob_list(alloc, &pei.store)?)),
+    match pei.end {
+        PeiEnd::Handoff => Ok(HandOff::Hobs(hob_list(alloc, &pei.store)?)),
+        PeiEnd::NoMemory => Ok(HandOff::Ended(RunEnd::NoMemory)),
+        PeiEnd::NoIpl => Ok(HandOff::Ended(RunEnd::NoIpl)),
+        PeiEnd::Spent => Ok(HandOff::Ended(RunEnd::Spent)),
+        PeiEnd::Deep => Ok(HandOff::Ended(RunEnd::Deep)),
     }
 }
 
@@ -104,5 +94,7 @@ pub fn hand_off(alloc: Global, plan: &Plan, images: Seq<Seq<u8>>) -> Result<Hand
     ensures refused { IfErr result (AreRefused plan.now images) }
 {
     let catalog = examine(alloc, plan, images.as_slice())?;
-    Ok(run_pei(alloc, plan, &catalog, images)?)
+    let handed = run_pei(alloc, plan, &catalog, images);
+    drop(catalog);
+    Ok(handed?)
 }

@@ -77,7 +77,11 @@ pub fn boot_images<S: Sink>(
 {
     one_catalogue();
     match examine(alloc, plan, images.as_slice()) {
-        Ok(catalog) => boot_catalog(alloc, plan, &catalog, images, sink),
+        Ok(catalog) => {
+            let booted = boot_catalog(alloc, plan, &catalog, images, sink);
+            drop(catalog);
+            booted
+        }
         Err(no_catalog) => Booted {
             status: refuse(no_catalog, sink),
             store: None,
@@ -107,6 +111,7 @@ pub(crate) fn audit_images<S: Sink>(
     match examine(alloc, plan, images) {
         Ok(catalog) => {
             let put = put_audit(sink, &catalog);
+            drop(catalog);
             answer(put, Status::Done)
         }
         Err(no_catalog) => refuse(no_catalog, sink),

@@ -9,9 +9,10 @@ ghost use Rattle.mod_catalog.specs.declared.catalogue.Catalog.{Catalog};
 ghost use Rattle.pei_dispatch.specs.Ends.{IsLeft};
 ghost use Rattle.boot_core.specs.GeneratedOutcome.{index_text, module_index, summary_line_text, summary_lines, summary_text};
 
+use crate::putting::put_made;
 use boot_io::{Sink, SinkFault, put_line};
 use boot_model::{Line, RunEnd};
-use boot_trace::{count_hobs, count_ppis, put};
+use boot_trace::{count_hobs, count_ppis};
 use pei_dispatch::Ended;
 use pi_base::decimal;
 use store_model::PeiStore;
@@ -108,7 +109,7 @@ fn put_summary_line<S: Sink>(sink: &mut S, line: SummaryLine) -> Result<(), Sink
         SummaryLine::Ppis(count) => put_count(sink, b"ppis", u64::from(count)),
         SummaryLine::Hobs(count) => put_count(sink, b"hobs", u64::from(count)),
         SummaryLine::Heap(len) => put_count(sink, b"heap", len),
-        SummaryLine::Result(outcome) => put(sink, &Line::Result { outcome }),
+        SummaryLine::Result(outcome) => put_made(sink, Line::Result { outcome }),
     }
 }
 

@@ -6,7 +6,7 @@ use crate::sink::SinkFault;
 use pi_base::OutOfMemory;
 
 /// Why a boot that runs is given up: what it has printed is then the beginning of its text.
-#[derive(Clone, Copy, Debug, PartialEq, Eq)]
+#[derive(Clone, Copy, Debug)]
 pub enum Halt {
     /// A line could not be put; the sink has counted it.
     Sink,

@@ -1,5 +1,5 @@
 -- Groups unfold: a chain of companions over an eligible driver is no longer than the drivers that wait, so the depth that the definition counts always suffices.
-use Rattle.std.proofs.Common.{◌≡◌, ℕ, zero, suc, ◌+◌, ◌≤◌, ◌==◌, true, false, ◌||◌, List, [], ◌∷◌, ◌++◌, None, refl, sym, subst, ap, ◌∙◌, length, arith, lit≤, inl, inr, append_assoc}
+use Rattle.std.proofs.Common.{◌≡◌, ℕ, zero, suc, ◌+◌, ◌≤◌, ◌==◌, true, false, ◌||◌, List, [], ◌∷◌, ◌++◌, None, refl, sym, subst, ap, ◌∙◌, length, arith, lit≤, inl, inr}
 use Rattle.std.specs.Prelude.{◌≢◌, flat_map}
 use Rattle.std.proofs.lemmas.Bool.Decides.{nat_tests}
 use Rattle.pi_base.specs.Lists.{Each}
@@ -134,11 +134,6 @@ groups_unfold catalog m root x is over = record {
   befores = each_more (Higher catalog m root over.0) (IsOver catalog m root) (befores catalog m x) (λ y h. (suc over.0, h)) (befores_higher catalog m root over.0 x over.1);
   afters = each_more (Higher catalog m root over.0) (IsOver catalog m root) (afters catalog m x) (λ y h. (suc over.0, h)) (afters_higher catalog m root over.0 x over.1);
 }
-
--- the same with what comes behind the group, as a loop with a stack goes on
-pub unfolds_before : (catalog : Catalog) (m : DxeMachine) (root x : ℕ) (rest : List ℕ) → Unfolds catalog m root x
-    → companion_group catalog m x ++ rest ≡ flat_map (companion_group catalog m) (befores catalog m x) ++ x ∷ (flat_map (companion_group catalog m) (afters catalog m x) ++ rest)
-unfolds_before catalog m root x rest u = ap (λ l. l ++ rest) u.group ∙ append_assoc (flat_map (companion_group catalog m) (befores catalog m x)) (x ∷ flat_map (companion_group catalog m) (afters catalog m x)) rest
 
 -- a group has no more drivers than wait
 pub groups_are_small : GroupsAreSmall

@@ -31,7 +31,7 @@ pub trait Choice<S> {
 }
 
 /// What a phase came to: its end, or the start of a module that the choice does not let.
-#[derive(Clone, Copy, Debug, PartialEq, Eq)]
+#[derive(Clone, Copy, Debug)]
 pub enum Reached<E> {
     /// Its end.
     End(E),

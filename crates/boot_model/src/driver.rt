@@ -4,7 +4,7 @@ use crate::licence::Licence;
 use pi_base::Guid;
 
 /// The notifications of a protocol that a call has still to visit, with the interface and the handle of the call.
-#[derive(Clone, Copy, PartialEq, Eq)]
+#[derive(Clone, Copy)]
 pub struct ProtocolSweep {
     pub guid: Guid,
     pub interface: u64,
@@ -19,7 +19,7 @@ pub struct ProtocolSweep {
 pub type DriverFrame = Frame<ProtocolSweep>;
 
 /// A notification of a protocol: what it waits for, and the block of a module that it runs (PI 1.8, volume 2, `RegisterProtocolNotify()`).
-#[derive(Clone, Copy, PartialEq, Eq)]
+#[derive(Clone, Copy)]
 pub struct ProtocolNote {
     pub guid: Guid,
     /// The number of the module.
@@ -28,7 +28,7 @@ pub struct ProtocolNote {
 }
 
 /// A driver that is to start, and why.
-#[derive(Clone, Copy, PartialEq, Eq)]
+#[derive(Clone, Copy)]
 pub struct Scheduled {
     /// The number of the module.
     pub module_number: u32,

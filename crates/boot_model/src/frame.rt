@@ -23,7 +23,7 @@ pub enum Register {
 }
 
 /// A script that runs: where it stands, and what it holds. `W` is what a call of its phase has still to visit.
-#[derive(Clone, Copy, PartialEq, Eq)]
+#[derive(Clone, Copy)]
 pub struct Frame<W> {
     /// The number of the module.
     pub module_number: u32,

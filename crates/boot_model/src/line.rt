@@ -224,7 +224,7 @@ pub enum Extra {
 }
 
 /// Why a module waits after a stop.
-#[derive(Clone, Copy, PartialEq, Eq)]
+#[derive(Clone, Copy)]
 pub enum Reason {
     /// Its expression cannot be read.
     Malformed,
@@ -243,7 +243,7 @@ pub enum Reason {
 }
 
 /// How a run ends.
-#[derive(Clone, Copy, PartialEq, Eq)]
+#[derive(Clone, Copy)]
 pub enum RunEnd {
     /// Both phases came to their end.
     Done,
@@ -258,7 +258,7 @@ pub enum RunEnd {
 }
 
 /// The dependency expression of a part, as an audit shows it.
-#[derive(Clone, Copy, PartialEq, Eq)]
+#[derive(Clone, Copy)]
 pub enum ExpressionWord {
     /// The module has no such part.
     NoPart,

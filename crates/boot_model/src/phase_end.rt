@@ -1,7 +1,7 @@
 //! How the phases of a boot end.
 
 /// How PEI ends.
-#[derive(Clone, Copy, PartialEq, Eq)]
+#[derive(Clone, Copy)]
 pub enum PeiEnd {
     /// Memory has moved and the DXE IPL is installed: PEI hands off to it.
     Handoff,
@@ -16,7 +16,7 @@ pub enum PeiEnd {
 }
 
 /// How DXE ends.
-#[derive(Clone, Copy, PartialEq, Eq)]
+#[derive(Clone, Copy)]
 pub enum DxeEnd {
     /// No driver is scheduled, and none that waits may start.
     Done,

@@ -26,7 +26,7 @@ pub enum PlanCause {
 }
 
 /// The first fault of a plan.
-#[derive(Clone, Copy, Debug, PartialEq, Eq)]
+#[derive(Clone, Copy, Debug)]
 pub struct PlanFault {
     /// The line that has it, from 1; 0 where memory is wanting.
     pub line: u32,

@@ -4,7 +4,7 @@ ghost use Rattle.std.specs.Option.{option_to_list};
 ghost use Rattle.boot_plan.specs.Said.{Said};
 ghost use Rattle.boot_plan.specs.Draft.{Keeps, IsInRange};
 ghost use Rattle.boot_plan.specs.Range.{IsPlanInRange};
-ghost use Rattle.boot_plan.specs.PlanText.{overlap, room_fault, memory_fault, value_or, end_fault, Makes};
+ghost use Rattle.boot_plan.specs.PlanText.{memory_fault, value_or, end_fault, Makes};
 
 use crate::draft::{Amount, Area, Draft};
 use crate::fault::{PlanCause, PlanFault};
@@ -12,43 +12,25 @@ use crate::limits::{DEFAULT_FUEL, LEAST_TEMP, MOST_END, MOST_FUEL, MOST_PAGES};
 use crate::plan::Plan;
 use pi_base::Span;
 
-// Whether some address is in both.
-fn overlap(temp: &Area, ram: &Area) -> bool
-    requires temp { temp.now.base + temp.now.size ≤ MOST_END }
-    requires ram { ram.now.base + ram.now.size ≤ MOST_END }
-    ensures { result ≡ overlap temp.now ram.now }
-{
-    temp.base < ram.base + ram.size && ram.base < temp.base + temp.size
-}
-
-// Whether the page region leaves too little of temporary RAM.
-fn room_fault(temp: &Area, pages: &Option<Amount>) -> Option<PlanFault>
-    requires { IfSome pages.now (λ pages. pages.value ≤ MOST_PAGES) }
-    ensures { result ≡ room_fault temp.now (option_to_list pages.now) }
-{
-    match pages {
-        Some(pages) if temp.size < pages.value + LEAST_TEMP => Some(PlanFault {
-            line: pages.line,
-            cause: PlanCause::Room,
-        }),
-        _ => None,
-    }
-}
-
-// What is wrong with memory.
+// What is wrong with memory: some address is in both, or the page region leaves too little of temporary RAM.
 fn memory_fault(temp: &Area, ram: &Area, pages: &Option<Amount>) -> Option<PlanFault>
     requires temp { temp.now.base + temp.now.size ≤ MOST_END }
     requires ram { ram.now.base + ram.now.size ≤ MOST_END }
     requires pages { IfSome pages.now (λ pages. pages.value ≤ MOST_PAGES) }
     ensures { result ≡ memory_fault temp.now ram.now (option_to_list pages.now) }
 {
-    if overlap(temp, ram) {
-        Some(PlanFault {
+    if temp.base < ram.base + ram.size && ram.base < temp.base + temp.size {
+        return Some(PlanFault {
             line: temp.line.max(ram.line),
             cause: PlanCause::Overlap,
-        })
-    } else {
-        room_fault(temp, pages)
+        });
+    }
+    match pages {
+        Some(pages) if temp.size < pages.value + LEAST_TEMP => Some(PlanFault {
+            line: pages.line,
+            cause: PlanCause::Room,
+        }),
+        _ => None,
     }
 }
 
@@ -67,7 +49,10 @@ fn fuel_of(fuel: Option<Amount>) -> u32
 fn pages_of(pages: Option<Amount>) -> u64
     ensures { result ≡ value_or 0 (option_to_list pages) }
 {
-    pages.map_or(0, |pages| pages.value)
+    match pages {
+        Some(pages) => pages.value,
+        None => 0,
+    }
 }
 
 // The addresses of memory.

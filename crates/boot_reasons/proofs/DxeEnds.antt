@@ -50,17 +50,6 @@ held_one catalog m giver number part reason needs guids waits is why asked lacks
     λ j. record { number = number; phase = Dxe; reason = why j; needs = asked j; would = lacks j } in
     ap (λ x. x ∷ []) one ∙ sym (ap (λ o. option_to_list (option_map (dxe_held_by catalog m giver number) o)) is) ∙ sym (ap (λ b. held_where b (dxe_held_at catalog m giver number)) waits)
 
--- one that does not, and a number without a part
-pub held_none : (catalog : Catalog) (m : DxeMachine) (giver : Guid → Giver) (number : ℕ) → is_waiting m number ≡ false → [] ≡ held_where (is_waiting m number) (dxe_held_at catalog m giver number)
-held_none catalog m giver number waits = sym (ap (λ b. held_where b (dxe_held_at catalog m giver number)) waits)
-
-pub held_no_part : (catalog : Catalog) (m : DxeMachine) (giver : Guid → Giver) (number : ℕ) → part_at Dxe catalog number ≡ None → [] ≡ held_where (is_waiting m number) (dxe_held_at catalog m giver number)
-held_no_part catalog m giver number none = sym (ap (λ o. held_where (is_waiting m number) (option_to_list (option_map (dxe_held_by catalog m giver number) o))) none ∙ by (is_waiting m number))
-  where
-    by : (b : Bool) → held_where b [] ≡ []
-    by true = refl
-    by false = refl
-
 -- the drivers that are left, one fewer
 pub held_on : (catalog : Catalog) (m : DxeMachine) (giver : Guid → Giver) (number : ℕ) (rest : List ℕ) (held one all : List Held) → one ≡ held_where (is_waiting m number) (dxe_held_at catalog m giver number)
     → held ++ flat_map (dxe_held_at catalog m giver) (filter (is_waiting m) (number ∷ rest)) ≡ all → (held ++ one) ++ flat_map (dxe_held_at catalog m giver) (filter (is_waiting m) rest) ≡ all

@@ -77,19 +77,6 @@ barred_behind w stands catalog fuel pei store taken in_pei p number hands handed
     let row = driven w stands board catalog fuel pei store taken in_pei (R.Barred number) run.«end» (record run.«end» { ended = None; core_sweep = run.sweep }) hands drives run.machine refl refl refl in
     left_in_dxe run.earlier run.«end» run.run (run.explained.ended ∙ ap Some handed) row.0 row.1
 
--- a boot that ends with PEI
-pub ends_alone : {M : Type 0} (w : Ways) (stands : M → StoreState → Type 0) (catalog : Catalog) (fuel : ℕ) (pei : Pei M) (p : PeiExplained) (e : Explained) → ((last : PeiMachine) (m : PeiMachine) → StandsFor stands pei m → m.actions ≡ last.actions
-    → IsExplainedAfter (choices_of w.peims w.lets_in_pei w.drivers w.lets_in_dxe) catalog fuel last p p.«end» e)
-    → ExplainsBehind (choices_of w.peims w.lets_in_pei w.drivers w.lets_in_dxe) stands catalog fuel pei p (R.End e)
-ends_alone w stands catalog fuel pei p e ends board run = record {
-  earlier = run.earlier;
-  pei = run.«end»;
-  run = run.run;
-  first = p;
-  peims = run.explained;
-  ends = ends run.«end» (record run.«end» { ended = None; core_sweep = run.sweep }) run.machine refl;
-}
-
 -- the machine's own choices let each module start
 pub own_goes_on : (board : Board) (catalog : Catalog) (fuel number : ℕ) → IsLeftBefore own_choices board catalog fuel number → ⊥
 own_goes_on board catalog fuel number (left_in_pei earlier m bars) = true≢false bars.barred

@@ -1,6 +1,6 @@
 -- The GUIDs that a dependency expression asks for: those that it pushes. A driver without an expression asks for the architectural protocols.
 -- PI 1.8, volumes 1 and 2, "Dependency Expressions".
-use Rattle.std.specs.Prelude.{Bool, if◌then◌else◌, List, [], ◌∷◌, ◌++◌, flat_map}
+use Rattle.std.specs.Prelude.{Bool, List, [], ◌∷◌, ◌++◌}
 use Rattle.std.specs.List.{list_any}
 use Rattle.pi_base.specs.declared.guid.Guid.{Guid}
 use Rattle.pi_base.specs.declared.phase.Phase.{Phase}

@@ -1,9 +1,8 @@
 -- GUIDs that are noted, each once.
 -- Own.
-use Rattle.std.specs.Prelude.{◌≡◌, Bool, not, if◌then◌else◌, List, [], ◌∷◌, ◌++◌, filter, is_some}
+use Rattle.std.specs.Prelude.{◌≡◌, if◌then◌else◌, List, [], ◌∷◌, ◌++◌, is_some}
 use Rattle.pi_base.specs.GuidMap.{value_of}
 use Rattle.pi_base.specs.declared.guid.Guid.{Guid}
-use Rattle.depex_code.specs.Tree.{postfix}
 use Rattle.depex_code.specs.declared.opcode.Opcode.{Opcode}
 use Rattle.depex_code.specs.declared.opcode.Opcode.TheVariants as O
 use Rattle.boot_reasons.specs.declared.noted.Noted.{Noted}

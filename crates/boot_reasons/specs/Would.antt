@@ -1,7 +1,7 @@
 -- The GUIDs whose coming would make an expression hold, read off its tree: none where it holds, those of both sides for AND, those of the side that lacks fewer for OR, the left one where both lack as many.
 -- There are none for FALSE, nor where a NOT would need a GUID to go: one that stands over something that holds, and one that would stand over something that holds once the GUIDs have come.
 -- Own.
-use Rattle.std.specs.Prelude.{◌≡◌, ⊤, Bool, true, false, not, ◌||◌, if◌then◌else◌, nat_lt, length, List, [], ◌∷◌, ◌++◌, filter, Option, Some, None}
+use Rattle.std.specs.Prelude.{◌≡◌, ⊤, Bool, false, not, ◌||◌, if◌then◌else◌, nat_lt, length, List, [], ◌∷◌, ◌++◌, filter, Option, Some, None}
 use Rattle.pi_base.specs.declared.guid.Guid.{Guid}
 use Rattle.pi_base.specs.declared.phase.Phase.{Phase}
 use Rattle.pi_base.specs.Guids.{same_guid}

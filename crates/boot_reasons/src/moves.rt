@@ -32,21 +32,6 @@ pub(crate) fn unmoved_base<M: PeiStore>(store: &M) -> Option<u64>
     }
 }
 
-// The move from a base, where the heap has moved.
-fn move_from<M: PeiStore>(from: Option<u64>, store: &M) -> Option<Moved>
-    requires state { Present (M.stands_for store.now) Anything }
-    ensures { OfEach (M.stands_for store.now) Anything (λ s. result ≡ moved_from from s) }
-{
-    match from {
-        Some(from) if store.moved() => Some(Moved {
-            from,
-            to: store.base(),
-            used: heap_used(store),
-        }),
-        _ => None,
-    }
-}
-
 /// The move that was told before, and else the one from a base, where the heap has moved.
 pub(crate) fn first_move<M: PeiStore>(
     told: Option<Moved>,
@@ -58,6 +43,13 @@ pub(crate) fn first_move<M: PeiStore>(
 {
     match told {
         Some(moved) => Some(moved),
-        None => move_from(from, store),
+        None => match from {
+            Some(from) if store.moved() => Some(Moved {
+                from,
+                to: store.base(),
+                used: heap_used(store),
+            }),
+            _ => None,
+        },
     }
 }

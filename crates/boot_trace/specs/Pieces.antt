@@ -9,6 +9,7 @@ use Rattle.boot_trace.specs.declared.piece.Piece.TheVariants as P
 -- the word of a piece
 abbrev pub piece_text : Piece → List ℕ
 piece_text (P.Text bytes) = bytes.now
+piece_text (P.Number n) = decimal n
 piece_text (P.Decimal n) = decimal n
 piece_text (P.Hexadecimal n) = hexadecimal n
 piece_text (P.Name guid) = guid_text guid

@@ -3,7 +3,7 @@ ghost use Rattle.std.specs.Prelude.{◌≡◌, List, ℕ};
 ghost use Rattle.std.specs.List.{Contains};
 ghost use Rattle.pi_base.specs.WordText.{word_text};
 ghost use Rattle.boot_trace.specs.FixedWords.{IsPlain};
-ghost use Rattle.boot_model.specs.Text.{licence_text, call_text, reason_text, end_text, plan_cause_text, image_cause_text};
+ghost use Rattle.boot_model.specs.Text.{licence_text, reason_text, end_text};
 
 use boot_model::{CallName, Licence, Reason, RunEnd};
 use boot_plan::PlanCause;
@@ -22,32 +22,6 @@ pub fn licence_word(licence: Licence) -> &'static [u8]
         Licence::Shadow => b"shadow",
         Licence::Before => b"before",
         Licence::After => b"after",
-    }
-}
-
-// The name of a service.
-#[tactic(auto, unfolding(boot_model::specs::Text::call_text))]
-pub(crate) fn call_name_word(name: CallName) -> &'static [u8]
-    ensures { result.now ≡ call_text name }
-{
-    match name {
-        CallName::Pool => b"pool",
-        CallName::Store => b"store",
-        CallName::Peek => b"peek",
-        CallName::Desc => b"desc",
-        CallName::Install => b"install",
-        CallName::Reinstall => b"reinstall",
-        CallName::Notify => b"notify",
-        CallName::Locate => b"locate",
-        CallName::Hob => b"hob",
-        CallName::Memory => b"memory",
-        CallName::Pages => b"pages",
-        CallName::BootMode => b"boot_mode",
-        CallName::Shadow => b"shadow",
-        CallName::Uninstall => b"uninstall",
-        CallName::Schedule => b"schedule",
-        CallName::Process => b"process",
-        CallName::Dispatch => b"dispatch",
     }
 }
 
@@ -78,62 +52,6 @@ pub fn run_end_word(end: RunEnd) -> &'static [u8]
         RunEnd::NoIpl => b"NoIpl",
         RunEnd::Spent => b"Spent",
         RunEnd::Deep => b"Deep",
-    }
-}
-
-// A cause of a refused plan, as a line names it.
-#[tactic(auto, unfolding(boot_model::specs::Text::plan_cause_text))]
-pub(crate) fn plan_cause_word(cause: PlanCause) -> &'static [u8]
-    ensures { result.now ≡ plan_cause_text cause }
-{
-    match cause {
-        PlanCause::Word => b"Word",
-        PlanCause::Number => b"Number",
-        PlanCause::Missing => b"Missing",
-        PlanCause::Twice => b"Twice",
-        PlanCause::Overlap => b"Overlap",
-        PlanCause::Limit => b"Limit",
-        PlanCause::Room => b"Room",
-        PlanCause::Memory => b"Memory",
-    }
-}
-
-// A cause of a refused image, as a line names it.
-#[tactic(auto, unfolding(boot_model::specs::Text::image_cause_text))]
-pub(crate) fn image_cause_word(cause: ImageCause) -> &'static [u8]
-    ensures { result.now ≡ image_cause_text cause }
-{
-    match cause {
-        ImageCause::Short => b"Short",
-        ImageCause::Signature => b"Signature",
-        ImageCause::Revision => b"Revision",
-        ImageCause::FileSystem => b"FileSystem",
-        ImageCause::Length => b"Length",
-        ImageCause::HeaderLength => b"HeaderLength",
-        ImageCause::HeaderSum => b"HeaderSum",
-        ImageCause::ExtHeader => b"ExtHeader",
-        ImageCause::FileSum => b"FileSum",
-        ImageCause::FileSize => b"FileSize",
-        ImageCause::DataSum => b"DataSum",
-        ImageCause::TooManyFiles => b"TooManyFiles",
-        ImageCause::Size => b"Size",
-        ImageCause::Compressed => b"Compressed",
-        ImageCause::GuidDefined => b"GuidDefined",
-        ImageCause::TooMany => b"TooMany",
-        ImageCause::Magic => b"Magic",
-        ImageCause::Version => b"Version",
-        ImageCause::Phase => b"Phase",
-        ImageCause::Count => b"Count",
-        ImageCause::Block => b"Block",
-        ImageCause::Action => b"Action",
-        ImageCause::Jump => b"Jump",
-        ImageCause::Index => b"Index",
-        ImageCause::Nesting => b"Nesting",
-        ImageCause::TooManyModules => b"TooManyModules",
-        ImageCause::Place => b"Place",
-        ImageCause::TooManyVolumes => b"TooManyVolumes",
-        ImageCause::ScriptTotal => b"ScriptTotal",
-        ImageCause::Memory => b"Memory",
     }
 }
 
@@ -203,8 +121,27 @@ impl FixedWord for CallName {
 
     ghost text_of = { call_text };
 
+    #[tactic(auto, unfolding(boot_model::specs::Text::call_text))]
     fn word(self) -> &'static [u8] {
-        call_name_word(self)
+        match self {
+            CallName::Pool => b"pool",
+            CallName::Store => b"store",
+            CallName::Peek => b"peek",
+            CallName::Desc => b"desc",
+            CallName::Install => b"install",
+            CallName::Reinstall => b"reinstall",
+            CallName::Notify => b"notify",
+            CallName::Locate => b"locate",
+            CallName::Hob => b"hob",
+            CallName::Memory => b"memory",
+            CallName::Pages => b"pages",
+            CallName::BootMode => b"boot_mode",
+            CallName::Shadow => b"shadow",
+            CallName::Uninstall => b"uninstall",
+            CallName::Schedule => b"schedule",
+            CallName::Process => b"process",
+            CallName::Dispatch => b"dispatch",
+        }
     }
 
     fn all() -> &'static [CallName] {
@@ -277,8 +214,18 @@ impl FixedWord for PlanCause {
 
     ghost text_of = { plan_cause_text };
 
+    #[tactic(auto, unfolding(boot_model::specs::Text::plan_cause_text))]
     fn word(self) -> &'static [u8] {
-        plan_cause_word(self)
+        match self {
+            PlanCause::Word => b"Word",
+            PlanCause::Number => b"Number",
+            PlanCause::Missing => b"Missing",
+            PlanCause::Twice => b"Twice",
+            PlanCause::Overlap => b"Overlap",
+            PlanCause::Limit => b"Limit",
+            PlanCause::Room => b"Room",
+            PlanCause::Memory => b"Memory",
+        }
     }
 
     fn all() -> &'static [PlanCause] {
@@ -300,8 +247,40 @@ impl FixedWord for ImageCause {
 
     ghost text_of = { image_cause_text };
 
+    #[tactic(auto, unfolding(boot_model::specs::Text::image_cause_text))]
     fn word(self) -> &'static [u8] {
-        image_cause_word(self)
+        match self {
+            ImageCause::Short => b"Short",
+            ImageCause::Signature => b"Signature",
+            ImageCause::Revision => b"Revision",
+            ImageCause::FileSystem => b"FileSystem",
+            ImageCause::Length => b"Length",
+            ImageCause::HeaderLength => b"HeaderLength",
+            ImageCause::HeaderSum => b"HeaderSum",
+            ImageCause::ExtHeader => b"ExtHeader",
+            ImageCause::FileSum => b"FileSum",
+            ImageCause::FileSize => b"FileSize",
+            ImageCause::DataSum => b"DataSum",
+            ImageCause::TooManyFiles => b"TooManyFiles",
+            ImageCause::Size => b"Size",
+            ImageCause::Compressed => b"Compressed",
+            ImageCause::GuidDefined => b"GuidDefined",
+            ImageCause::TooMany => b"TooMany",
+            ImageCause::Magic => b"Magic",
+            ImageCause::Version => b"Version",
+            ImageCause::Phase => b"Phase",
+            ImageCause::Count => b"Count",
+            ImageCause::Block => b"Block",
+            ImageCause::Action => b"Action",
+            ImageCause::Jump => b"Jump",
+            ImageCause::Index => b"Index",
+            ImageCause::Nesting => b"Nesting",
+            ImageCause::TooManyModules => b"TooManyModules",
+            ImageCause::Place => b"Place",
+            ImageCause::TooManyVolumes => b"TooManyVolumes",
+            ImageCause::ScriptTotal => b"ScriptTotal",
+            ImageCause::Memory => b"Memory",
+        }
     }
 
     fn all() -> &'static [ImageCause] {

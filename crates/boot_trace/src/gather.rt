@@ -46,6 +46,7 @@ fn gather_piece<S: Sink>(sink: &mut S, line: &mut Gathered, piece: Piece) -> Res
 {
     match piece {
         Piece::Text(text) => gather(sink, line, text),
+        Piece::Number(number) => gather(sink, line, decimal_word(u64::from(number)).as_slice()),
         Piece::Decimal(number) => gather(sink, line, decimal_word(number).as_slice()),
         Piece::Hexadecimal(number) => gather(sink, line, hexadecimal_word(number).as_slice()),
         Piece::Name(name) => gather(sink, line, &name.to_text()),
@@ -53,15 +54,6 @@ fn gather_piece<S: Sink>(sink: &mut S, line: &mut Gathered, piece: Piece) -> Res
         Piece::Bytes(bytes) => gather_bytes(sink, line, bytes),
         Piece::Expression(expression) => gather(sink, line, expression_word(expression).as_slice()),
     }
-}
-
-// Takes a space and a word.
-fn gather_word<S: Sink>(sink: &mut S, line: &mut Gathered, piece: Piece) -> Result<(), SinkFault>
-    ensures text { Gathers result (S.text sink.old) (S.text sink.new) line.old.items line.new.items (spaced (piece_text piece.entry)) }
-    ensures cause { SinkFaultsAfter result (S.faults sink.old) (S.faults sink.new) }
-{
-    gather(sink, line, b" ")?;
-    gather_piece(sink, line, piece)
 }
 
 // Takes words, each after a space.
@@ -75,7 +67,8 @@ fn gather_words<S: Sink>(
     ensures cause { SinkFaultsAfter result (S.faults sink.old) (S.faults sink.new) }
 {
     for word in words {
-        gather_word(sink, line, *word)?;
+        gather(sink, line, b" ")?;
+        gather_piece(sink, line, *word)?;
     }
     Ok(())
 }

@@ -1,5 +1,5 @@
 //! The words of a line, before their bytes are made.
-ghost use Rattle.std.specs.Prelude.{◌≡◌, decimal};
+ghost use Rattle.std.specs.Prelude.{◌≡◌};
 ghost use Rattle.boot_model.specs.Text.{by_text, bytes_text, name_text, rank_text};
 ghost use Rattle.boot_trace.specs.Pieces.{piece_text};
 
@@ -13,6 +13,7 @@ use store_model::CORE;
 pub(crate) enum Piece<'a> {
     // Bytes as they are: a fixed word, a logged text or the name of a file.
     Text(&'a [u8]),
+    Number(u32),
     Decimal(u64),
     Hexadecimal(u64),
     Name(Guid),
@@ -29,13 +30,6 @@ impl Default for Piece<'_> {
     }
 }
 
-// A number that is printed in decimal.
-pub(crate) fn number(number: u32) -> Piece<'static>
-    ensures { piece_text result ≡ decimal number }
-{
-    Piece::Decimal(u64::from(number))
-}
-
 // The number of a module, or the core.
 pub(crate) fn by(by: u32) -> Piece<'static>
     ensures { piece_text result ≡ by_text by }
@@ -43,7 +37,7 @@ pub(crate) fn by(by: u32) -> Piece<'static>
     if by == CORE {
         Piece::Text(CORE_MAKER)
     } else {
-        number(by)
+        Piece::Number(by)
     }
 }
 
@@ -52,7 +46,7 @@ pub(crate) fn rank(rank: Option<u32>) -> Piece<'static>
     ensures { piece_text result ≡ rank_text rank }
 {
     match rank {
-        Some(rank) => number(rank),
+        Some(rank) => Piece::Number(rank),
         None => Piece::Text(DASH),
     }
 }

@@ -1,5 +1,5 @@
 //! The HOBs of a store, after their count.
-ghost use Rattle.std.specs.Prelude.{◌≡◌, true, length, Some, is_some, IsSomeAnd};
+ghost use Rattle.std.specs.Prelude.{◌≡◌, length, Some, IsSomeAnd};
 ghost use Rattle.boot_io.specs.Sink.{Puts, SinkFaultsAfter};
 ghost use Rattle.store_model.specs.Service.{Present, OfEach};
 ghost use Rattle.store_model.specs.Service.Reading.{hob_at};
@@ -34,23 +34,8 @@ fn put_span<S: Sink, M: PeiStore>(
     put_heap_line(sink, store, span.kind, at, len)
 }
 
-// The HOB at an offset of the heap.
-pub(crate) fn put_hob_at<S: Sink, M: PeiStore>(
-    sink: &mut S,
-    store: &M,
-    offset: u64,
-) -> Result<(), SinkFault>
-    requires state { Present (M.stands_for store.now) (λ s. is_some (hob_at s offset) ≡ true) }
-    ensures text { OfEach (M.stands_for store.now) (λ s. is_some (hob_at s offset) ≡ true)
-        (λ s. IsSomeAnd (hob_line_at s offset) (λ line. Puts result (S.text sink.old) (S.text sink.new) (line_text line))) }
-    ensures cause { SinkFaultsAfter result (S.faults sink.old) (S.faults sink.new) }
-{
-    let span = store.hob_at(offset).unwrap();
-    put_span(sink, store, offset, &span)
-}
-
 /// The HOB list of a store, counted.
-#[derive(Clone, Copy, PartialEq, Eq)]
+#[derive(Clone, Copy)]
 pub struct HobCount {
     /// How many HOBs there are but the end HOB.
     pub hobs: u32,

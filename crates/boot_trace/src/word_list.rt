@@ -4,11 +4,11 @@ ghost use Rattle.pi_base.specs.WordText.{word_text};
 ghost use Rattle.boot_model.specs.Text.{call_text, extra_words, words};
 ghost use Rattle.boot_trace.specs.Pieces.{piece_texts};
 
-use crate::fixed_word::{
-    call_name_word, image_cause_word, licence_word, plan_cause_word, reason_word, run_end_word,
+use crate::fixed_word::{FixedWord, licence_word, reason_word, run_end_word};
+use crate::piece::Piece::{
+    self, Byte, Bytes, Decimal, Expression, Hexadecimal, Name, Number, Text,
 };
-use crate::piece::Piece::{self, Byte, Bytes, Decimal, Expression, Hexadecimal, Name, Text};
-use crate::piece::{body, by, name, number, rank};
+use crate::piece::{body, by, name, rank};
 use arrayvec::ArrayVec;
 use boot_model::{CallName, Extra, Line};
 use pi_base::Word;
@@ -33,7 +33,7 @@ fn list<'a>(pieces: &[Piece<'a>]) -> Words<'a>
 fn call_words(name: CallName, status: Word, extra: &Extra) -> Words<'_>
     ensures { piece_texts result.items ≡ call_text name ∷ word_text status ∷ extra_words extra.now }
 {
-    let name = Text(call_name_word(name));
+    let name = Text(name.word());
     let status = Text(status.text());
     match extra {
         Extra::Nothing => return list(&[name, status]),
@@ -55,7 +55,7 @@ pub(crate) fn words(line: &Line) -> Words<'_>
         | Line::Dispatches { count }
         | Line::Pendings { count }
         | Line::Hobs { count }
-        | Line::Handles { count } => return list(&[number(*count)]),
+        | Line::Handles { count } => return list(&[Number(*count)]),
         Line::PeiStart {
             volume,
             name,
@@ -65,7 +65,7 @@ pub(crate) fn words(line: &Line) -> Words<'_>
             volume,
             name,
             licence,
-        } => return list(&[number(*volume), Name(*name), Text(licence_word(*licence))]),
+        } => return list(&[Number(*volume), Name(*name), Text(licence_word(*licence))]),
         Line::NotifyCallback {
             volume,
             name,
@@ -80,12 +80,12 @@ pub(crate) fn words(line: &Line) -> Words<'_>
             volume,
             name,
             fired,
-        } => return list(&[number(*volume), Name(*name), Name(*fired)]),
+        } => return list(&[Number(*volume), Name(*name), Name(*fired)]),
         Line::Waiting {
             volume,
             name,
             reason,
-        } => return list(&[number(*volume), Name(*name), Text(reason_word(*reason))]),
+        } => return list(&[Number(*volume), Name(*name), Text(reason_word(*reason))]),
         Line::Call {
             name,
             status,
@@ -108,16 +108,16 @@ pub(crate) fn words(line: &Line) -> Words<'_>
             handle,
             guid,
             value,
-        } => return list(&[number(*handle), Name(*guid), Hexadecimal(*value)]),
+        } => return list(&[Number(*handle), Name(*guid), Hexadecimal(*value)]),
         Line::Callback { guid, by, block }
         | Line::Dispatch { guid, by, block }
         | Line::Pending { guid, by, block } => return list(&[
             Name(*guid),
-            number(*by),
-            number(*block),
+            Number(*by),
+            Number(*block),
         ]),
         Line::Hob { kind, body: bytes } => return list(&[
-            number(u32::from(*kind)),
+            Number(u32::from(*kind)),
             body(bytes.as_slice()),
         ]),
         Line::Volume {
@@ -126,7 +126,7 @@ pub(crate) fn words(line: &Line) -> Words<'_>
             len,
             name: volume_name,
         } => return list(&[
-            number(*volume),
+            Number(*volume),
             Hexadecimal(*base),
             Decimal(*len),
             name(*volume_name),
@@ -141,8 +141,8 @@ pub(crate) fn words(line: &Line) -> Words<'_>
             pei,
             dxe,
         } => return list(&[
-            number(*by),
-            number(*volume),
+            Number(*by),
+            Number(*volume),
             Name(*name),
             Byte(*kind),
             rank(*pei_rank),
@@ -150,14 +150,11 @@ pub(crate) fn words(line: &Line) -> Words<'_>
             Expression(*pei),
             Expression(*dxe),
         ]),
-        Line::RefusedPlan { line, cause } => return list(&[
-            number(*line),
-            Text(plan_cause_word(*cause)),
-        ]),
+        Line::RefusedPlan { line, cause } => return list(&[Number(*line), Text(cause.word())]),
         Line::RefusedImage { volume, at, cause } => return list(&[
-            number(*volume),
+            Number(*volume),
             Decimal(*at),
-            Text(image_cause_word(*cause)),
+            Text(cause.word()),
         ]),
     }
 }

@@ -21,52 +21,29 @@ pub(crate) struct Names {
     pub(crate) asking: NumberLists,
 }
 
-// The name that an expression gives in BEFORE.
-fn before_of(expression: &PartExpr) -> Option<Guid>
-    ensures { result ≡ C.before_of expression.now }
-{
-    match expression {
-        PartExpr::Held(Depex::Before(name)) => Some(*name),
-        _ => None,
-    }
-}
-
-// The name that an expression gives in AFTER.
-fn after_of(expression: &PartExpr) -> Option<Guid>
-    ensures { result ≡ C.after_of expression.now }
-{
-    match expression {
-        PartExpr::Held(Depex::After(name)) => Some(*name),
-        _ => None,
-    }
-}
-
 // The names that the expression of a driver gives in BEFORE and in AFTER.
 fn given_by(catalog: &Catalog, number: u32) -> (Option<Guid>, Option<Guid>)
     ensures before { result.0 ≡ C.name_by C.before_of catalog.now number }
     ensures after { result.1 ≡ C.name_by C.after_of catalog.now number }
 {
     match part_of(catalog, Phase::Dxe, number) {
-        Some(part) => (before_of(&part.expr), after_of(&part.expr)),
+        Some(part) => match &part.expr {
+            PartExpr::Held(Depex::Before(name)) => (Some(*name), None),
+            PartExpr::Held(Depex::After(name)) => (None, Some(*name)),
+            _ => (None, None),
+        },
         None => (None, None),
     }
 }
 
-// Whether a driver starts only on request: its expression begins with SOR (PI 1.8, volume 2, "Dependency Expressions").
-fn asks_for_request(part: &Part) -> bool
-    ensures { result ≡ C.asks_for_request (Some part.now) }
-{
-    match &part.expr {
-        PartExpr::Held(Depex::Expr { sor, .. }) => *sor,
-        _ => false,
-    }
-}
-
-// Whether a driver starts on request alone: one that its volume's a priori list has is scheduled without.
+// Whether a driver starts on request alone: its expression begins with SOR (PI 1.8, volume 2, "Dependency Expressions"), and its volume's a priori list, which would have it scheduled without, has it not.
 fn waits_for_request(part: &Part) -> bool
     ensures { result ≡ (is_none part.now.rank && C.asks_for_request (Some part.now)) }
 {
-    part.rank.is_none() && asks_for_request(part)
+    match &part.expr {
+        PartExpr::Held(Depex::Expr { sor, .. }) => part.rank.is_none() && *sor,
+        _ => false,
+    }
 }
 
 // The file name of a driver that a request is waited for.

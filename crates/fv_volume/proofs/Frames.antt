@@ -1,5 +1,5 @@
 -- The frame of a volume, step by step.
-use Rattle.std.proofs.Common.{◌≡◌, ℕ, ◌+◌, ◌≤◌, List, length, Option, Some, None, Result, Ok, refl, ap, ◌∙◌, arith, IfSome}
+use Rattle.std.proofs.Common.{◌≡◌, ℕ, ◌+◌, ◌≤◌, List, length, Option, Some, None, Result, ap, ◌∙◌, arith, IfSome}
 use Rattle.std.proofs.lemmas.Bool.{cond_above}
 use Rattle.fv_volume.specs.declared.volume_header.VolumeHeader.{VolumeHeader}
 use Rattle.fv_volume.specs.declared.extended_header.ExtendedHeader.{ExtendedHeader}

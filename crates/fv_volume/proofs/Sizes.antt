@@ -3,14 +3,13 @@ use Rattle.std.proofs.Common.{◌≡◌, ℕ, ◌+◌, ◌<◌, ◌≤◌, zero,
 use Rattle.std.proofs.lemmas.Bool.{cases_lt}
 use Rattle.std.proofs.lemmas.Bool.Decides.{nat_tests}
 use Rattle.std.proofs.lemmas.List.{map-append, take_more}
-use Rattle.std.specs.List.{list_any}
 use Rattle.std.specs.Prelude.{nat_lt, if◌then◌else◌}
 use Rattle.pi_base.specs.Field.{little_bytes}
 use Rattle.fv_volume.specs.declared.build.new_file.NewFile.{NewFile}
 use Rattle.fv_volume.specs.declared.build.new_file.NewSection.{NewSection}
 use Rattle.fv_volume.specs.FileSystems.{FileSystem, Ffs2, Ffs3}
 use Rattle.fv_volume.specs.Placing.{gap, laid}
-use Rattle.fv_volume.specs.Sections.{is_extended, section_size, section_bytes, body_bytes, is_section_too_long}
+use Rattle.fv_volume.specs.Sections.{is_extended, section_size, section_bytes, body_bytes}
 use Rattle.fv_volume.specs.Files.{bytes_in, has_long_section, is_large, file_size, file_header, head_of, file_with, file_bytes, is_past_size, is_file_too_long}
 use Rattle.fv_volume.specs.Building.{need}
 use Rattle.fv_volume.proofs.Flags.{or_second}

@@ -1,15 +1,14 @@
 -- Files that are spelled out are read as themselves. Callers who write volumes cite this.
-use Rattle.std.proofs.Common.{◌≡◌, ◌≢◌, ℕ, zero, suc, ◌+◌, ◌-◌, ◌*◌, ◌%◌, ◌<◌, ◌≤◌, ◌^◌, Bool, true, false, cond, List, [], ◌∷◌, ◌++◌, length, take, drop, sum, replicate, Option, Some, None, Result, Ok, Err, refl, sym, ap, ◌∙◌, arith, subst, append_assoc, get_or-drop, length-drop, length-append}
+use Rattle.std.proofs.Common.{◌≡◌, ◌≢◌, ℕ, zero, suc, ◌+◌, ◌-◌, ◌*◌, ◌%◌, ◌<◌, ◌≤◌, ◌^◌, Bool, true, false, cond, List, [], ◌∷◌, ◌++◌, length, take, drop, sum, replicate, Some, None, Result, Ok, Err, refl, sym, ap, ◌∙◌, arith, subst, get_or-drop, length-drop, length-append}
 use Rattle.std.proofs.lemmas.Bool.Decides.{nat_tests}
 use Rattle.std.proofs.lemmas.List.{drop-drop, append-nil, get_or-append-add, length-replicate, drop-replicate, take-replicate}
 use Rattle.std.proofs.lemmas.List.Concat.{flat_map-cons}
 use Rattle.std.proofs.lemmas.List.Folds.{list_all-append}
 use Rattle.std.proofs.lemmas.List.Sums.{sum_by-append, sum_by-cons}
-use Rattle.std.proofs.Math.Seq.{drop-append_seam, drop-append-add, take-append_seam, take-append-add}
+use Rattle.std.proofs.Math.Seq.{drop-append-add, take-append-add}
 use Rattle.std.specs.Prelude.{bit_and, nat_lt, ◌==◌, ◌&&◌, ◌||◌, not, slice_index}
 use Rattle.std.specs.List.{list_all}
-use Rattle.pi_base.specs.declared.guid.Guid.{Guid}
-use Rattle.pi_base.specs.Field.{little_number, little_bytes, words_of}
+use Rattle.pi_base.specs.Field.{little_number, little_bytes}
 use Rattle.pi_base.proofs.FieldLaws.{little_number-little_bytes}
 use Rattle.fv_volume.specs.declared.file.FfsFile.{FfsFile}
 use Rattle.fv_volume.specs.declared.item.Item.{Item}
@@ -23,7 +22,7 @@ use Rattle.fv_volume.specs.declared.fault.VolCause.{VolCause}
 use Rattle.fv_volume.specs.declared.fault.VolCause.TheVariants.{FileSum, FileSize, DataSum}
 use Rattle.fv_volume.specs.FileState.{file_state, is_dead}
 use Rattle.fv_volume.specs.FileHeader.{fields_at, is_large, file_header, header_sum, size_is_wrong, data_is_wrong}
-use Rattle.fv_volume.specs.Item.{listed_of, item_or_cause, item_of, sound_item, item_at}
+use Rattle.fv_volume.specs.Item.{listed_of, item_or_cause, sound_item, item_at}
 use Rattle.fv_volume.specs.Frame.{aligned}
 use Rattle.fv_volume.specs.Search.{ends_at, Leads, files_of}
 

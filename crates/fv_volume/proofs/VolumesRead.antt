@@ -1,5 +1,5 @@
 -- A built volume is read again.
-use Rattle.std.proofs.Common.{◌≡◌, ℕ, ◌+◌, ◌-◌, ◌*◌, ◌%◌, ◌/◌, ◌<◌, ◌≤◌, ◌^◌, Bool, true, false, cond, List, [], ◌∷◌, ◌++◌, length, map, take, drop, sum, replicate, Option, Some, None, refl, sym, ap, ◌∙◌, arith, append_assoc, length-append, All}
+use Rattle.std.proofs.Common.{◌≡◌, ℕ, ◌+◌, ◌-◌, ◌*◌, ◌%◌, ◌/◌, ◌<◌, ◌≤◌, ◌^◌, Bool, true, false, cond, List, [], ◌∷◌, ◌++◌, length, take, drop, sum, replicate, Option, Some, None, refl, sym, ap, ◌∙◌, arith, append_assoc, length-append, All}
 use Rattle.std.proofs.lemmas.Bool.{and_parts}
 use Rattle.std.proofs.lemmas.Bool.Decides.{nat_tests}
 use Rattle.std.proofs.lemmas.List.{length-replicate}
@@ -18,10 +18,10 @@ use Rattle.fv_volume.specs.FileSystems.{FileSystem, Ffs2, Ffs3}
 use Rattle.fv_volume.specs.Checksum.{checksum16}
 use Rattle.fv_volume.specs.declared.build.volume_header.VolumeForm.{VolumeForm}
 use Rattle.fv_volume.specs.Header.{head_of, header_with, volume_header, is_header_length}
-use Rattle.fv_volume.specs.Front.{ext_at, extended_bytes, name_part, front_len, first_place, is_placed}
+use Rattle.fv_volume.specs.Front.{ext_at, extended_bytes, name_part, front_len, is_placed}
 use Rattle.fv_volume.specs.Files.{file_bytes, is_file_too_long, HasWholeName}
 use Rattle.fv_volume.specs.Placing.{gap}
-use Rattle.fv_volume.specs.Building.{files_bytes, need, filled_from, volume_bytes, built_as, fault_from, volume_fault}
+use Rattle.fv_volume.specs.Building.{files_bytes, need, volume_bytes, fault_from, volume_fault}
 use Rattle.fv_volume.specs.Reading.{IsWhole, guid_of, IsReadAs, IsReadBack, listed_at}
 use Rattle.fv_volume.proofs.Flags.{none_pass}
 use Rattle.fv_volume.proofs.Headers.{words_append}

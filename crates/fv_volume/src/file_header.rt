@@ -1,6 +1,6 @@
 //! The header of a file: its fields, and what can be wrong with them.
 ghost use Rattle.std.specs.Prelude.{◌≡◌, ◌≤◌, ◌+◌, length, IfSome};
-ghost use Rattle.fv_volume.specs.FileHeader.{fields_at, is_large, file_header, header_sum, size_is_wrong, data_is_wrong};
+ghost use Rattle.fv_volume.specs.FileHeader.{fields_at, file_header, header_sum, size_is_wrong, data_is_wrong};
 
 use crate::bits::is_set;
 use crate::volume_header::Format;
@@ -72,21 +72,14 @@ fn fields_at(image: &[u8], at: usize, len: usize, size: usize) -> FileHeader
     }
 }
 
-// Whether the file whose header stands at a place is a large one.
-fn is_large(image: &[u8], format: Format, at: usize) -> bool
-    requires { at + HEADER_LEN ≤ length image.now }
-    ensures { result ≡ is_large image.now format at }
-{
-    format.large_files && is_set(image[at + ATTRIBUTES_AT], LARGE_FILE)
-}
-
 /// The header at a place; none where it passes the volume's end.
 pub(crate) fn file_header(image: &[u8], format: Format, at: usize) -> Option<FileHeader>
     requires { at + HEADER_LEN ≤ length image.now }
     ensures header { result ≡ file_header image.now format at }
     ensures len { IfSome result (λ header. (HEADER_LEN ≤ header.len) × (at + header.len ≤ length image.now)) }
 {
-    if !is_large(image, format, at) {
+    let large = format.large_files && is_set(image[at + ATTRIBUTES_AT], LARGE_FILE);
+    if !large {
         let size = u24_at(image, at + SIZE_AT) as usize;
         Some(fields_at(image, at, HEADER_LEN, size))
     } else if image.len() - at < LARGE_HEADER_LEN {

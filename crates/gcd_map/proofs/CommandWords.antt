@@ -4,7 +4,7 @@ use Rattle.std.proofs.lemmas.Bool.{cond_both}
 use Rattle.gcd_map.specs.declared.state.GcdKind.{GcdKind}
 use Rattle.gcd_map.specs.declared.command.Command.{Command}
 use Rattle.gcd_map.specs.declared.command.Command.TheVariants.{Add, Allocate, Top, Free, Remove}
-use Rattle.gcd_map.specs.CommandText.{of_two, of_three}
+use Rattle.gcd_map.specs.CommandText.{align_in, of_two, of_three}
 
 -- a choice of none
 neither : (b : Bool) (x y : Option Command) → None ≡ x → None ≡ y → None ≡ cond b x y
@@ -18,6 +18,16 @@ no_second command (Some first) second e = rw e refl
 pub no_kind : (add allocate top : Bool) (kind : Option GcdKind) (second align len : Option ℕ) → kind ≡ None
     → None ≡ cond add (of_three (λ k b l. Add k b l) kind second len) (cond allocate (of_three (λ k b l. Allocate k b l) kind second len) (cond top (of_three (λ k a l. Top k a l) kind align len) None))
 no_kind add allocate top kind second align len e = rw e (neither add _ _ refl (neither allocate _ _ refl (neither top _ _ refl refl)))
+
+no_middle : (command : GcdKind → ℕ → ℕ → Command) (kind : Option GcdKind) (len : Option ℕ) → None ≡ of_three command kind None len
+no_middle command None len = refl
+no_middle command (Some kind) len = refl
+
+pub no_number : (add allocate top : Bool) (kind : Option GcdKind) (second len : Option ℕ) → second ≡ None
+    → None ≡ cond add (of_three (λ k b l. Add k b l) kind second len) (cond allocate (of_three (λ k b l. Allocate k b l) kind second len) (cond top (of_three (λ k a l. Top k a l) kind (align_in second) len) None))
+no_number add allocate top kind second len e =
+    rw e (neither add _ _ (no_middle (λ k b l. Add k b l) kind len) (neither allocate _ _ (no_middle (λ k b l. Allocate k b l) kind len)
+    (neither top _ _ (no_middle (λ k a l. Top k a l) kind len) refl)))
 
 no_third : (command : GcdKind → ℕ → ℕ → Command) (kind : Option GcdKind) (second len : Option ℕ) → len ≡ None → None ≡ of_three command kind second len
 no_third command None second len e = refl

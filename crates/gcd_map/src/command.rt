@@ -1,6 +1,6 @@
 // Commands on the memory space, and the lines that spell them.
 ghost use Rattle.std.specs.Prelude.{◌≡◌};
-ghost use Rattle.gcd_map.specs.CommandText.{kind_named, align_of, short_command, long_command, command_of};
+ghost use Rattle.gcd_map.specs.CommandText.{kind_named, short_command, long_command, command_of};
 
 use crate::state::GcdKind;
 use crate::text_word::kind_word;
@@ -34,31 +34,25 @@ pub enum Command {
     Remove { base: u64, len: u64 },
 }
 
+const KINDS: [GcdKind; 4] = [
+    GcdKind::NonExistent,
+    GcdKind::Reserved,
+    GcdKind::System,
+    GcdKind::Mmio,
+];
+
 // The kind that a word names.
 fn kind_named(word: &[u8]) -> Option<GcdKind>
     ensures { result ≡ kind_named word.now }
 {
-    if word == kind_word(GcdKind::NonExistent) {
-        Some(GcdKind::NonExistent)
-    } else if word == kind_word(GcdKind::Reserved) {
-        Some(GcdKind::Reserved)
-    } else if word == kind_word(GcdKind::System) {
-        Some(GcdKind::System)
-    } else if word == kind_word(GcdKind::Mmio) {
-        Some(GcdKind::Mmio)
-    } else {
-        None
+    let mut rest = KINDS.as_slice();
+    'kinds: while let [kind, after @ ..] = rest {
+        if word == kind_word(*kind) {
+            return Some(*kind);
+        }
+        rest = after;
     }
-}
-
-// The alignment that a word spells.
-fn align_of(word: &[u8]) -> Option<u8>
-    ensures { result ≡ align_of word.now }
-{
-    match number_of(word) {
-        Some(align) if align < ALIGN_END => Some(align as u8),
-        _ => None,
-    }
+    None
 }
 
 // A command without a kind.
@@ -81,15 +75,14 @@ fn long_command(name: &[u8], kind: &[u8], second: &[u8], len: &[u8]) -> Option<C
     ensures { result ≡ long_command name.now kind.now second.now len.now }
 {
     let kind = kind_named(kind)?;
+    let base = number_of(second)?;
     let len = number_of(len)?;
     if name == ADD.as_slice() {
-        let base = number_of(second)?;
         Some(Command::Add { kind, base, len })
     } else if name == ALLOCATE.as_slice() {
-        let base = number_of(second)?;
         Some(Command::Allocate { kind, base, len })
-    } else if name == TOP.as_slice() {
-        let align = align_of(second)?;
+    } else if name == TOP.as_slice() && base < ALIGN_END {
+        let align = base as u8;
         Some(Command::Top { kind, align, len })
     } else {
         None

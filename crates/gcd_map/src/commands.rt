@@ -11,7 +11,7 @@ use std::alloc::Global;
 use thiserror::Error;
 
 /// Why a text has no commands.
-#[derive(Clone, Copy, Debug, PartialEq, Eq, Error)]
+#[derive(Clone, Copy, Debug, Error)]
 pub enum CommandFault {
     /// The number, from 1, of the first line that is neither passed over nor spells a command.
     #[error("Bad")]

@@ -1,16 +1,15 @@
 // The resources and allocations of a HOB list, one after another.
 ghost use Rattle.std.specs.Prelude.{◌≡◌, ◌≢◌, ◌<◌, ◌^◌, MatchResult};
 ghost use Rattle.pi_base.specs.Lists.{Each};
-ghost use Rattle.gcd_map.specs.declared.state.GcdKind.TheVariants.{NonExistent};
 ghost use Rattle.gcd_map.specs.declared.fault.GcdCause.TheVariants.{Memory};
 ghost use Rattle.gcd_map.specs.AddressSpace.{MemorySpace};
 ghost use Rattle.gcd_map.specs.SpaceMap.{Shows};
 ghost use Rattle.gcd_map.specs.HobMap.{resource_at, allocation_at, resources, allocations, MayCome, came, MayBeTaken, taken, Follow, IsFilled};
 ghost use Rattle.gcd_map.specs.HobFaults.{ComesNot, IsNotTaken, Stops, IsMemoryFault};
-ghost use Rattle.gcd_map.specs.Places.{IsNear, resource_cause, allocation_cause, IsFaultOf, Step, IsStepFault};
+ghost use Rattle.gcd_map.specs.Places.{IsNear, resource_cause, allocation_cause, Step, IsStepFault};
 
 use crate::fault::{GcdCause, GcdFault};
-use crate::hob::{HobStretch, allocation_at, resource_at};
+use crate::hob::{allocation_at, resource_at};
 use crate::map::GcdMap;
 use crate::state::GcdKind;
 use crate::word::GcdWord;
@@ -35,39 +34,6 @@ fn allocation_cause(word: GcdWord) -> GcdCause
     }
 }
 
-// Adds a resource.
-fn add_resource(map: &mut GcdMap, resource: HobStretch) -> Result<(), GcdFault>
-    requires used { resource.kind ≢ NonExistent }
-    requires near { resource.at < 2 ^ 32 }
-    ensures { (space : MemorySpace) → Shows map.old space
-        → MatchResult result (λ _. MayCome space resource × Shows map.new (came space resource))
-        (IsFaultOf ComesNot space resource) }
-{
-    match map.add(resource.kind, resource.base, resource.len) {
-        Ok(()) => Ok(()),
-        Err(word) => Err(GcdFault {
-            cause: resource_cause(word),
-            at: resource.at as u32,
-        }),
-    }
-}
-
-// Allocates what an allocation HOB tells.
-fn take_allocation(map: &mut GcdMap, allocation: HobStretch) -> Result<(), GcdFault>
-    requires near { allocation.at < 2 ^ 32 }
-    ensures { (space : MemorySpace) → Shows map.old space
-        → MatchResult result (λ _. MayBeTaken space allocation × Shows map.new (taken space allocation))
-        (IsFaultOf IsNotTaken space allocation) }
-{
-    match map.allocate(GcdKind::System, allocation.base, allocation.len) {
-        Ok(()) => Ok(()),
-        Err(word) => Err(GcdFault {
-            cause: allocation_cause(word),
-            at: allocation.at as u32,
-        }),
-    }
-}
-
 // Adds the resource at a place, if one is there.
 fn add_at(map: &mut GcdMap, bytes: &[u8], at: usize) -> Result<(), GcdFault>
     requires near { at < 2 ^ 32 }
@@ -75,9 +41,15 @@ fn add_at(map: &mut GcdMap, bytes: &[u8], at: usize) -> Result<(), GcdFault>
         → MatchResult result (λ _. Step MayCome came space (resource_at bytes.now at) map.new)
         (IsStepFault ComesNot space (resource_at bytes.now at)) }
 {
-    match resource_at(bytes, at) {
-        Some(resource) => add_resource(map, resource),
-        None => Ok(()),
+    let Some(resource) = resource_at(bytes, at) else {
+        return Ok(());
+    };
+    match map.add(resource.kind, resource.base, resource.len) {
+        Ok(()) => Ok(()),
+        Err(word) => Err(GcdFault {
+            cause: resource_cause(word),
+            at: at as u32,
+        }),
     }
 }
 
@@ -88,9 +60,15 @@ fn take_at(map: &mut GcdMap, bytes: &[u8], at: usize) -> Result<(), GcdFault>
         → MatchResult result (λ _. Step MayBeTaken taken space (allocation_at bytes.now at) map.new)
         (IsStepFault IsNotTaken space (allocation_at bytes.now at)) }
 {
-    match allocation_at(bytes, at) {
-        Some(allocation) => take_allocation(map, allocation),
-        None => Ok(()),
+    let Some(allocation) = allocation_at(bytes, at) else {
+        return Ok(());
+    };
+    match map.allocate(GcdKind::System, allocation.base, allocation.len) {
+        Ok(()) => Ok(()),
+        Err(word) => Err(GcdFault {
+            cause: allocation_cause(word),
+            at: at as u32,
+        }),
     }
 }
 

@@ -1,8 +1,7 @@
 // What a HOB tells of the memory space.
 ghost use Rattle.std.specs.Prelude.{◌≡◌, ◌≢◌, IfSome};
-ghost use Rattle.hob_codec.specs.HobView.{hob_value};
 ghost use Rattle.gcd_map.specs.declared.state.GcdKind.TheVariants.{NonExistent};
-ghost use Rattle.gcd_map.specs.HobMap.{used_kind, resource_in, allocation_in, cpu_in, resource_at, allocation_at, cpu_at};
+ghost use Rattle.gcd_map.specs.HobMap.{used_kind, resource_at, allocation_at, cpu_at};
 
 use crate::state::GcdKind;
 use hob_codec::{Hob, read_at};
@@ -54,55 +53,6 @@ fn used_kind(kind: u32) -> Option<GcdKind>
     }
 }
 
-fn resource_in(at: usize, hob: Hob<'_>) -> Option<HobStretch>
-    ensures value { result ≡ resource_in at (hob_value hob.entry) }
-    ensures used { IfSome result (λ s. s.kind ≢ NonExistent) }
-    ensures here { IfSome result (λ s. s.at ≡ at) }
-{
-    match hob {
-        Hob::Resource {
-            kind,
-            start,
-            length,
-            ..
-        } => match used_kind(kind) {
-            Some(used) => Some(HobStretch {
-                at,
-                kind: used,
-                base: start,
-                len: length,
-            }),
-            None => None,
-        },
-        _ => None,
-    }
-}
-
-fn allocation_in(at: usize, hob: Hob<'_>) -> Option<HobStretch>
-    ensures value { result ≡ allocation_in at (hob_value hob.entry) }
-    ensures here { IfSome result (λ s. s.at ≡ at) }
-{
-    match hob {
-        Hob::Allocation { base, length, .. } => Some(HobStretch {
-            at,
-            kind: GcdKind::System,
-            base,
-            len: length,
-        }),
-        _ => None,
-    }
-}
-
-fn cpu_in(at: usize, hob: Hob<'_>) -> Option<CpuSize>
-    ensures value { result ≡ cpu_in at (hob_value hob.entry) }
-    ensures here { IfSome result (λ cpu. cpu.at ≡ at) }
-{
-    match hob {
-        Hob::Cpu { memory, .. } => Some(CpuSize { at, bits: memory }),
-        _ => None,
-    }
-}
-
 // The resource at a place.
 pub(crate) fn resource_at(bytes: &[u8], at: usize) -> Option<HobStretch>
     ensures value { result ≡ resource_at bytes.now at }
@@ -110,8 +60,26 @@ pub(crate) fn resource_at(bytes: &[u8], at: usize) -> Option<HobStretch>
     ensures here { IfSome result (λ s. s.at ≡ at) }
 {
     match read_at(bytes, at) {
-        Ok((hob, _)) => resource_in(at, hob),
-        Err(_) => None,
+        Ok(
+            (
+                Hob::Resource {
+                    kind,
+                    start,
+                    length,
+                    ..
+                },
+                _,
+            ),
+        ) => {
+            let used = used_kind(kind)?;
+            Some(HobStretch {
+                at,
+                kind: used,
+                base: start,
+                len: length,
+            })
+        }
+        _ => None,
     }
 }
 
@@ -121,8 +89,13 @@ pub(crate) fn allocation_at(bytes: &[u8], at: usize) -> Option<HobStretch>
     ensures here { IfSome result (λ s. s.at ≡ at) }
 {
     match read_at(bytes, at) {
-        Ok((hob, _)) => allocation_in(at, hob),
-        Err(_) => None,
+        Ok((Hob::Allocation { base, length, .. }, _)) => Some(HobStretch {
+            at,
+            kind: GcdKind::System,
+            base,
+            len: length,
+        }),
+        _ => None,
     }
 }
 
@@ -132,7 +105,7 @@ pub(crate) fn cpu_at(bytes: &[u8], at: usize) -> Option<CpuSize>
     ensures here { IfSome result (λ cpu. cpu.at ≡ at) }
 {
     match read_at(bytes, at) {
-        Ok((hob, _)) => cpu_in(at, hob),
-        Err(_) => None,
+        Ok((Hob::Cpu { memory, .. }, _)) => Some(CpuSize { at, bits: memory }),
+        _ => None,
     }
 }

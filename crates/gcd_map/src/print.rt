@@ -1,7 +1,7 @@
 // Printing answers, the map and refusals.
 ghost use Rattle.std.specs.Prelude.{◌≡◌};
 ghost use Rattle.boot_io.specs.Sink.{Puts, SinkFaultsAfter};
-ghost use Rattle.gcd_map.specs.MapText.{success, range_keyword, refused_hobs, refused_command, answer_line, range_line, answers_text, map_text, hobs_refusal, command_refusal};
+ghost use Rattle.gcd_map.specs.MapText.{refused_hobs, refused_command, answer_line, range_line, answers_text, map_text, hobs_refusal, command_refusal};
 
 use crate::command::Command;
 use crate::fault::GcdFault;
@@ -12,21 +12,12 @@ use boot_io::{Sink, SinkFault, put_line};
 use pi_base::{DECIMAL_LEN, HEXADECIMAL_LEN, decimal, hexadecimal};
 
 // The word of a command that was done.
-#[tactic(auto, unfolding(crate::specs::MapText::success))]
-fn success() -> &'static [u8]
-    ensures { result.now ≡ success }
-{
-    b"Success"
-}
+const SUCCESS: [u8; 7] = *b"Success";
 
-// The first words of lines.
-#[tactic(auto, unfolding(crate::specs::MapText::range_keyword))]
-fn range_keyword() -> &'static [u8]
-    ensures { result.now ≡ range_keyword }
-{
-    b"range"
-}
+// The first word of the line of a range.
+const RANGE: [u8; 5] = *b"range";
 
+// The first words of the lines of refusals.
 #[tactic(auto, unfolding(crate::specs::MapText::refused_hobs))]
 fn refused_hobs() -> &'static [u8]
     ensures { result.now ≡ refused_hobs }
@@ -42,18 +33,19 @@ fn refused_command() -> &'static [u8]
 }
 
 /// Puts the line of a command and its answer: the command's name, and `Success`, with the base that `top` found, or the refusal.
+#[tactic(auto, unfolding(crate::specs::MapText::success))]
 pub fn put_answer<S: Sink>(sink: &mut S, command: Command, answer: Answer) -> Result<(), SinkFault>
     ensures text { Puts result (S.text sink.old) (S.text sink.new) (answer_line (command, answer)) }
     ensures cause { SinkFaultsAfter result (S.faults sink.old) (S.faults sink.new) }
 {
     let name = name_word(command);
     match answer {
-        Answer::Done => put_line(sink, name, &[success()]),
+        Answer::Done => put_line(sink, name, &[SUCCESS.as_slice()]),
         Answer::At(base) => {
             let mut digits = [0u8; HEXADECIMAL_LEN];
             let len = hexadecimal(base, &mut digits);
             let (base, _) = digits.split_at(len);
-            put_line(sink, name, &[success(), base])
+            put_line(sink, name, &[SUCCESS.as_slice(), base])
         }
         Answer::Refused(word) => put_line(sink, name, &[refusal_word(word)]),
     }
@@ -71,6 +63,7 @@ pub fn put_answers<S: Sink>(sink: &mut S, steps: &[(Command, Answer)]) -> Result
 }
 
 /// Puts the line of a range: its base, its length, its kind, and `free` or `allocated`.
+#[tactic(auto, unfolding(crate::specs::MapText::range_keyword))]
 pub fn put_range<S: Sink>(sink: &mut S, range: GcdRange) -> Result<(), SinkFault>
     ensures text { Puts result (S.text sink.old) (S.text sink.new) (range_line range) }
     ensures cause { SinkFaultsAfter result (S.faults sink.old) (S.faults sink.new) }
@@ -83,7 +76,7 @@ pub fn put_range<S: Sink>(sink: &mut S, range: GcdRange) -> Result<(), SinkFault
     let (len, _) = len_digits.split_at(len_len);
     put_line(
         sink,
-        range_keyword(),
+        RANGE.as_slice(),
         &[
             base,
             len,

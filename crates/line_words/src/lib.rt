@@ -10,4 +10,4 @@ mod words;
 
 pub use line::{first_line, is_passed_over, place_of};
 pub use number::number_of;
-pub use words::{first_word, is_plain};
+pub use words::{first_word, is_plain, is_printable};

@@ -9,8 +9,8 @@ const SPACE: u8 = b' ';
 
 const TILDE: u8 = b'~';
 
-// Whether each byte is printable.
-fn is_printable(line: &[u8]) -> bool
+/// Whether each byte is printable.
+pub fn is_printable(line: &[u8]) -> bool
     ensures { result ≡ list_all (λ byte. nat_le 0x20 byte && nat_le byte 0x7e) line.now }
 {
     line.iter().all(|byte| *byte >= SPACE && *byte <= TILDE)

@@ -46,7 +46,7 @@ pub enum ImageCause {
 }
 
 /// What is wrong in the file of one volume of the plan.
-#[derive(Clone, Copy, Debug, PartialEq, Eq)]
+#[derive(Clone, Copy, Debug)]
 pub struct FaultAt {
     /// An offset in the file.
     pub at: u64,

@@ -16,7 +16,7 @@ pub struct ReadFile {
 }
 
 /// A run of bytes in a volume.
-#[derive(Clone, Copy, PartialEq, Eq)]
+#[derive(Clone, Copy)]
 pub struct Stretch {
     /// The offset of its first byte in the volume.
     pub at: u64,

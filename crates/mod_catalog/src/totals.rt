@@ -2,7 +2,7 @@
 use crate::holding::Holding;
 
 /// How many volumes and modules there are, and how many bytes their scripts have together.
-#[derive(Clone, Copy, PartialEq, Eq)]
+#[derive(Clone, Copy)]
 pub struct Totals {
     pub volumes: usize,
     pub modules: usize,

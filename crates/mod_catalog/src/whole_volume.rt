@@ -1,5 +1,5 @@
 // A volume put together with what its files hold.
-ghost use Rattle.std.specs.Prelude.{◌≡◌, ◌≤◌, ◌+◌, ℕ, suc, [], ◌∷◌, filter, IfOk};
+ghost use Rattle.std.specs.Prelude.{◌≡◌, ◌≤◌, ◌+◌, ℕ, suc, filter, IfOk};
 ghost use Rattle.fv_volume.specs.Volume.{IsVolume};
 ghost use Rattle.fv_volume.specs.Places.{AreInside};
 ghost use Rattle.mod_catalog.specs.ReadFile.{AreRead, is_read};
@@ -17,15 +17,6 @@ use crate::{Holding, Location, VolumeEntry};
 use fv_volume::Volume;
 use pi_base::{OutOfMemory, Seq};
 use std::alloc::Global;
-
-// A list of one item.
-fn one<T: Drop>(alloc: Global, item: T) -> Result<Seq<T>, OutOfMemory>
-    ensures { IfOk result (λ list. list ≡ item ∷ []) }
-{
-    let mut list = Seq::new(alloc);
-    list.push(item)?;
-    Ok(list)
-}
 
 /// What a volume holds whose files were examined.
 pub(crate) fn whole_volume(
@@ -58,16 +49,19 @@ pub(crate) fn whole_volume(
         inner,
         ..
     } = files;
+    let modules = modules_of(
+        alloc,
+        bytes,
+        volume.files.as_slice(),
+        a_priori,
+        reads,
+        location.number,
+    )?;
+    let mut volumes = Seq::new(alloc);
+    volumes.push(entry)?;
     let own = Holding {
-        volumes: one(alloc, entry)?,
-        modules: modules_of(
-            alloc,
-            bytes,
-            volume.files.as_slice(),
-            a_priori,
-            reads,
-            location.number,
-        )?,
+        volumes,
+        modules,
         script_bytes,
     };
     own.joined(inner)

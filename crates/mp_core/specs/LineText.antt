@@ -70,54 +70,49 @@ job_of cells words = if nat_le 1 (length words) && nat_le (length words) MOST_OP
 abbrev pub enabled_of : List ℕ → Option Bool
 enabled_of word = if bytes_eq word (codes "on") then Some true else if bytes_eq word (codes "off") then Some false else None
 
--- the events of the operands of each keyword, with so many processors and cells
-abbrev pub all_of : ℕ → ℕ → List (List ℕ) → Option MpEvent
-all_of processors cells [] = None
-all_of processors cells (by ∷ ops) = of_two (λ by job. E.All by job) (number_below processors by) (job_of cells ops)
+-- the events of each keyword: by whom, where there is such a processor, and the operands behind
+abbrev pub all_of : ℕ → Option ℕ → List (List ℕ) → Option MpEvent
+all_of cells by ops = of_two (λ by job. E.All by job) by (job_of cells ops)
 
-abbrev pub this_of : ℕ → ℕ → List (List ℕ) → Option MpEvent
-this_of processors cells [] = None
-this_of processors cells (by ∷ []) = None
-this_of processors cells (by ∷ on ∷ ops) =
-    of_three (λ by on job. E.This by on job) (number_below processors by) (processor_of on) (job_of cells ops)
+abbrev pub this_of : ℕ → Option ℕ → List (List ℕ) → Option MpEvent
+this_of cells by [] = None
+this_of cells by (on ∷ ops) = of_three (λ by on job. E.This by on job) by (processor_of on) (job_of cells ops)
 
-abbrev pub enable_of : ℕ → Bool → List (List ℕ) → Option MpEvent
-enable_of processors enabled [] = None
-enable_of processors enabled (by ∷ []) = None
-enable_of processors enabled (by ∷ on ∷ []) = of_two (λ by on. E.Enable by on enabled) (number_below processors by) (processor_of on)
-enable_of processors enabled (by ∷ on ∷ more ∷ words) = None
+abbrev pub enable_of : Bool → Option ℕ → List (List ℕ) → Option MpEvent
+enable_of enabled by [] = None
+enable_of enabled by (on ∷ []) = of_two (λ by on. E.Enable by on enabled) by (processor_of on)
+enable_of enabled by (on ∷ more ∷ words) = None
 
-abbrev pub switch_of : ℕ → List (List ℕ) → Option MpEvent
-switch_of processors [] = None
-switch_of processors (by ∷ []) = None
-switch_of processors (by ∷ on ∷ []) = None
-switch_of processors (by ∷ on ∷ enabled ∷ []) =
-    of_three (λ by on enabled. E.Switch by on enabled) (number_below processors by) (processor_of on) (enabled_of enabled)
-switch_of processors (by ∷ on ∷ enabled ∷ more ∷ words) = None
+abbrev pub switch_of : Option ℕ → List (List ℕ) → Option MpEvent
+switch_of by [] = None
+switch_of by (on ∷ []) = None
+switch_of by (on ∷ enabled ∷ []) = of_three (λ by on enabled. E.Switch by on enabled) by (processor_of on) (enabled_of enabled)
+switch_of by (on ∷ enabled ∷ more ∷ words) = None
 
-abbrev pub who_of : ℕ → List (List ℕ) → Option MpEvent
-who_of processors [] = None
-who_of processors (by ∷ []) = option_map (λ by. E.Who by) (number_below processors by)
-who_of processors (by ∷ more ∷ words) = None
+abbrev pub who_of : Option ℕ → List (List ℕ) → Option MpEvent
+who_of by [] = option_map (λ by. E.Who by) by
+who_of by (more ∷ words) = None
 
-abbrev pub turn_of : List (List ℕ) → Option MpEvent
-turn_of [] = None
-turn_of (on ∷ []) = option_map (λ on. E.Turn on) (processor_of on)
-turn_of (on ∷ more ∷ words) = None
+-- a turn has no caller, but names a processor
+abbrev pub turn_of : Option ℕ → List (List ℕ) → Option MpEvent
+turn_of on [] = option_map (λ on. E.Turn on) on
+turn_of on (more ∷ words) = None
 
-abbrev pub event_by : ℕ → ℕ → Keyword → List (List ℕ) → Option MpEvent
-event_by processors cells All operands = all_of processors cells operands
-event_by processors cells This operands = this_of processors cells operands
-event_by processors cells Enable operands = enable_of processors true operands
-event_by processors cells Disable operands = enable_of processors false operands
-event_by processors cells Switch operands = switch_of processors operands
-event_by processors cells Who operands = who_of processors operands
-event_by processors cells Turn operands = turn_of operands
+-- the event of a keyword, the word behind it, and the operands behind that
+abbrev pub event_by : ℕ → ℕ → Keyword → List ℕ → List (List ℕ) → Option MpEvent
+event_by processors cells All by operands = all_of cells (number_below processors by) operands
+event_by processors cells This by operands = this_of cells (number_below processors by) operands
+event_by processors cells Enable by operands = enable_of true (number_below processors by) operands
+event_by processors cells Disable by operands = enable_of false (number_below processors by) operands
+event_by processors cells Switch by operands = switch_of (number_below processors by) operands
+event_by processors cells Who by operands = who_of (number_below processors by) operands
+event_by processors cells Turn on operands = turn_of (processor_of on) operands
 
 abbrev pub event_of_words : ℕ → ℕ → List (List ℕ) → Option MpEvent
 event_of_words processors cells [] = None
-event_of_words processors cells (name ∷ operands) =
-    option_and_then (λ keyword. event_by processors cells keyword operands) (keyword_named name)
+event_of_words processors cells (name ∷ []) = None
+event_of_words processors cells (name ∷ first ∷ operands) =
+    option_and_then (λ keyword. event_by processors cells keyword first operands) (keyword_named name)
 
 -- the event that a line spells, with so many processors and cells
 abbrev pub event_of : ℕ → ℕ → List ℕ → Option MpEvent

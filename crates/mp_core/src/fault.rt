@@ -4,7 +4,7 @@ use pi_base::OutOfMemory;
 use thiserror::Error;
 
 /// Why a text stands for no MP file.
-#[derive(Clone, Copy, Debug, PartialEq, Eq, Error)]
+#[derive(Clone, Copy, Debug, Error)]
 pub enum MpFault {
     /// The number, from 1, of the first line that is of no form or names what there is not; where there is no first line `mp N C`, the
     /// number of lines plus 1.

@@ -3,8 +3,7 @@ ghost use Rattle.std.specs.Prelude.{◌≡◌, ◌≢◌, ◌∷◌, slice_index
 ghost use Rattle.line_words.specs.Words.{words};
 ghost use Rattle.mp_core.specs.declared.limits.TheConstants.{MOST_CELLS, MOST_PROCESSORS};
 ghost use Rattle.mp_core.specs.Calls.{IsCount};
-ghost use Rattle.mp_core.specs.LineText.{head_of, head_of_words, of_two};
-ghost use Rattle.mp_core.specs.Words.{count_of};
+ghost use Rattle.mp_core.specs.LineText.{head_of, head_of_words};
 
 use crate::limits::{MOST_CELLS, MOST_PROCESSORS};
 use crate::word::{count_of, next_word};
@@ -12,18 +11,7 @@ use line_words::is_plain;
 
 const HEAD: [u8; 2] = *b"mp";
 
-// The numbers of processors and of cells that two words spell.
-fn counts_of(processors: &[u8], cells: &[u8]) -> Option<(u32, u32)>
-    ensures counts { result ≡ of_two (λ n c. (n, c)) (count_of MOST_PROCESSORS processors.now) (count_of MOST_CELLS cells.now) }
-    ensures processors { IfSome result (λ head. IsCount MOST_PROCESSORS head.0) }
-    ensures cells { IfSome result (λ head. IsCount MOST_CELLS head.1) }
-{
-    let processors = count_of(processors, MOST_PROCESSORS)?;
-    let cells = count_of(cells, MOST_CELLS)?;
-    Some((processors, cells))
-}
-
-// Those that a first word and what is left behind it spell.
+// The numbers of processors and of cells that a first word and what is left behind it spell.
 fn head_behind(name: &[u8], rest: &[u8]) -> Option<(u32, u32)>
     requires { slice_index rest.now 0 ≢ 32 }
     ensures head { result ≡ head_of_words (name.now ∷ words rest.now) }
@@ -34,7 +22,11 @@ fn head_behind(name: &[u8], rest: &[u8]) -> Option<(u32, u32)>
     let (cells, rest) = next_word(rest)?;
     match next_word(rest) {
         Some(_) => None,
-        None if name == HEAD.as_slice() => counts_of(processors, cells),
+        None if name == HEAD.as_slice() => {
+            let processors = count_of(processors, MOST_PROCESSORS)?;
+            let cells = count_of(cells, MOST_CELLS)?;
+            Some((processors, cells))
+        }
         None => None,
     }
 }

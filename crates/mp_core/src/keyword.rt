@@ -1,15 +1,12 @@
 // The first words of events' lines.
-ghost use Rattle.std.specs.Prelude.{◌≡◌, ◌∷◌, []};
-ghost use Rattle.std.specs.List.{find};
-ghost use Rattle.std.specs.Str.{bytes_eq};
-ghost use Rattle.mp_core.specs.declared.keyword.Keyword.TheVariants.{Switch, Who, Turn};
+ghost use Rattle.std.specs.Prelude.{◌≡◌};
 ghost use Rattle.mp_core.specs.LineText.{keyword_text, keyword_named};
 ghost use Rattle.mp_core.specs.OutcomeText.{keyword_of};
 
 use crate::event::MpEvent;
 
 /// What an event's line begins with.
-#[derive(Clone, Copy, PartialEq, Eq)]
+#[derive(Clone, Copy)]
 pub enum Keyword {
     All,
     This,
@@ -36,36 +33,28 @@ pub(crate) fn keyword_text(keyword: Keyword) -> &'static [u8]
     }
 }
 
-// The keyword that a word is, of the last three.
-fn later_keyword(word: &[u8]) -> Option<Keyword>
-    ensures { result ≡ find (λ keyword. bytes_eq word.now (keyword_text keyword)) (Switch ∷ Who ∷ Turn ∷ []) }
-{
-    if word == keyword_text(Keyword::Switch) {
-        Some(Keyword::Switch)
-    } else if word == keyword_text(Keyword::Who) {
-        Some(Keyword::Who)
-    } else if word == keyword_text(Keyword::Turn) {
-        Some(Keyword::Turn)
-    } else {
-        None
-    }
-}
+const KEYWORDS: [Keyword; 7] = [
+    Keyword::All,
+    Keyword::This,
+    Keyword::Enable,
+    Keyword::Disable,
+    Keyword::Switch,
+    Keyword::Who,
+    Keyword::Turn,
+];
 
 // The keyword that a word is.
 pub(crate) fn keyword_named(word: &[u8]) -> Option<Keyword>
     ensures { result ≡ keyword_named word.now }
 {
-    if word == keyword_text(Keyword::All) {
-        Some(Keyword::All)
-    } else if word == keyword_text(Keyword::This) {
-        Some(Keyword::This)
-    } else if word == keyword_text(Keyword::Enable) {
-        Some(Keyword::Enable)
-    } else if word == keyword_text(Keyword::Disable) {
-        Some(Keyword::Disable)
-    } else {
-        later_keyword(word)
+    let mut rest = KEYWORDS.as_slice();
+    'keywords: while let [keyword, after @ ..] = rest {
+        if word == keyword_text(*keyword) {
+            return Some(*keyword);
+        }
+        rest = after;
     }
+    None
 }
 
 // The keyword of an event's line.

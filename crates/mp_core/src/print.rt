@@ -9,9 +9,15 @@ use crate::event::MpEvent;
 use crate::file::MpFile;
 use crate::keyword::{keyword_of, keyword_text};
 use crate::reply::{MpOutcome, MpReply};
-use crate::status::{cell_keyword, no_numbers, record_keyword, refused_command, status_text};
+use crate::status::{record_keyword, refused_command, status_text};
 use boot_io::{Sink, SinkFault, put_line};
 use pi_base::{DECIMAL_LEN, HEXADECIMAL_LEN, Seq, decimal, hexadecimal};
+
+// The first word of the line of a cell.
+const CELL: [u8; 4] = *b"cell";
+
+// What stands for a record without numbers.
+const NO_NUMBERS: [u8; 1] = *b"-";
 
 // Puts the line of a keyword and a number.
 fn put_numbered<S: Sink>(sink: &mut S, keyword: &[u8], number: u64) -> Result<(), SinkFault>
@@ -68,6 +74,7 @@ fn put_replies<S: Sink>(
 }
 
 // Puts the line of a cell.
+#[tactic(auto, unfolding(crate::specs::OutcomeText::cell_keyword))]
 fn put_cell<S: Sink>(sink: &mut S, index: u64, cell: u64) -> Result<(), SinkFault>
     ensures text { Puts result (S.text sink.old) (S.text sink.new) (cell_line (index, cell)) }
     ensures cause { SinkFaultsAfter result (S.faults sink.old) (S.faults sink.new) }
@@ -78,7 +85,7 @@ fn put_cell<S: Sink>(sink: &mut S, index: u64, cell: u64) -> Result<(), SinkFaul
     let mut cell_digits = [0u8; HEXADECIMAL_LEN];
     let cell_len = hexadecimal(cell, &mut cell_digits);
     let (cell, _) = cell_digits.split_at(cell_len);
-    put_line(sink, cell_keyword(), &[index, cell])
+    put_line(sink, CELL.as_slice(), &[index, cell])
 }
 
 // Puts the lines of the cells.
@@ -116,6 +123,7 @@ fn put_numbers<S: Sink>(sink: &mut S, numbers: &[u64]) -> Result<(), SinkFault>
 }
 
 // Puts the line of a processor's record, number by number, since there can be many.
+#[tactic(auto, unfolding(crate::specs::OutcomeText::no_numbers))]
 fn put_record<S: Sink>(sink: &mut S, processor: u64, numbers: &[u64]) -> Result<(), SinkFault>
     ensures text { Puts result (S.text sink.old) (S.text sink.new) (record_line (processor, numbers.now)) }
     ensures cause { SinkFaultsAfter result (S.faults sink.old) (S.faults sink.new) }
@@ -124,7 +132,7 @@ fn put_record<S: Sink>(sink: &mut S, processor: u64, numbers: &[u64]) -> Result<
         let mut digits = [0u8; DECIMAL_LEN];
         let len = decimal(processor, &mut digits);
         let (processor, _) = digits.split_at(len);
-        return put_line(sink, record_keyword(), &[processor, no_numbers()]);
+        return put_line(sink, record_keyword(), &[processor, NO_NUMBERS.as_slice()]);
     }
     sink.put(record_keyword())?;
     put_number(sink, processor)?;

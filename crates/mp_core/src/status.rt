@@ -1,6 +1,6 @@
 // The fixed words of what is printed.
 ghost use Rattle.std.specs.Prelude.{◌≡◌};
-ghost use Rattle.mp_core.specs.OutcomeText.{status_text, cell_keyword, record_keyword, no_numbers, refused_command};
+ghost use Rattle.mp_core.specs.OutcomeText.{status_text, record_keyword, refused_command};
 
 use crate::reply::MpWord;
 
@@ -20,14 +20,7 @@ pub(crate) fn status_text(status: MpWord) -> &'static [u8]
     }
 }
 
-// The first words of lines.
-#[tactic(auto, unfolding(crate::specs::OutcomeText::cell_keyword))]
-pub(crate) fn cell_keyword() -> &'static [u8]
-    ensures { result.now ≡ cell_keyword }
-{
-    b"cell"
-}
-
+// The first word of the line of a record.
 #[tactic(auto, unfolding(crate::specs::OutcomeText::record_keyword))]
 pub(crate) fn record_keyword() -> &'static [u8]
     ensures { result.now ≡ record_keyword }
@@ -35,17 +28,10 @@ pub(crate) fn record_keyword() -> &'static [u8]
     b"record"
 }
 
+// The first words of the line of a refusal.
 #[tactic(auto, unfolding(crate::specs::OutcomeText::refused_command))]
 pub(crate) fn refused_command() -> &'static [u8]
     ensures { result.now ≡ refused_command }
 {
     b"refused command"
-}
-
-// What stands for a record without numbers.
-#[tactic(auto, unfolding(crate::specs::OutcomeText::no_numbers))]
-pub(crate) fn no_numbers() -> &'static [u8]
-    ensures { result.now ≡ no_numbers }
-{
-    b"-"
 }

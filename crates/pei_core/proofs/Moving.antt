@@ -1,5 +1,5 @@
 -- The core's own call, behind the move.
-use Rattle.std.proofs.Common.{◌≡◌, ℕ, Bool, true, List, [], ◌∷◌, ◌++◌, refl, ap, ◌∙◌, subst, Some, None, Ok, Err}
+use Rattle.std.proofs.Common.{◌≡◌, ℕ, Bool, List, [], ◌∷◌, ◌++◌, refl, ap, ◌∙◌, subst, Some, None, Ok, Err}
 use Rattle.pi_base.specs.declared.word.Word.{Word}
 use Rattle.pi_base.specs.declared.word.Word.TheVariants.{Success}
 use Rattle.store_model.specs.declared.store_handle.Sweep.{Sweep}
@@ -64,14 +64,6 @@ refusal_is takes service old new F.Bad status a e = record { is = a.0; same = a.
 refusal_is takes service old new F.Missing status a e = record { is = a.0; same = a.1; told = cc }
 refusal_is takes service old new F.NotYet status a e = record { is = a.0; same = a.1; told = cc }
 refusal_is takes service old new F.Memory status a e = cc
-
--- a fault without a status is want of memory
-pub wants_memory : (takes : Bool) (service : Service Sweep) (old new : StoreState) (fault : StoreFault) → Answers takes service old (Err fault) new → fault_status fault ≡ None → takes ≡ true
-wants_memory takes service old new F.Full a e = cc
-wants_memory takes service old new F.Bad a e = cc
-wants_memory takes service old new F.Missing a e = cc
-wants_memory takes service old new F.NotYet a e = cc
-wants_memory takes service old new F.Memory a e = a.0
 
 -- what the call prints
 pub call_prints : (m : PeiMachine) (service : Service Sweep) → (told : List Line) × ((core_called m service).lines ≡ m.lines ++ told)

@@ -46,19 +46,12 @@ pub fn plan_memory<M: PeiStore>(
     }
 }
 
-// Whether pages may be of this type of memory.
-fn is_memory_type(memory_type: u8) -> bool
-    ensures { result ≡ P.is_memory_type memory_type }
-{
-    memory_type <= 6 || memory_type == 9 || memory_type == 10
-}
-
-// Whether so many pages of this type may be asked for.
+// Whether so many pages of this type of memory may be asked for.
 fn may_take(memory_type: u8, count: u32) -> bool
     ensures may { result ≡ (P.is_memory_type memory_type && not (count == 0)) }
     ensures some { IsTrue result → 1 ≤ count }
 {
-    is_memory_type(memory_type) && count != 0
+    (memory_type <= 6 || memory_type == 9 || memory_type == 10) && count != 0
 }
 
 /// The action `pages`.

@@ -1,9 +1,9 @@
 // One step of the machine, by its cases.
-ghost use Rattle.std.specs.Prelude.{◌≡◌, ℕ, [], None};
+ghost use Rattle.std.specs.Prelude.{ℕ, None};
 ghost use Rattle.boot_io.specs.Halted.{HaltsAfter};
 ghost use Rattle.boot_model.specs.PeiMachine.{PeiMachine};
 ghost use Rattle.mod_catalog.specs.WellFormed.{IsWellFormed};
-ghost use Rattle.pei_core.specs.Parts.{Anywhere, FiresNext, RunsNone, StepsIn};
+ghost use Rattle.pei_core.specs.Parts.{Anywhere, FiresNext, StepsIn};
 ghost use Rattle.pei_core.specs.Standing.{IsFor, KeepsFor, StandsFor, last_start};
 
 use crate::event::Stepped;
@@ -13,23 +13,7 @@ use mod_catalog::Catalog;
 use store_model::PeiStore;
 
 impl<M: PeiStore + Drop> Pei<M> {
-    // A step between scripts: the move, where it is due, or a notification of the queue.
-    fn step_between<S: Sink>(&mut self, catalog: &Catalog, sink: &mut S) -> Result<Stepped, Halt>
-        requires frames { self.old.core.frames ≡ [] }
-        requires state { (m : PeiMachine) × StandsFor M.stands_for self.old m }
-        ensures row { StepsIn RunsNone M.TAKES_MEMORY M.stands_for catalog.now
-            (record { pei = self.old; later = self.new; texts = record { old = S.text sink.old; new = S.text sink.new } }) result }
-        ensures kept { KeepsFor catalog.now self.old self.new (last_start self.old) }
-        ensures faults { HaltsAfter result (S.faults sink.old) (S.faults sink.new) }
-    {
-        if self.store.memory_due() {
-            self.move_memory(sink)
-        } else {
-            self.step_queue(catalog, sink)
-        }
-    }
-
-    // A step where no pair of the open sweep fires.
+    // A step where no pair of the open sweep fires: the top frame's action, or between scripts the move, where it is due, or a notification of the queue.
     fn step_on<S: Sink>(&mut self, catalog: &Catalog, sink: &mut S) -> Result<Stepped, Halt>
         requires catalog { IsWellFormed catalog.now }
         requires made { (fuel : ℕ) × IsFor catalog.now fuel self.old }
@@ -41,8 +25,10 @@ impl<M: PeiStore + Drop> Pei<M> {
     {
         if self.core.frames.top().is_some() {
             self.act(catalog, sink)
+        } else if self.store.memory_due() {
+            self.move_memory(sink)
         } else {
-            self.step_between(catalog, sink)
+            self.step_queue(catalog, sink)
         }
     }
 

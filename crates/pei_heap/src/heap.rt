@@ -7,7 +7,7 @@ use phys_mem::{PhysMem, Stretch};
 use pi_base::Span;
 
 /// The heap, by its addresses. Its bytes lie in the memory that each call takes; an offset counts from its base.
-#[derive(Clone, Copy, PartialEq, Eq)]
+#[derive(Clone, Copy)]
 pub struct Heap {
     /// Its addresses.
     pub span: Span,

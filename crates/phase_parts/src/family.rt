@@ -15,7 +15,10 @@ pub(crate) fn family_of(catalog: &Catalog, volume: u32) -> VolumeList
     family.push_where(true, volume);
     let mut number = 0;
     'volumes: for entry in catalog.volumes.as_slice() {
-        let is_nested = family.has_parent(entry.parent);
+        let is_nested = match entry.parent {
+            Some(parent) => family.has(parent),
+            None => false,
+        };
         family.push_where(is_nested, number);
         number += 1;
     }

@@ -1,12 +1,12 @@
 // The action at which a frame stands.
 ghost use Rattle.std.specs.Prelude.{◌≡◌, option_copied};
 ghost use Rattle.mod_catalog.specs.Parts.{part_at};
-ghost use Rattle.phase_parts.specs.Found.{found_action, found_block};
+ghost use Rattle.phase_parts.specs.Found.{found_action};
 
 use act_code::Action;
 use boot_model::Frame;
 use mod_catalog::{Catalog, Part};
-use pi_base::{Phase, Seq};
+use pi_base::Phase;
 
 /// The part that a module has for a phase. None where it has none, or there is no such module.
 pub fn part_of<'a>(catalog: &'a Catalog, phase: Phase, number: u32) -> Option<&'a Part>
@@ -21,22 +21,11 @@ pub fn part_of<'a>(catalog: &'a Catalog, phase: Phase, number: u32) -> Option<&'
     }
 }
 
-// The block in which a frame stands.
-fn block_of<'a, W>(catalog: &'a Catalog, phase: Phase, frame: &Frame<W>) -> Option<&'a Seq<Action>>
-    ensures { option_copied result ≡ found_block phase catalog.now frame.now }
-{
-    match part_of(catalog, phase, frame.module_number) {
-        Some(part) => part.script.blocks.as_slice().get(frame.block as usize),
-        None => None,
-    }
-}
-
 /// The action at which a frame stands. None behind the end of its block, and where there is no such block.
 pub fn action_at<'a, W>(catalog: &'a Catalog, phase: Phase, frame: &Frame<W>) -> Option<&'a Action>
     ensures { option_copied result ≡ found_action phase catalog.now frame.now }
 {
-    match block_of(catalog, phase, frame) {
-        Some(block) => block.as_slice().get(frame.position as usize),
-        None => None,
-    }
+    let part = part_of(catalog, phase, frame.module_number)?;
+    let block = part.script.blocks.as_slice().get(frame.block as usize)?;
+    block.as_slice().get(frame.position as usize)
 }

@@ -1,7 +1,7 @@
 //! How many actions a phase may take.
 
 /// The actions that were taken, and how many may be.
-#[derive(Clone, Copy, PartialEq, Eq)]
+#[derive(Clone, Copy)]
 pub struct Fuel {
     pub taken: u32,
     pub limit: u32,

@@ -3,7 +3,7 @@ ghost use Rattle.std.specs.Prelude.{◌≡◌, ◌≤◌, ◌<◌, ◌++◌, ◌
 ghost use Rattle.mod_catalog.specs.declared.limits.TheConstants.{MOST_MODULES};
 ghost use Rattle.mod_catalog.specs.Parts.{parts_in, rank_at};
 ghost use Rattle.boot_model.specs.PeiChoice.{ranked};
-ghost use Rattle.phase_parts.specs.Parts.{wanted_in, ranked_below, unranked_parts};
+ghost use Rattle.phase_parts.specs.Parts.{wanted_in, unranked_parts};
 
 use crate::wanted::{count_parts, is_part_in, is_wanted, ranks_end};
 use arrayvec::ArrayVec;
@@ -65,17 +65,6 @@ impl Parts {
         }
     }
 
-    // Puts the parts of a volume with a rank below a number at the end, by rank.
-    fn push_below(&mut self, catalog: &Catalog, phase: Phase, volume: u32, end: u32)
-        requires few { length catalog.now.modules ≤ MOST_MODULES }
-        requires room { length (self.old ++ ranked_below phase catalog.now volume end) ≤ MOST_MODULES }
-        ensures { self.new ≡ self.old ++ ranked_below phase catalog.now volume end }
-    {
-        'ranks: for rank in 0..end {
-            self.push_wanted(catalog, phase, volume, Some(rank));
-        }
-    }
-
     /// Puts the parts of a volume that have a place in its a priori list at the end, in list order.
     pub fn push_ranked(&mut self, catalog: &Catalog, phase: Phase, volume: u32)
         requires few { length catalog.now.modules ≤ MOST_MODULES }
@@ -84,7 +73,9 @@ impl Parts {
     {
         let count = count_parts(catalog, phase, volume);
         let end = count.min(ranks_end(catalog, phase, volume));
-        self.push_below(catalog, phase, volume, end as u32);
+        'ranks: for rank in 0..end as u32 {
+            self.push_wanted(catalog, phase, volume, Some(rank));
+        }
     }
 
     /// Puts the parts of a volume that have none at the end, by place.

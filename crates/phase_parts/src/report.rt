@@ -1,7 +1,6 @@
 //! The volumes that PPIs report.
 ghost use Rattle.std.specs.Prelude.{◌≡◌, ◌≤◌, ◌<◌, length, IfSome};
 ghost use Rattle.mod_catalog.specs.declared.limits.TheConstants.{MOST_VOLUMES};
-ghost use Rattle.pi_base.specs.Guids.{guid_at};
 ghost use Rattle.boot_model.specs.Reporting as R;
 ghost use Rattle.store_model.specs.StateFacts.{IsDesc};
 ghost use Rattle.store_model.specs.Service.{Present, OfEach};
@@ -23,21 +22,14 @@ const INFO_LEN: usize = 48;
 /// The offset of its FvInfo, the address of the volume.
 const INFO_AT: usize = 16;
 
-// Whether the PPI says that the volume has a file system of the specification.
-fn is_file_system(info: &[u8; INFO_LEN]) -> bool
-    ensures { result ≡ R.is_file_system (guid_at info.now 0) }
-{
-    let format = Guid::at(info, 0);
-    format == FILE_SYSTEM2 || format == FILE_SYSTEM3
-}
-
-// The volume of which these bytes of a PPI tell.
+// The volume of which these bytes of a PPI tell, where it says that the volume has a file system of the specification.
 fn volume_in(catalog: &Catalog, info: &[u8; INFO_LEN]) -> Option<u32>
     requires { length catalog.now.volumes ≤ MOST_VOLUMES }
     ensures volume { result ≡ R.told_by catalog.now info.now }
     ensures in_catalog { IfSome result (λ number. number < length catalog.now.volumes) }
 {
-    if is_file_system(info) {
+    let format = Guid::at(info, 0);
+    if format == FILE_SYSTEM2 || format == FILE_SYSTEM3 {
         volume_at(catalog, u64_at(info, INFO_AT))
     } else {
         None

@@ -1,6 +1,6 @@
 //! The volumes that are known, by their numbers.
 ghost use Rattle.std.specs.Prelude.{◌≡◌, ◌<◌, ◌++◌, ◌∷◌, [], length, if◌then◌else◌, IfSome, IsTrue};
-ghost use Rattle.mod_catalog.specs.Parts.{has_number, is_nested_in};
+ghost use Rattle.mod_catalog.specs.Parts.{has_number};
 ghost use Rattle.boot_model.specs.Reporting.{newcomers};
 ghost use Rattle.boot_model.specs.Discovery.{discoveries};
 ghost use Rattle.mod_catalog.specs.WellFormed.{IsWellFormed};
@@ -48,17 +48,7 @@ impl VolumeList {
     pub fn has(&self, number: u32) -> bool
         ensures { result ≡ has_number self.now number }
     {
-        self.numbers.as_slice().iter().any(|other| *other == number)
-    }
-
-    // Whether a parent is known.
-    pub(crate) fn has_parent(&self, parent: Option<u32>) -> bool
-        ensures { result ≡ is_nested_in self.now parent }
-    {
-        match parent {
-            Some(parent) => self.has(parent),
-            None => false,
-        }
+        self.numbers.as_slice().contains(&number)
     }
 
     // Puts a number at the end where it is wanted.
@@ -91,24 +81,12 @@ impl VolumeList {
         ensures added { self.new ≡ self.old ++ newcomers catalog.now self.old volume }
         ensures known { AreKnown catalog.now self.new }
     {
-        match volume {
-            Some(number) => self.add_family(catalog, number),
-            None => {}
-        }
-    }
-
-    // A volume of the catalogue, if it is new, and after it each volume nested in it that is.
-    fn add_family(&mut self, catalog: &Catalog, number: u32)
-        requires catalog { IsWellFormed catalog.now }
-        requires known { AreKnown catalog.now self.old }
-        requires number { number < length catalog.now.volumes }
-        ensures added { self.new ≡ self.old ++ newcomers catalog.now self.old (Some number) }
-        ensures known { AreKnown catalog.now self.new }
-    {
-        let is_new = !self.has(number);
-        if is_new {
-            let family = family_of(catalog, number);
-            self.add_each(family.as_slice());
+        if let Some(number) = volume {
+            let is_new = !self.has(number);
+            if is_new {
+                let family = family_of(catalog, number);
+                self.add_each(family.as_slice());
+            }
         }
     }
 

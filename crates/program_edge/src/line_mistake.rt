@@ -44,11 +44,6 @@ fn count_of(shape: Shape<'_>) -> usize
     }
 }
 
-// Whether a space is the last byte of a line.
-fn ends_with_space(line: &[u8]) -> bool {
-    matches!(line, [.., SPACE])
-}
-
 // The mistake of a line that neither has a byte of its own nor begins with a space.
 fn words_mistake(line: &[u8]) -> Option<Mistake<'_>>
     requires { slice_index line.now 0 ≢ 32 }
@@ -56,7 +51,7 @@ fn words_mistake(line: &[u8]) -> Option<Mistake<'_>>
 {
     let shape = shape_of(line);
     let word = shape.first()?;
-    if ends_with_space(line) {
+    if let [.., SPACE] = line {
         let rule = Rule::NoBackSpace;
         return Some(Mistake { word, rule });
     }

@@ -2,7 +2,7 @@
 ghost use Rattle.std.specs.Prelude.{◌≡◌, ◌≢◌, [], false, Some, None, IfSome, IsNone, MatchOption, slice_index};
 ghost use Rattle.line_words.specs.Words.{words};
 ghost use Rattle.program_edge.specs.Mistake.{IsFirst, IsMistake, keyword};
-ghost use Rattle.program_edge.specs.PlanMistake.{IsLine, IsMistakeIn, IsMistakeOf, IsNeeded, IsNoFront, Lacks, line_of};
+ghost use Rattle.program_edge.specs.PlanMistake.{IsLine, IsMistakeIn, IsMistakeOf, IsNeeded, Lacks, line_of};
 
 use crate::kind::Kind;
 use crate::limit_mistake::limit_mistake;
@@ -45,16 +45,6 @@ fn front_of(line: &[u8]) -> Option<&[u8]>
     }
 }
 
-// Whether a word is the first of a line that no space begins.
-fn is_front(line: &[u8], word: &[u8]) -> bool
-    ensures { result ≡ false → IsNoFront line.now word.now }
-{
-    match front_of(line) {
-        Some(first) => first == word,
-        None => false,
-    }
-}
-
 // Whether a line of a kind stands in a text.
 #[tactic(auto, using(crate::proofs::Lacking::lacks_on))]
 fn has_line(text: &[u8], kind: Kind) -> bool
@@ -64,8 +54,10 @@ fn has_line(text: &[u8], kind: Kind) -> bool
     let mut rest = text;
     'lines: while !rest.is_empty() {
         let (line, after) = first_line(rest);
-        if is_front(line, word) {
-            return true;
+        if let Some(first) = front_of(line) {
+            if first == word {
+                return true;
+            }
         }
         rest = after;
     }

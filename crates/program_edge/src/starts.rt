@@ -35,36 +35,18 @@ fn is_module(entry: &Module, volume: u32, name: Guid) -> bool
     entry.volume == volume && entry.name == name
 }
 
-// Whether a module has this volume and name, and a part for PEI without a script.
-fn is_silent_peim(entry: &Module, volume: u32, name: Guid) -> bool
-    ensures { result ≡ is_silent_peim volume name entry.now }
-{
-    is_module(entry, volume, name) && is_scriptless(&entry.pei)
-}
-
-// The same for DXE.
-fn is_silent_driver(entry: &Module, volume: u32, name: Guid) -> bool
-    ensures { result ≡ is_silent_driver volume name entry.now }
-{
-    is_module(entry, volume, name) && is_scriptless(&entry.dxe)
-}
-
-// Whether some module is one.
+// Whether some module has this volume and name, and a part for PEI without a script.
 fn has_silent_peim(modules: &[Module], volume: u32, name: Guid) -> bool
     ensures { result ≡ list_any (is_silent_peim volume name) modules.now }
 {
-    modules
-        .iter()
-        .any(|entry| is_silent_peim(entry, volume, name))
+    modules.iter().any(|entry| is_module(entry, volume, name) && is_scriptless(&entry.pei))
 }
 
 // The same for DXE.
 fn has_silent_driver(modules: &[Module], volume: u32, name: Guid) -> bool
     ensures { result ≡ list_any (is_silent_driver volume name) modules.now }
 {
-    modules
-        .iter()
-        .any(|entry| is_silent_driver(entry, volume, name))
+    modules.iter().any(|entry| is_module(entry, volume, name) && is_scriptless(&entry.dxe))
 }
 
 /// Whether a line is a start of a module that has no script for the phase.

@@ -62,9 +62,6 @@ volumes_rise catalog sound i j less below =
     let va = (at_place catalog i a.0 a.1).0 in
     let vb = (at_place catalog j b.0 b.1).0 in omega (arith, le, va, vb)
 
-pub in_volumes : (catalog : Catalog) (k : ℕ) (m : Module) (maps : List (List (Guid × ℕ))) → IsWellFormed catalog → AreNames catalog k maps → slice_get catalog.modules k ≡ Some m → m.volume < length maps
-in_volumes catalog k m maps sound names at = let h = each_at (λ m. m.volume < length catalog.volumes) catalog.modules k m sound.in_range at in let e = names.volumes in omega (arith, h, e)
-
 -- names that are all kept are apart
 apart_below : (catalog : Catalog) (k : ℕ) (maps : List (List (Guid × ℕ))) → AreNames catalog k maps → (volume : ℕ) (t : HasTwins catalog volume) → t.second < k → ⊥
 apart_below catalog k maps names volume t below =

@@ -1,6 +1,5 @@
 -- What the parts of a boot along an order leave, put together.
 use Rattle.std.proofs.Common.{◌≡◌, ℕ, ◌+◌, Bool, arith, List, [], ◌++◌, length, Option, Some, None, Result, Ok, Err, IfOk, refl, sym, ap, ◌∙◌, subst}
-use Rattle.std.specs.Prelude.{slice_get}
 use Rattle.std.proofs.lemmas.List.{append-nil}
 use Rattle.std.specs.Io.KnownBytes.{Appends}
 use Rattle.boot_io.specs.declared.halt.Halt.{Halt}
@@ -29,23 +28,16 @@ use Rattle.dxe_dispatch.specs.Choices.{RunsBy}
 use Rattle.boot_core.specs.Closing.{closing}
 use Rattle.boot_core.proofs.ClosingTexts.{closing_is}
 use Rattle.recorded_boot.specs.declared.follow.following.Followed.{Followed}
-use Rattle.recorded_boot.specs.declared.follow.following.Followed.TheVariants.{Ended, Stopped, No}
 use Rattle.recorded_boot.specs.Answer.{FollowsTo}
 use Rattle.recorded_boot.specs.Behind.{FinishesTo, last_text, pei_result}
 use Rattle.recorded_boot.specs.InOrder.{last_lines}
 use Rattle.recorded_boot.specs.Drivers.{HasRun, IsCounted, StandsSo, leaves}
 use Rattle.recorded_boot.specs.declared.follow.drivers.Drivers.{Drivers}
-use Rattle.recorded_boot.specs.Leaving.{ComesTo, IsReached}
+use Rattle.recorded_boot.specs.Leaving.{ComesTo}
 use Rattle.recorded_boot.proofs.PeiOrder.{IsRun, OrderBoot, PeiBar}
 use Rattle.recorded_boot.proofs.DxeOrder.{DxeBar, Handed, IsDxeRun, came, comes_in_dxe, drivers, lets_driver, opening}
 use Rattle.recorded_boot.proofs.OrderRuns.{aimed_of, dxe_run_of}
 use Rattle.recorded_boot.proofs.Reaching.{dxe_bars, dxe_ends, pei_bars, pei_ends}
-
--- where the order asks for no start more
-pub reached_comes : (catalog : Catalog) (order : StartOrder) (index : ℕ) (s : StoreState) (h : HandleState) (end : Option RunEnd) (followed : Followed) → slice_get order.starts index ≡ None → IsReached end followed → ComesTo catalog order index s h end followed
-reached_comes catalog order index s h end (Ended so) none is = (is, none)
-reached_comes catalog order index s h end Stopped none is = (is, none)
-reached_comes catalog order index s h end (No line against) none is = absurd is
 
 -- the text of the last lines
 last_is : (s : StoreState) (h : HandleState) (end : Option RunEnd) → last_text s h end ≡ text_of (last_lines s h end)

@@ -3,8 +3,14 @@ use Rattle.std.proofs.Common.{◌≡◌, ℕ, Bool, true, false, ◌&&◌, None,
 use Rattle.std.specs.Prelude.{not}
 use Rattle.std.specs.List.{list_all}
 use Rattle.boot_io.specs.Faults.{IsPrefix}
+use Rattle.pi_base.specs.declared.guid.Guid.{Guid}
+use Rattle.pi_base.specs.declared.phase.Phase.{Phase}
+use Rattle.pi_base.specs.declared.phase.Phase.TheVariants.{Pei, Dxe}
+use Rattle.boot_model.specs.declared.licence.Licence.{Licence}
 use Rattle.boot_model.specs.declared.line.Line.{Line}
 use Rattle.boot_model.specs.Text.{line_text}
+use Rattle.recorded_boot.specs.StartLine.{phase_start}
+use Rattle.recorded_boot.specs.Starts.{start_of}
 use Rattle.recorded_boot.specs.Lines.{BeginsWithLine, Lacks, is_feed}
 use Rattle.trace_reader.specs.Readable.{IsLineOf, IsReadable}
 use Rattle.line_words.proofs.LineFeeds.{same_line}
@@ -37,3 +43,8 @@ nothing_there a e = cc
 
 pub same_pair : {A B : Type 0} (p q : A × B) → Some p ≡ Some q → (p.0 ≡ q.0) × (p.1 ≡ q.1)
 same_pair p q e = let same : p ≡ q = cc in (ap (λ x. x.0) same, ap (λ x. x.1) same)
+
+-- and the start of which it tells
+pub start_told : (phase : Phase) (volume : ℕ) (name : Guid) (licence : Licence) → start_of (phase_start phase volume name licence) ≡ Some (record { phase = phase; volume = volume; name = name })
+start_told Pei volume name licence = refl
+start_told Dxe volume name licence = refl

@@ -2,8 +2,6 @@
 -- Own.
 use Rattle.std.specs.Prelude.{◌≡◌, ◌≢◌, ◌≤◌, ℕ, List, [], Result, Ok, Err, ⊤}
 use Rattle.std.specs.Io.KnownBytes.{Appends}
-use Rattle.boot_io.specs.declared.halt.Halt.{Halt}
-use Rattle.boot_io.specs.declared.halt.Halt.TheVariants as H
 use Rattle.boot_io.specs.Faults.{Rose}
 use Rattle.boot_plan.specs.declared.plan.Plan.{Plan}
 use Rattle.mod_catalog.specs.declared.catalogue.Catalog.{Catalog}
@@ -26,12 +24,6 @@ IsFaultTold fault (Image told) = (fault.cause ≢ I.Memory) × (told ≡ fault)
 IsFaultTold fault (Twins volume) = ⊥
 IsFaultTold fault Sink = ⊥
 IsFaultTold fault Memory = fault.cause ≡ I.Memory
-
-abbrev pub IsHaltTold : Halt → FollowFault → Type 0
-IsHaltTold halt (Image told) = ⊥
-IsHaltTold halt (Twins volume) = ⊥
-IsHaltTold halt Sink = halt ≡ H.Sink
-IsHaltTold halt Memory = halt ≡ H.Memory
 
 -- over a catalogue: the boot, or its first volume with two modules of one name
 abbrev pub FollowsCatalog : Plan → Catalog → List (List ℕ) → StartOrder → Texts → Result Followed FollowFault → Type 0

@@ -20,12 +20,6 @@ pub record IsRefused (catalog : Catalog) (order : StartOrder) (index : ℕ) (s :
   pub line_is : line ≡ asked.line
   pub stood : StandsAgainst catalog (starts_of (take index order.starts)) s h asked.start against
 
--- where the order asks for no start more
-abbrev pub IsReached : Option RunEnd → Followed → Type 0
-IsReached end (Ended so) = end ≡ Some so
-IsReached end Stopped = end ≡ None
-IsReached end (No line against) = ⊥
-
 -- behind so many starts, where the boot has ended so, or is left before the next one
 abbrev pub ComesTo : Catalog → StartOrder → ℕ → StoreState → HandleState → Option RunEnd → Followed → Type 0
 ComesTo catalog order index s h end (Ended so) = (end ≡ Some so) × (slice_get order.starts index ≡ None)

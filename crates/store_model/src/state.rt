@@ -6,7 +6,7 @@ use pi_base::{Guid, Seq};
 pub const CORE: u32 = u32::MAX;
 
 /// A PPI or a notification: the places of its node and of its descriptor, and the module whose script made it (PI 1.8, volume 1, "PEI Services").
-#[derive(Clone, Copy, PartialEq, Eq)]
+#[derive(Clone, Copy)]
 pub struct Entry {
     /// The place of its node.
     pub node: u64,
@@ -17,7 +17,7 @@ pub struct Entry {
 }
 
 /// A queued pair: a dispatch notification that has to run for a PPI.
-#[derive(Clone, Copy, PartialEq, Eq)]
+#[derive(Clone, Copy)]
 pub struct Pending {
     /// The place of its node.
     pub node: u64,
@@ -30,7 +30,7 @@ pub struct Pending {
 }
 
 /// What a descriptor says (PI 1.8, volume 1, `EFI_PEI_PPI_DESCRIPTOR` and `EFI_PEI_NOTIFY_DESCRIPTOR`).
-#[derive(Clone, Copy, PartialEq, Eq)]
+#[derive(Clone, Copy)]
 pub struct DescriptorBody {
     pub kind: DescKind,
     pub guid: Guid,
@@ -41,7 +41,7 @@ pub struct DescriptorBody {
 }
 
 /// What a HOB of allocated pages says.
-#[derive(Clone, Copy, PartialEq, Eq)]
+#[derive(Clone, Copy)]
 pub struct AllocationBody {
     /// The type of the memory.
     pub memory_type: u32,

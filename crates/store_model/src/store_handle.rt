@@ -51,7 +51,7 @@ impl DescKind {
 }
 
 /// The GUID of a descriptor that is made.
-#[derive(Clone, Copy, PartialEq, Eq)]
+#[derive(Clone, Copy)]
 pub enum GuidFrom {
     /// It stands behind the descriptor.
     Inline(Guid),
@@ -60,7 +60,7 @@ pub enum GuidFrom {
 }
 
 /// What a call that installs, reinstalls or notifies has still to visit: pairs of a PPI and a callback, in order of PPI and then of registration.
-#[derive(Clone, Copy, PartialEq, Eq)]
+#[derive(Clone, Copy)]
 pub struct Sweep {
     /// The place behind the last PPI.
     pub ppi_to: u32,
@@ -84,7 +84,7 @@ pub struct Firing {
 }
 
 /// A list of entries, each of which has a node.
-#[derive(Clone, Copy, PartialEq, Eq)]
+#[derive(Clone, Copy)]
 pub enum EntryList {
     /// The installed PPIs.
     Ppis,
@@ -110,7 +110,7 @@ pub struct EntryTold {
 }
 
 /// A HOB's type and length, and the offset of the one behind it.
-#[derive(Clone, Copy, PartialEq, Eq)]
+#[derive(Clone, Copy)]
 pub struct HobSpan {
     pub kind: u16,
     /// In bytes, with the header.

@@ -2,8 +2,7 @@
 ghost use Rattle.std.specs.Prelude.{◌≡◌, ◌++◌, flat_map};
 ghost use Rattle.boot_io.specs.Sink.{Puts, SinkFaultsAfter};
 ghost use Rattle.recorded_boot.specs.declared.follow.against.Against.TheVariants.{NotEligible};
-ghost use Rattle.tools_core.specs.FollowText.{against_line, guid_word, last_text, order_line};
-ghost use Rattle.tools_core.specs.FollowText.{not_eligible_text, refused_order, started_text, stop_text, unknown_text};
+ghost use Rattle.tools_core.specs.FollowText.{against_line, guid_word, last_text, not_eligible_text, order_line};
 
 use crate::print::put_no;
 use boot_io::{Sink, SinkFault, put_line};
@@ -11,49 +10,14 @@ use boot_trace::decimal_word;
 use pi_base::Guid;
 use recorded_boot::follow::{Against, Followed};
 
-// The first words of lines.
-#[tactic(auto, unfolding(crate::specs::FollowText::refused_order))]
-fn refused_order() -> &'static [u8]
-    ensures { result.now ≡ refused_order }
-{
-    b"refused order"
-}
-
-#[tactic(auto, unfolding(crate::specs::FollowText::stop_text))]
-fn stop_text() -> &'static [u8]
-    ensures { result.now ≡ stop_text }
-{
-    b"stop"
-}
-
-#[tactic(auto, unfolding(crate::specs::FollowText::unknown_text))]
-fn unknown_text() -> &'static [u8]
-    ensures { result.now ≡ unknown_text }
-{
-    b"unknown"
-}
-
-#[tactic(auto, unfolding(crate::specs::FollowText::started_text))]
-fn started_text() -> &'static [u8]
-    ensures { result.now ≡ started_text }
-{
-    b"started"
-}
-
-#[tactic(auto, unfolding(crate::specs::FollowText::not_eligible_text))]
-fn not_eligible_text() -> &'static [u8]
-    ensures { result.now ≡ not_eligible_text }
-{
-    b"not eligible"
-}
-
 /// The refusal of an order, by its line.
+#[tactic(auto, unfolding(crate::specs::FollowText::refused_order))]
 pub(crate) fn put_order<S: Sink>(sink: &mut S, line: u32) -> Result<(), SinkFault>
     ensures text { Puts result (S.text sink.old) (S.text sink.new) (order_line line) }
     ensures cause { SinkFaultsAfter result (S.faults sink.old) (S.faults sink.new) }
 {
     let line = decimal_word(u64::from(line));
-    put_line(sink, refused_order(), &[line.as_slice()])
+    put_line(sink, b"refused order", &[line.as_slice()])
 }
 
 // A GUID behind a space.
@@ -76,6 +40,14 @@ fn put_guids<S: Sink>(sink: &mut S, guids: &[Guid]) -> Result<(), SinkFault>
     Ok(())
 }
 
+// The first words of the GUIDs that lack.
+#[tactic(auto, unfolding(crate::specs::FollowText::not_eligible_text))]
+fn not_eligible_text() -> &'static [u8]
+    ensures { result.now ≡ not_eligible_text }
+{
+    b"not eligible"
+}
+
 // The GUIDs that lack.
 fn put_lacking<S: Sink>(sink: &mut S, guids: &[Guid]) -> Result<(), SinkFault>
     ensures text { Puts result (S.text sink.old) (S.text sink.new) (against_line (NotEligible guids.now)) }
@@ -87,25 +59,27 @@ fn put_lacking<S: Sink>(sink: &mut S, guids: &[Guid]) -> Result<(), SinkFault>
 }
 
 // What stands against a start.
+#[tactic(auto, unfolding(crate::specs::FollowText::unknown_text, crate::specs::FollowText::started_text))]
 fn put_against<S: Sink>(sink: &mut S, against: &Against) -> Result<(), SinkFault>
     ensures text { Puts result (S.text sink.old) (S.text sink.new) (against_line against.now) }
     ensures cause { SinkFaultsAfter result (S.faults sink.old) (S.faults sink.new) }
 {
     match against {
-        Against::Unknown => put_line(sink, unknown_text(), &[]),
-        Against::Started => put_line(sink, started_text(), &[]),
+        Against::Unknown => put_line(sink, b"unknown", &[]),
+        Against::Started => put_line(sink, b"started", &[]),
         Against::NotEligible(guids) => put_lacking(sink, guids.as_slice()),
     }
 }
 
 // What is printed behind the lines of a boot.
+#[tactic(auto, unfolding(crate::specs::FollowText::stop_text))]
 fn put_last<S: Sink>(sink: &mut S, followed: &Followed) -> Result<(), SinkFault>
     ensures text { Puts result (S.text sink.old) (S.text sink.new) (last_text followed.now) }
     ensures cause { SinkFaultsAfter result (S.faults sink.old) (S.faults sink.new) }
 {
     match followed {
         Followed::Ended(_) => Ok(()),
-        Followed::Stopped => put_line(sink, stop_text(), &[]),
+        Followed::Stopped => put_line(sink, b"stop", &[]),
         Followed::No { line, against } => {
             put_no(sink, *line)?;
             put_against(sink, against)

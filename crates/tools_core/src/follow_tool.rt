@@ -29,7 +29,7 @@ fn order_report(alloc: Global, job: Job, order: &StartOrder) -> Result<Report, O
     let mut held = HeldText::new(alloc);
     match follow(alloc, &plan, images, order, &mut held) {
         Ok(followed) => Ok(Report::Followed {
-            lines: held.into_text(),
+            lines: held.text,
             followed,
         }),
         Err(FollowFault::Image(fault)) => Ok(Report::Image(fault)),

@@ -7,7 +7,8 @@ use std::alloc::Global;
 /// Holds all that is put, as long as there is memory. It fails for want of it alone.
 #[derive(Drop)]
 pub(crate) struct HeldText {
-    text: Seq<u8>,
+    /// All that was put.
+    pub(crate) text: Seq<u8>,
     faults: u64,
 }
 
@@ -23,13 +24,6 @@ impl HeldText {
             text: Seq::new(alloc),
             faults: 0,
         }
-    }
-
-    /// All that was put.
-    pub(crate) fn into_text(self) -> Seq<u8>
-        ensures { result ≡ self.text }
-    {
-        self.text
     }
 }
 

@@ -20,7 +20,6 @@ mod reading;
 mod report;
 mod source_refusal;
 mod status;
-mod text_again;
 mod text_tool;
 mod told_tool;
 mod tools;

@@ -1,8 +1,7 @@
 // A plan alone: the HOB list of its boot, or its boot, explained.
 ghost use Rattle.std.specs.Prelude.{◌≡◌, ◌≤◌, IfOk, OnErr, length};
-ghost use Rattle.boot_plan.specs.Range.{IsPlanInRange};
 ghost use Rattle.boot_core.specs.Job.{IsNamedIn};
-ghost use Rattle.tools_core.specs.Ends.{Reports, Tells};
+ghost use Rattle.tools_core.specs.Ends.{Reports};
 ghost use Rattle.tools_core.specs.JobOutcome.{JobOutcome};
 ghost use Rattle.tools_core.specs.PlanReport.{PlanNames, PlanOutcome, PlanReport};
 
@@ -11,22 +10,10 @@ use crate::explain_tool::explain_report;
 use crate::hobs_tool::hobs_report;
 use crate::reading::{Reading, read_file, report_of};
 use crate::report::Report;
-use boot_core::plan_files::{Job, NoJob, PLAN_LIMIT, job_of};
+use boot_core::plan_files::{NoJob, PLAN_LIMIT, job_of};
 use boot_io::Files;
 use pi_base::OutOfMemory;
 use std::alloc::Global;
-
-// What a plan and the images of its volumes lead to.
-fn plan_report(alloc: Global, tool: PlanTool, job: Job) -> Result<Report, OutOfMemory>
-    requires in_range { IsPlanInRange job.plan }
-    requires as_many { length job.images ≡ length job.plan.volumes }
-    ensures { IfOk result (Tells (PlanReport tool job.plan job.images)) }
-{
-    match tool {
-        PlanTool::Hobs => hobs_report(alloc, job),
-        PlanTool::Reasons => explain_report(alloc, job),
-    }
-}
 
 // What the text of a plan leads to, by the files of its volumes.
 fn with_text<F: Files>(
@@ -42,7 +29,10 @@ fn with_text<F: Files>(
     ensures memory { OnErr result (F.faults files.new ≡ F.faults files.old) }
 {
     match job_of(alloc, content, files) {
-        Ok(job) => plan_report(alloc, tool, job),
+        Ok(job) => match tool {
+            PlanTool::Hobs => hobs_report(alloc, job),
+            PlanTool::Reasons => explain_report(alloc, job),
+        },
         Err(NoJob::Refused(line)) => Ok(report_of(line)),
         Err(NoJob::Memory) => Err(OutOfMemory),
     }

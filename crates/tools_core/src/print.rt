@@ -1,9 +1,9 @@
 // Printing a report.
 ghost use Rattle.std.specs.Prelude.{◌≡◌};
 ghost use Rattle.boot_io.specs.Sink.{Puts, SinkFaultsAfter};
-ghost use Rattle.tools_core.specs.Refusals.{bytes_line, cause_text, file_line, image_line, long_line, plan_line, text_line, text_long_line, usage_line};
-ghost use Rattle.tools_core.specs.Refusals.{end_line, no_line, no_text, refused_twins, twins_line, verdict_line, yes_text};
-ghost use Rattle.tools_core.specs.Refusals.{malformed_line, malformed_text, refused_bytes, refused_text, refused_text_long};
+ghost use Rattle.boot_model.specs.Text.{line_text};
+ghost use Rattle.tools_core.specs.Refusals.{bytes_line, cause_text, malformed_line, malformed_text, no_line};
+ghost use Rattle.tools_core.specs.Refusals.{refused_bytes, refused_text, refused_twins, text_line, twins_line, verdict_line};
 ghost use Rattle.tools_core.specs.ReportText.{report_text};
 
 use crate::follow_print::{put_followed, put_order};
@@ -11,71 +11,18 @@ use crate::report::Report;
 use crate::source_refusal::put_source;
 use act_code::{ActCause, ActFault};
 use boot_io::{Sink, SinkFault, put_line};
-use boot_model::{Line, RunEnd};
-use boot_plan::PlanFault;
+use boot_model::Line;
 use boot_trace::{decimal_word, put, put_refused_file, put_refused_long};
 use gcd_map::{put_answers, put_command_refusal, put_hobs_refusal, put_map};
-use mod_catalog::ImageFault;
 use mp_core::{put_bad_line, put_outcome};
 use recorded_boot::trace::Verdict;
 
-// The refusal of the words.
-#[tactic(auto, unfolding(crate::specs::Refusals::usage_line))]
-fn put_usage<S: Sink>(sink: &mut S) -> Result<(), SinkFault>
-    ensures text { Puts result (S.text sink.old) (S.text sink.new) usage_line }
+// Puts a line, which is dropped here, once for all that are made.
+fn put_made<S: Sink>(sink: &mut S, line: Line) -> Result<(), SinkFault>
+    ensures text { Puts result (S.text sink.old) (S.text sink.new) (line_text line) }
     ensures cause { SinkFaultsAfter result (S.faults sink.old) (S.faults sink.new) }
 {
-    put(sink, &Line::RefusedUsage)
-}
-
-// The refusal that names a file that could not be read.
-#[tactic(auto, unfolding(crate::specs::Refusals::file_line))]
-fn put_file<S: Sink>(sink: &mut S, name: &[u8]) -> Result<(), SinkFault>
-    ensures text { Puts result (S.text sink.old) (S.text sink.new) (file_line name.now) }
-    ensures cause { SinkFaultsAfter result (S.faults sink.old) (S.faults sink.new) }
-{
-    put_refused_file(sink, name)
-}
-
-// The refusal that names a file that is too long.
-#[tactic(auto, unfolding(crate::specs::Refusals::long_line))]
-fn put_long<S: Sink>(sink: &mut S, name: &[u8]) -> Result<(), SinkFault>
-    ensures text { Puts result (S.text sink.old) (S.text sink.new) (long_line name.now) }
-    ensures cause { SinkFaultsAfter result (S.faults sink.old) (S.faults sink.new) }
-{
-    put_refused_long(sink, name)
-}
-
-// The refusal of a plan.
-#[tactic(auto, unfolding(crate::specs::Refusals::plan_line))]
-fn put_plan<S: Sink>(sink: &mut S, fault: PlanFault) -> Result<(), SinkFault>
-    ensures text { Puts result (S.text sink.old) (S.text sink.new) (plan_line fault) }
-    ensures cause { SinkFaultsAfter result (S.faults sink.old) (S.faults sink.new) }
-{
-    let line = fault.line;
-    let cause = fault.cause;
-    put(sink, &Line::RefusedPlan { line, cause })
-}
-
-// The refusal of an image.
-#[tactic(auto, unfolding(crate::specs::Refusals::image_line))]
-fn put_image<S: Sink>(sink: &mut S, fault: ImageFault) -> Result<(), SinkFault>
-    ensures text { Puts result (S.text sink.old) (S.text sink.new) (image_line fault) }
-    ensures cause { SinkFaultsAfter result (S.faults sink.old) (S.faults sink.new) }
-{
-    let volume = fault.volume;
-    let at = fault.at;
-    let cause = fault.cause;
-    put(sink, &Line::RefusedImage { volume, at, cause })
-}
-
-// How a boot ends.
-#[tactic(auto, unfolding(crate::specs::Refusals::end_line))]
-fn put_end<S: Sink>(sink: &mut S, end: RunEnd) -> Result<(), SinkFault>
-    ensures text { Puts result (S.text sink.old) (S.text sink.new) (end_line end) }
-    ensures cause { SinkFaultsAfter result (S.faults sink.old) (S.faults sink.new) }
-{
-    put(sink, &Line::Result { outcome: end })
+    put(sink, &line)
 }
 
 // The first words of lines.
@@ -86,32 +33,11 @@ fn refused_twins() -> &'static [u8]
     b"refused twins"
 }
 
-#[tactic(auto, unfolding(crate::specs::Refusals::yes_text))]
-fn yes_text() -> &'static [u8]
-    ensures { result.now ≡ yes_text }
-{
-    b"yes"
-}
-
-#[tactic(auto, unfolding(crate::specs::Refusals::no_text))]
-fn no_text() -> &'static [u8]
-    ensures { result.now ≡ no_text }
-{
-    b"no"
-}
-
 #[tactic(auto, unfolding(crate::specs::Refusals::refused_text))]
 pub(crate) fn refused_text() -> &'static [u8]
     ensures { result.now ≡ refused_text }
 {
     b"refused text"
-}
-
-#[tactic(auto, unfolding(crate::specs::Refusals::refused_text_long))]
-fn refused_text_long() -> &'static [u8]
-    ensures { result.now ≡ refused_text_long }
-{
-    b"refused text long"
 }
 
 #[tactic(auto, unfolding(crate::specs::Refusals::refused_bytes))]
@@ -157,21 +83,23 @@ fn put_twins<S: Sink>(sink: &mut S, volume: u32) -> Result<(), SinkFault>
 }
 
 // That a line is not as it should be.
+#[tactic(auto, unfolding(crate::specs::Refusals::no_text))]
 pub(crate) fn put_no<S: Sink>(sink: &mut S, line: u32) -> Result<(), SinkFault>
     ensures text { Puts result (S.text sink.old) (S.text sink.new) (no_line line) }
     ensures cause { SinkFaultsAfter result (S.faults sink.old) (S.faults sink.new) }
 {
     let line = decimal_word(u64::from(line));
-    put_line(sink, no_text(), &[line.as_slice()])
+    put_line(sink, b"no", &[line.as_slice()])
 }
 
 // The verdict on a trace.
+#[tactic(auto, unfolding(crate::specs::Refusals::yes_text))]
 fn put_verdict<S: Sink>(sink: &mut S, verdict: Verdict) -> Result<(), SinkFault>
     ensures text { Puts result (S.text sink.old) (S.text sink.new) (verdict_line verdict) }
     ensures cause { SinkFaultsAfter result (S.faults sink.old) (S.faults sink.new) }
 {
     match verdict {
-        Verdict::Yes => put_line(sink, yes_text(), &[]),
+        Verdict::Yes => put_line(sink, b"yes", &[]),
         Verdict::No { line } => put_no(sink, line),
     }
 }
@@ -183,14 +111,6 @@ fn put_text<S: Sink>(sink: &mut S, line: u32) -> Result<(), SinkFault>
 {
     let line = decimal_word(u64::from(line));
     put_line(sink, refused_text(), &[line.as_slice()])
-}
-
-// The refusal of a text whose bytes pass their limit.
-fn put_text_long<S: Sink>(sink: &mut S) -> Result<(), SinkFault>
-    ensures text { Puts result (S.text sink.old) (S.text sink.new) text_long_line }
-    ensures cause { SinkFaultsAfter result (S.faults sink.old) (S.faults sink.new) }
-{
-    put_line(sink, refused_text_long(), &[])
 }
 
 // The refusal of bytes that are no expression.
@@ -216,16 +136,26 @@ fn put_bytes<S: Sink>(sink: &mut S, fault: &ActFault) -> Result<(), SinkFault>
 }
 
 /// Puts what a report says.
+#[tactic(auto, unfolding(crate::specs::Refusals::usage_line, crate::specs::Refusals::file_line, crate::specs::Refusals::long_line, crate::specs::Refusals::plan_line, crate::specs::Refusals::image_line, crate::specs::Refusals::end_line, crate::specs::Refusals::refused_text_long))]
 pub(crate) fn put_report<S: Sink>(sink: &mut S, report: &Report) -> Result<(), SinkFault>
     ensures text { Puts result (S.text sink.old) (S.text sink.new) (report_text report.now) }
     ensures cause { SinkFaultsAfter result (S.faults sink.old) (S.faults sink.new) }
 {
     match report {
-        Report::Usage => put_usage(sink),
-        Report::NoFile(name) => put_file(sink, name.as_slice()),
-        Report::Long(name) => put_long(sink, name.as_slice()),
-        Report::Plan(fault) => put_plan(sink, *fault),
-        Report::Image(fault) => put_image(sink, *fault),
+        Report::Usage => put_made(sink, Line::RefusedUsage),
+        Report::NoFile(name) => put_refused_file(sink, name.as_slice()),
+        Report::Long(name) => put_refused_long(sink, name.as_slice()),
+        Report::Plan(fault) => {
+            let line = fault.line;
+            let cause = fault.cause;
+            put_made(sink, Line::RefusedPlan { line, cause })
+        }
+        Report::Image(fault) => {
+            let volume = fault.volume;
+            let at = fault.at;
+            let cause = fault.cause;
+            put_made(sink, Line::RefusedImage { volume, at, cause })
+        }
         Report::Twins(volume) => put_twins(sink, *volume),
         Report::Verdict(verdict) => put_verdict(sink, *verdict),
         Report::Order(line) => put_order(sink, *line),
@@ -235,7 +165,7 @@ pub(crate) fn put_report<S: Sink>(sink: &mut S, report: &Report) -> Result<(), S
         Report::Event(line) => put_bad_line(sink, *line),
         Report::Text(line) => put_text(sink, *line),
         Report::Source(fault) => put_source(sink, *fault),
-        Report::TextLong => put_text_long(sink),
+        Report::TextLong => put_line(sink, b"refused text long", &[]),
         Report::Malformed(at) => put_malformed(sink, *at),
         Report::Bytes(fault) => put_bytes(sink, fault),
         Report::Map { steps, map } => {
@@ -243,7 +173,7 @@ pub(crate) fn put_report<S: Sink>(sink: &mut S, report: &Report) -> Result<(), S
             put_map(sink, map.map())
         }
         Report::Mp { file, outcome } => put_outcome(sink, file, outcome),
-        Report::Ended(end) => put_end(sink, *end),
+        Report::Ended(end) => put_made(sink, Line::Result { outcome: *end }),
         Report::Answer(text) => sink.put(text.as_slice()),
     }
 }

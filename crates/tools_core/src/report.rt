@@ -1,6 +1,6 @@
 // What is printed of a command line.
 ghost use Rattle.std.specs.Prelude.{◌≡◌};
-ghost use Rattle.tools_core.specs.ReportText.{end_status, followed_status, report_status};
+ghost use Rattle.tools_core.specs.ReportText.{end_status, report_status};
 
 use crate::status::ToolStatus;
 use act_code::ActFault;
@@ -82,17 +82,6 @@ fn end_status(end: RunEnd) -> ToolStatus
     }
 }
 
-// The status of a boot in an order of starts that came to this.
-fn followed_status(followed: &Followed) -> ToolStatus
-    ensures { result ≡ followed_status followed.now }
-{
-    match followed {
-        Followed::Ended(end) => end_status(*end),
-        Followed::Stopped => ToolStatus::Done,
-        Followed::No { .. } => ToolStatus::No,
-    }
-}
-
 impl Report {
     /// The status that goes with it.
     pub(crate) fn status(&self) -> ToolStatus
@@ -108,7 +97,11 @@ impl Report {
             Report::Verdict(Verdict::Yes) => ToolStatus::Done,
             Report::Verdict(Verdict::No { .. }) => ToolStatus::No,
             Report::Order(_) => ToolStatus::OrderRefused,
-            Report::Followed { followed, .. } => followed_status(followed),
+            Report::Followed { followed, .. } => match followed {
+                Followed::Ended(end) => end_status(*end),
+                Followed::Stopped => ToolStatus::Done,
+                Followed::No { .. } => ToolStatus::No,
+            },
             Report::Hobs(_) => ToolStatus::HobsRefused,
             Report::Command(_) | Report::Event(_) => ToolStatus::CommandRefused,
             Report::Text(_) | Report::Source(_) | Report::TextLong => ToolStatus::TextRefused,

@@ -18,7 +18,6 @@ use crate::print::put_report;
 use crate::reading::{Reading, read_file};
 use crate::report::Report;
 use crate::status::ToolStatus;
-use crate::text_again::texts_make_volumes_again;
 use crate::text_tool::content_report;
 use crate::trace_tool::with_trace;
 use boot_io::{Files, RealSink, Sink, SinkFault};
@@ -26,6 +25,7 @@ use mp_core::jobs_in_order;
 use pi_base::OutOfMemory;
 use std::alloc::Global;
 use std::io::Write;
+use volume_again::{made_of_its_text, refused_for_room};
 
 // The most bytes of a HOB list, of a text and of bytes that are read.
 const FILE_LIMIT: usize = 0x10_0000;
@@ -186,7 +186,8 @@ pub fn tools_main<F: Files, S: Sink>(
     ensures again { TextsMakeVolumesAgain }
 {
     jobs_in_order();
-    texts_make_volumes_again();
+    made_of_its_text();
+    refused_for_room();
     one_outcome();
     run_words(alloc, words, files, sink)
 }

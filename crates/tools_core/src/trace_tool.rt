@@ -1,40 +1,21 @@
 // A plan and a trace: the verdict on the trace, or its boot, explained.
 ghost use Rattle.std.specs.Prelude.{◌≡◌, ◌≤◌, IfOk, OnErr, length};
-ghost use Rattle.boot_plan.specs.Range.{IsPlanInRange};
 ghost use Rattle.boot_core.specs.Job.{IsNamedIn};
-ghost use Rattle.tools_core.specs.Ends.{Reports, Tells};
-ghost use Rattle.tools_core.specs.TraceReport.{TextsOutcome, TraceNames, TraceOutcome, TraceReport};
+ghost use Rattle.tools_core.specs.Ends.{Reports};
+ghost use Rattle.tools_core.specs.TraceReport.{TextsOutcome, TraceNames, TraceOutcome};
 
 use crate::check_tool::check_report;
 use crate::command_line::TraceTool;
 use crate::reading::{Reading, read_file, report_of};
 use crate::report::Report;
 use crate::told_tool::told_report;
-use boot_core::plan_files::{Job, NoJob, PLAN_LIMIT, job_of};
+use boot_core::plan_files::{NoJob, PLAN_LIMIT, job_of};
 use boot_io::Files;
 use pi_base::OutOfMemory;
 use std::alloc::Global;
 
 // The most bytes of a trace.
 const TRACE_LIMIT: usize = 0x400_0000;
-
-// What a plan, the images of its volumes and the text of a trace lead to.
-fn trace_report(
-    alloc: Global,
-    tool: TraceTool,
-    job: Job,
-    text: &[u8],
-) -> Result<Report, OutOfMemory>
-    requires in_range { IsPlanInRange job.plan }
-    requires as_many { length job.images ≡ length job.plan.volumes }
-    requires text { length text.now ≤ 0x4000000 }
-    ensures { IfOk result (Tells (TraceReport tool job.plan job.images text.now)) }
-{
-    match tool {
-        TraceTool::Check => check_report(alloc, job, text),
-        TraceTool::Explain => told_report(alloc, job, text),
-    }
-}
 
 // What the texts of a plan and of a trace lead to, by the files of the plan's volumes.
 fn with_texts<F: Files>(
@@ -52,7 +33,10 @@ fn with_texts<F: Files>(
     ensures memory { OnErr result (F.faults files.new ≡ F.faults files.old) }
 {
     match job_of(alloc, content, files) {
-        Ok(job) => trace_report(alloc, tool, job, text),
+        Ok(job) => match tool {
+            TraceTool::Check => check_report(alloc, job, text),
+            TraceTool::Explain => told_report(alloc, job, text),
+        },
         Err(NoJob::Refused(line)) => Ok(report_of(line)),
         Err(NoJob::Memory) => Err(OutOfMemory),
     }

@@ -1,12 +1,11 @@
 // The lines of bytes: logged texts, HOBs, and files that could not be read.
 ghost use Rattle.std.specs.Prelude.{◌≡◌, ◌<◌, ◌++◌, ◌^◌, ◌∷◌, [], ℕ, List, IfSome, IsNone, IfOk, MatchOption, codes, decimal, flat_map, length};
 ghost use Rattle.std.specs.Bool.{Decides};
-ghost use Rattle.std.specs.List.{list_all};
 ghost use Rattle.hex.specs.Hex.{IsBytes, encode_lower};
 ghost use Rattle.boot_io.specs.Line.{spaced};
 ghost use Rattle.boot_model.specs.Text.{bytes_text};
 ghost use Rattle.line_words.specs.PrintedWords.{Finds, Lacks};
-ghost use Rattle.trace_reader.specs.Readable.{IsLineOf, IsLogged, is_printable};
+ghost use Rattle.trace_reader.specs.Readable.{IsLineOf, IsLogged};
 ghost use Rattle.trace_reader.specs.Lacking.{LacksLogLines, LacksHobLines, LacksFileLines};
 
 use crate::field::{Field, SPACE};
@@ -14,19 +13,10 @@ use crate::name_word::is_dash;
 use arrayvec::ArrayVec;
 use boot_model::{Line, SHOWN_LEN};
 use boot_trace::keywords::{HOB, LOG, REFUSED_FILE, REFUSED_LONG};
-use line_words::place_of;
 use line_words::printed::behind;
+use line_words::{is_printable, place_of};
 use pi_base::{OutOfMemory, Seq};
 use std::alloc::Global;
-
-const TILDE: u8 = b'~';
-
-// Whether each byte is a printable character.
-fn is_printable(text: &[u8]) -> bool
-    ensures { result ≡ list_all is_printable text.now }
-{
-    text.iter().all(|byte| *byte >= SPACE && *byte <= TILDE)
-}
 
 // Whether a script may log the text.
 fn is_logged(text: &[u8]) -> bool

@@ -8,7 +8,7 @@ ghost use Rattle.volume_print.specs.Finding.{ReadsSections};
 use crate::place::sections_len;
 use crate::word::{put_bytes, put_decimal, put_guid, put_type};
 use fv_volume::FfsFile;
-use fv_volume::build::{Alignment, FileAttributes, FileSystem};
+use fv_volume::build::{FileAttributes, FileSystem};
 use fv_volume::file_header::ATTRIBUTES_AT;
 use fv_volume::file_type::RAW;
 use fv_volume::sections::{SecCause, Section, read_sections};
@@ -63,17 +63,6 @@ pub(crate) fn put_plain_body(out: &mut Seq<u8>, body: &[u8]) -> Result<(), OutOf
     out.append(b"\n")
 }
 
-// Adds the words of an alignment.
-fn put_alignment(out: &mut Seq<u8>, alignment: Alignment) -> Result<(), OutOfMemory>
-    ensures { OnOk result (out.new ≡ out.old ++ alignment_words alignment) }
-{
-    if alignment.len() == 1 {
-        return Ok(());
-    }
-    out.append(b" align ")?;
-    put_decimal(out, alignment.len())
-}
-
 // Adds the words of attributes.
 fn put_attributes(out: &mut Seq<u8>, attributes: FileAttributes) -> Result<(), OutOfMemory>
     ensures { OnOk result (out.new ≡ out.old ++ (fixed_words attributes.fixed ++ alignment_words attributes.alignment)) }
@@ -81,7 +70,12 @@ fn put_attributes(out: &mut Seq<u8>, attributes: FileAttributes) -> Result<(), O
     if attributes.fixed {
         out.append(b" fixed")?;
     }
-    put_alignment(out, attributes.alignment)
+    let alignment = attributes.alignment.len();
+    if alignment == 1 {
+        return Ok(());
+    }
+    out.append(b" align ")?;
+    put_decimal(out, alignment)
 }
 
 /// Adds a file's own line.

@@ -4,7 +4,7 @@ ghost use Rattle.std.specs.List.{list_any};
 ghost use Rattle.fv_volume.specs.Stream.{AreInside};
 ghost use Rattle.volume_text.specs.Open.{is_script_of};
 ghost use Rattle.volume_print.specs.Description.{section_in};
-ghost use Rattle.volume_print.specs.Spelling.{is_a_priori, is_guid_list};
+ghost use Rattle.volume_print.specs.Spelling.{is_guid_list};
 ghost use Rattle.volume_print.specs.Finding.{depex_phase, FindsExpression, FindsScript, IsPlainForm, TellsExpression, TellsScript};
 
 use act_code::{ActCause, Script, one_outcome, read_script};
@@ -137,18 +137,14 @@ fn has_script(stream: &[u8], sections: &[Section], phase: Phase) -> bool
     false
 }
 
-// Whether a file has the names of the modules that start first.
-fn is_a_priori(host: &Host) -> bool
-    ensures { result ≡ is_a_priori host.now }
-{
-    host.kind == FREEFORM && (host.name == PEI_APRIORI || host.name == DXE_APRIORI)
-}
-
-// Whether a section of a file is told as a list of GUIDs.
+// Whether a section of a file is told as a list of GUIDs: the file has the names of the modules that start first.
 fn is_guid_list(host: &Host, kind: u8, bytes: &[u8]) -> bool
     ensures { result ≡ is_guid_list host.now (record { kind = kind; body = bytes.now }) }
 {
-    is_a_priori(host) && kind == RAW && bytes.len() % GUID_LEN == 0
+    host.kind == FREEFORM
+        && (host.name == PEI_APRIORI || host.name == DXE_APRIORI)
+        && kind == RAW
+        && bytes.len() % GUID_LEN == 0
 }
 
 // The script that a section behind others of a file is told as, if it is no list of GUIDs.

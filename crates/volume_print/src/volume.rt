@@ -1,7 +1,7 @@
 // What a volume's headers say, and the first lines of its text.
 ghost use Rattle.std.specs.Prelude.{◌≡◌, ◌++◌, OnOk};
 ghost use Rattle.volume_print.specs.Spelling.{attribute_words, number_words, volume_line, name_line};
-ghost use Rattle.volume_print.specs.Description.{told_attributes, form_in, name_at, name_in};
+ghost use Rattle.volume_print.specs.Description.{form_in, name_in};
 
 use crate::word::{put_decimal, put_guid, put_hexadecimal, system_word};
 use fv_volume::build::{EXT_AT, EXT_HEADER_LEN, FileSystem, HEADER_LEN, VolumeForm, VolumeName};
@@ -10,17 +10,6 @@ use fv_volume::volume_header::{
     LEAST_LEN,
 };
 use pi_base::{GUID_LEN, Guid, OutOfMemory, Seq, u16_at, u32_at};
-
-// The attributes of a volume that is erased to ones, beside its erase polarity; those of another have no text.
-fn told_attributes(attributes: u32) -> u32
-    ensures { result ≡ told_attributes attributes }
-{
-    if attributes & ERASE_POLARITY == 0 {
-        0
-    } else {
-        attributes ^ ERASE_POLARITY
-    }
-}
 
 /// The form of the volume whose header stands at the start of the bytes.
 pub(crate) fn form_in(bytes: &[u8]) -> VolumeForm
@@ -35,26 +24,17 @@ pub(crate) fn form_in(bytes: &[u8]) -> VolumeForm
     } else {
         FileSystem::Ffs2
     };
+    let attributes = u32_at(bytes, ATTRIBUTES_AT);
     VolumeForm {
         file_system,
-        attributes: told_attributes(u32_at(bytes, ATTRIBUTES_AT)),
+        // The attributes of a volume that is erased to zeros have no text.
+        attributes: if attributes & ERASE_POLARITY == 0 {
+            0
+        } else {
+            attributes ^ ERASE_POLARITY
+        },
         header_len: u16_at(bytes, HEADER_LENGTH_AT),
     }
-}
-
-// The name whose extended header stands at a place of the bytes.
-fn name_at(bytes: &[u8], guid: Guid, at: u16) -> Option<VolumeName>
-    ensures { result ≡ name_at bytes.now guid at }
-{
-    let place = usize::from(at);
-    if bytes.len() < place + EXT_HEADER_LEN as usize {
-        return None;
-    }
-    Some(VolumeName {
-        guid,
-        at,
-        size: u32_at(bytes, place + GUID_LEN),
-    })
 }
 
 /// The name of a volume whose header stands at the start of the bytes, with the place that the header says.
@@ -67,7 +47,16 @@ pub(crate) fn name_in(bytes: &[u8], name: Option<Guid>) -> Option<VolumeName>
     if bytes.len() < LEAST_LEN {
         return None;
     }
-    name_at(bytes, guid, u16_at(bytes, EXT_HEADER_OFFSET_AT))
+    let at = u16_at(bytes, EXT_HEADER_OFFSET_AT);
+    let place = usize::from(at);
+    if bytes.len() < place + EXT_HEADER_LEN as usize {
+        return None;
+    }
+    Some(VolumeName {
+        guid,
+        at,
+        size: u32_at(bytes, place + GUID_LEN),
+    })
 }
 
 // Adds a word and a number, each behind a space, or nothing where the number is the usual one.

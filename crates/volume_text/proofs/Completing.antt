@@ -16,7 +16,7 @@ use Rattle.volume_text.specs.declared.fault.Cause.TheVariants as cause
 use Rattle.volume_text.specs.Reading.{at, only_if, ◌>>=◌}
 use Rattle.volume_text.specs.Open.{holding, new_file, pad_file}
 use Rattle.volume_text.specs.Script.{script_of}
-use Rattle.volume_text.specs.Step.{Steps, Takes, section_of, nested_in, outside}
+use Rattle.volume_text.specs.Step.{Steps, Takes, section_of, nested_in}
 use Rattle.volume_text.specs.Volume.{SaysLine, SayBlocks, no_block, block, action, SayFiles, no_file, named, padded, file, bodied, section, depex, script, volume}
 use Rattle.volume_text.specs.Text.{numbered, Goes, Says, Leads}
 use Rattle.volume_text.proofs.Lasts.{last_push}

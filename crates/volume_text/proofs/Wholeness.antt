@@ -8,7 +8,7 @@ use Rattle.pi_base.specs.declared.phase.Phase.{Phase}
 use Rattle.act_code.specs.declared.action.Action.{Action}
 use Rattle.act_code.specs.declared.script.Script.{Script}
 use Rattle.act_code.specs.Format.{registers_in}
-use Rattle.act_code.specs.Script.{IsSound, AreSound, IsBlock, AreBlocks, IsInGrammar}
+use Rattle.act_code.specs.Script.{IsSound, AreSound, IsBlock, IsInGrammar}
 use Rattle.act_code.specs.ScriptReading.{ends_in_ret}
 use Rattle.act_code.specs.Table.{format_of, code_of_action, operands}
 use Rattle.source_words.specs.declared.script.script.ScriptCause.{ScriptCause}

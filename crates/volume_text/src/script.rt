@@ -2,7 +2,7 @@
 ghost use Rattle.std.specs.Prelude.{◌≡◌, Ok, IfOk};
 ghost use Rattle.source_words.specs.Script.{AreSaid, IsSaid};
 ghost use Rattle.volume_text.specs.Reading.{Gives, Answers};
-ghost use Rattle.volume_text.specs.Script.{last_block, with_block, action_at, with_action, line_at, IsScriptBody};
+ghost use Rattle.volume_text.specs.Script.{with_block, action_at, with_action, line_at, IsScriptBody};
 
 use crate::fault::{Cause, Fault, Stop, TextFault};
 use act_code::{Action, Script};
@@ -10,25 +10,14 @@ use pi_base::{Phase, Seq};
 use source_words::script::{ScriptCause, ScriptFault, read_action, whole_script};
 use std::alloc::Global;
 
-// All blocks but the last, and the last.
-fn last_block(mut blocks: Seq<Seq<Action>>) -> Option<(Seq<Seq<Action>>, Seq<Action>)>
-    ensures { result ≡ last_block blocks }
-{
-    match blocks.pop() {
-        Some(last) => Some((blocks, last)),
-        None => None,
-    }
-}
-
 /// The script with one more block.
-pub(crate) fn with_block(alloc: Global, script: Script) -> Result<Script, Stop>
+pub(crate) fn with_block(alloc: Global, mut script: Script) -> Result<Script, Stop>
     requires said { AreSaid script }
     ensures made { Gives (λ x. x) result (Ok (with_block script)) }
     ensures said { IfOk result AreSaid }
 {
-    let Script { phase, mut blocks } = script;
-    blocks.push(Seq::new(alloc))?;
-    Ok(Script { phase, blocks })
+    script.blocks.push(Seq::new(alloc))?;
+    Ok(script)
 }
 
 // The action that a line of a script of a phase says.
@@ -44,22 +33,19 @@ fn action(alloc: Global, phase: Phase, line: &[u8]) -> Result<Action, Stop>
 }
 
 /// The script with one more action in its last block.
-pub(crate) fn with_action(alloc: Global, script: Script, line: &[u8]) -> Result<Script, Stop>
+#[tactic(auto, using(crate::proofs::Lasts::last_push))]
+pub(crate) fn with_action(alloc: Global, mut script: Script, line: &[u8]) -> Result<Script, Stop>
     requires said { AreSaid script }
     ensures made { Gives (λ x. x) result (with_action script line.now) }
     ensures said { IfOk result AreSaid }
 {
-    let Script { phase, blocks } = script;
-    let Some((mut others, mut last)) = last_block(blocks) else {
+    let Some(mut last) = script.blocks.pop() else {
         return Err(Stop::Fault(Cause::Script(ScriptCause::NoBlock)));
     };
-    let action = action(alloc, phase, line)?;
+    let action = action(alloc, script.phase, line)?;
     last.push(action)?;
-    others.push(last)?;
-    Ok(Script {
-        phase,
-        blocks: others,
-    })
+    script.blocks.push(last)?;
+    Ok(script)
 }
 
 // The text's line of a script's line at a place: the script's end stands behind its lines.

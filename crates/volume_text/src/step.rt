@@ -1,7 +1,7 @@
 // One line more of a text.
 ghost use Rattle.std.specs.Prelude.{◌≡◌, IfOk};
 ghost use Rattle.volume_text.specs.Reading.{Gives, Answers};
-ghost use Rattle.volume_text.specs.Step.{IsSaidState, begun, with_top, filling, nested, with_depex, with_script, last_volume, closed, filled, written, at_line, EndsScript, goes_on, TakesInScript, outside, Takes, Steps};
+ghost use Rattle.volume_text.specs.Step.{IsSaidState, begun, with_top, filling, nested, with_depex, with_script, closed, filled, written, at_line, EndsScript, goes_on, outside, Takes, Steps};
 ghost use Rattle.source_words.specs.Script.{AreSaid};
 
 use crate::fault::{Cause, Fault, Stop, TextFault};
@@ -138,24 +138,15 @@ fn with_script(
     })
 }
 
-// All volumes but the innermost, and that one.
-fn last_volume(mut below: Seq<OpenVolume>) -> Option<(Seq<OpenVolume>, OpenVolume)>
-    ensures { result ≡ last_volume below }
-{
-    match below.pop() {
-        Some(last) => Some((below, last)),
-        None => None,
-    }
-}
-
 // The innermost volume ends.
-fn closed(alloc: Global, below: Seq<OpenVolume>, top: &OpenVolume) -> Result<State, Stop>
+#[tactic(auto, using(crate::proofs::Lasts::last_push))]
+fn closed(alloc: Global, mut below: Seq<OpenVolume>, top: &OpenVolume) -> Result<State, Stop>
     ensures { Gives (λ x. x) result (closed below top.now) }
 {
     let bytes = built_of(alloc, top)?;
-    match last_volume(below) {
+    match below.pop() {
         None => Ok(State::Done { bytes }),
-        Some((below, top)) => filling(
+        Some(top) => filling(
             below,
             top,
             NewSection {
@@ -281,23 +272,6 @@ fn script_goes_on(
     }
 }
 
-// A line more in a script.
-fn in_script(
-    alloc: Global,
-    held: OpenScript,
-    number: u64,
-    statement: &Statement,
-) -> Result<State, TextFault>
-    requires said { AreSaid held.script }
-    ensures made { Answers (TakesInScript held.below held.top held.script held.lines number statement.now) result }
-    ensures said { IfOk result IsSaidState }
-{
-    match statement {
-        Statement::End => script_ended(alloc, held, number),
-        _ => script_goes_on(alloc, held, number, statement),
-    }
-}
-
 // A line more outside of scripts.
 fn outside(alloc: Global, state: State, statement: Statement) -> Result<State, Stop>
     ensures made { Gives (λ x. x) result (outside state statement) }
@@ -323,17 +297,18 @@ fn taken(alloc: Global, state: State, number: u64, statement: Statement) -> Resu
             top,
             script,
             lines,
-        } => in_script(
-            alloc,
-            OpenScript {
+        } => {
+            let held = OpenScript {
                 below,
                 top,
                 script,
                 lines,
-            },
-            number,
-            &statement,
-        ),
+            };
+            match statement {
+                Statement::End => script_ended(alloc, held, number),
+                other => script_goes_on(alloc, held, number, &other),
+            }
+        }
         other => match outside(alloc, other, statement) {
             Ok(state) => Ok(state),
             Err(stop) => Err(at(number, stop)),

@@ -1,7 +1,7 @@
 // A text, line by line.
 ghost use Rattle.std.specs.Prelude.{◌≡◌, ◌+◌, ◌<◌, ◌^◌, length, IfOk, IfErr};
 ghost use Rattle.line_words.specs.Line.{lines};
-ghost use Rattle.volume_text.specs.Text.{is_comment, is_passed_over, numbered, Says, Leads, Goes, Moves, IsRefused};
+ghost use Rattle.volume_text.specs.Text.{is_passed_over, numbered, Says, Leads, Goes, Moves, IsRefused};
 ghost use Rattle.volume_text.specs.Reading.{Answers};
 ghost use Rattle.volume_text.specs.Step.{IsSaidState};
 
@@ -12,23 +12,13 @@ use pi_base::Seq;
 use source_words::next_word;
 use std::alloc::Global;
 
-// Whether a line's first word makes it a comment.
-fn is_comment(word: &[u8]) -> bool
-    ensures { result ≡ is_comment word.now }
-{
-    match word {
-        [] => true,
-        [first, ..] => *first == b'#',
-    }
-}
-
 // Whether a line is passed over: it has no word, or its first one begins with `#`.
 fn is_passed_over(line: &[u8]) -> bool
     ensures { result ≡ is_passed_over line.now }
 {
     match next_word(line) {
-        None => true,
-        Some((word, _)) => is_comment(word),
+        Some(([first, ..], _)) => *first == b'#',
+        _ => true,
     }
 }
 

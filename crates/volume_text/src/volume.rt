@@ -1,8 +1,7 @@
 // What is open behind some lines of a text: volumes, one in a file of the other, and in the last file of the innermost maybe a script.
-ghost use Rattle.std.specs.Prelude.{◌≡◌, ◌<◌, ◌^◌, Ok, IfOk, replicate, take};
-ghost use Rattle.std.specs.List.{list_any};
-ghost use Rattle.volume_text.specs.Reading.{Gives, only_if};
-ghost use Rattle.volume_text.specs.Open.{last_of, holding, is_empty, with_bytes, with_section, with_last_body, with_new_file, with_file, pad_file, with_pad, with_name, is_in_range, depex_type, has_part, script_front, is_script_of, has_script, IsLastFile, only_with_part, only_without_script, part_checked, only_first, script_checked, stop_of, built_of};
+ghost use Rattle.std.specs.Prelude.{◌≡◌, ◌<◌, ◌^◌, Ok, IfOk, take};
+ghost use Rattle.volume_text.specs.Reading.{Gives};
+ghost use Rattle.volume_text.specs.Open.{holding, with_bytes, with_section, with_last_body, with_new_file, with_file, pad_file, with_pad, with_name, is_in_range, depex_type, has_part, script_front, is_script_of, has_script, IsLastFile, part_checked, script_checked, stop_of, built_of};
 
 use crate::fault::{Cause, Stop};
 use crate::word::{is_header, is_length};
@@ -30,16 +29,6 @@ pub struct OpenVolume {
     pub files: Seq<NewFile>,
 }
 
-// All files but the last, and the last.
-fn last_of(mut files: Seq<NewFile>) -> Option<(Seq<NewFile>, NewFile)>
-    ensures { result ≡ last_of files }
-{
-    match files.pop() {
-        Some(last) => Some((files, last)),
-        None => None,
-    }
-}
-
 // A file with one more section, unless its body is bytes.
 fn holding(file: NewFile, section: NewSection) -> Result<NewFile, Stop>
     ensures { Gives (λ x. x) result (holding section file) }
@@ -62,21 +51,14 @@ fn holding(file: NewFile, section: NewSection) -> Result<NewFile, Stop>
     })
 }
 
-// That a body has nothing yet.
-fn only_empty(body: &Body) -> Result<(), Stop>
-    ensures { Gives (λ x. x) result (only_if (is_empty body.now) Cause.TwoBodies tt) }
-{
-    match body {
-        Body::Sections(sections) if sections.is_empty() => Ok(()),
-        _ => Err(Stop::Fault(Cause::TwoBodies)),
-    }
-}
-
 // A file with these bytes as its body, unless it has sections or bytes.
 fn with_bytes(file: NewFile, bytes: Seq<u8>) -> Result<NewFile, Stop>
     ensures { Gives (λ x. x) result (with_bytes bytes file) }
 {
-    only_empty(&file.body)?;
+    match &file.body {
+        Body::Sections(sections) if sections.is_empty() => {}
+        _ => return Err(Stop::Fault(Cause::TwoBodies)),
+    }
     Ok(NewFile {
         name: file.name,
         kind: file.kind,
@@ -86,68 +68,37 @@ fn with_bytes(file: NewFile, bytes: Seq<u8>) -> Result<NewFile, Stop>
 }
 
 /// The volume with one more section in its last file.
-pub(crate) fn with_section(volume: OpenVolume, section: NewSection) -> Result<OpenVolume, Stop>
+#[tactic(auto, using(crate::proofs::Lasts::last_push))]
+pub(crate) fn with_section(mut volume: OpenVolume, section: NewSection) -> Result<OpenVolume, Stop>
     ensures { Gives (λ x. x) result (with_section volume section) }
 {
-    let OpenVolume {
-        form,
-        len,
-        name,
-        files,
-    } = volume;
-    let Some((mut files, last)) = last_of(files) else {
+    let Some(last) = volume.files.pop() else {
         return Err(Stop::Fault(Cause::NoFile));
     };
     let last = holding(last, section)?;
-    files.push(last)?;
-    Ok(OpenVolume {
-        form,
-        len,
-        name,
-        files,
-    })
+    volume.files.push(last)?;
+    Ok(volume)
 }
 
 /// The volume with these bytes as the body of its last file.
-pub(crate) fn with_last_body(volume: OpenVolume, bytes: Seq<u8>) -> Result<OpenVolume, Stop>
+#[tactic(auto, using(crate::proofs::Lasts::last_push))]
+pub(crate) fn with_last_body(mut volume: OpenVolume, bytes: Seq<u8>) -> Result<OpenVolume, Stop>
     ensures { Gives (λ x. x) result (with_last_body volume bytes) }
 {
-    let OpenVolume {
-        form,
-        len,
-        name,
-        files,
-    } = volume;
-    let Some((mut files, last)) = last_of(files) else {
+    let Some(last) = volume.files.pop() else {
         return Err(Stop::Fault(Cause::NoFile));
     };
     let last = with_bytes(last, bytes)?;
-    files.push(last)?;
-    Ok(OpenVolume {
-        form,
-        len,
-        name,
-        files,
-    })
+    volume.files.push(last)?;
+    Ok(volume)
 }
 
 // The volume with one more file.
-fn with_new_file(volume: OpenVolume, file: NewFile) -> Result<OpenVolume, Stop>
+fn with_new_file(mut volume: OpenVolume, file: NewFile) -> Result<OpenVolume, Stop>
     ensures { Gives (λ x. x) result (Ok (with_new_file volume file)) }
 {
-    let OpenVolume {
-        form,
-        len,
-        name,
-        mut files,
-    } = volume;
-    files.push(file)?;
-    Ok(OpenVolume {
-        form,
-        len,
-        name,
-        files,
-    })
+    volume.files.push(file)?;
+    Ok(volume)
 }
 
 /// The volume with one more file, which has no section yet.
@@ -171,27 +122,19 @@ pub(crate) fn with_file(
     )
 }
 
-// So many erased bytes.
-fn erased(alloc: Global, len: usize) -> Result<Seq<u8>, OutOfMemory>
-    ensures { IfOk result (λ bytes. bytes ≡ replicate len ERASED) }
-{
-    match vec![in alloc; ERASED; len] {
-        Ok(bytes) => Ok(Seq::from_vec(bytes)),
-        Err(_) => Err(OutOfMemory),
-    }
-}
-
 // A pad file with so many bytes of body.
 fn pad_file(alloc: Global, len: u64) -> Result<NewFile, OutOfMemory>
     ensures { IfOk result (λ file. file ≡ pad_file len) }
 {
-    let bytes = erased(alloc, len as usize)?;
-    Ok(NewFile {
-        name: Guid([ERASED; 16]),
-        kind: PAD,
-        attributes: FileAttributes::new(),
-        body: Body::Bytes(bytes),
-    })
+    match vec![in alloc; ERASED; len as usize] {
+        Ok(bytes) => Ok(NewFile {
+            name: Guid([ERASED; 16]),
+            kind: PAD,
+            attributes: FileAttributes::new(),
+            body: Body::Bytes(Seq::from_vec(bytes)),
+        }),
+        Err(_) => Err(OutOfMemory),
+    }
 }
 
 /// The volume with one more pad file.
@@ -266,28 +209,19 @@ pub fn is_script(kind: u8, body: &[u8], phase: Phase) -> bool
     kind == RAW && front_of(body) == script_front(phase).as_slice()
 }
 
-// Whether a section is a script of a phase.
-fn is_script_of(section: &NewSection, phase: Phase) -> bool
-    ensures { result ≡ is_script_of phase section.now }
-{
-    is_script(section.kind, section.body.as_slice(), phase)
-}
-
-// Whether one of the sections is a script of a phase.
-fn is_one_script(sections: &[NewSection], phase: Phase) -> bool
-    ensures { result ≡ list_any (is_script_of phase) sections.now }
-{
-    sections.iter().any(|section| is_script_of(section, phase))
-}
-
 // Whether a file has a script of a phase.
 fn has_script(file: &NewFile, phase: Phase) -> bool
     ensures { result ≡ has_script phase file.now }
 {
-    match &file.body {
-        Body::Sections(sections) => is_one_script(sections.as_slice(), phase),
-        Body::Bytes(_) => false,
+    let Body::Sections(sections) = &file.body else {
+        return false;
+    };
+    'sections: for section in sections.as_slice() {
+        if is_script(section.kind, section.body.as_slice(), phase) {
+            return true;
+        }
     }
+    false
 }
 
 // The last of the files.
@@ -300,44 +234,18 @@ fn last_file(files: &[NewFile]) -> Option<&NewFile>
     }
 }
 
-// That a file has a part for a phase.
-fn only_with_part(file: &NewFile, phase: Phase) -> Result<(), Stop>
-    ensures { Gives (λ x. x) result (only_with_part phase file.now) }
-{
-    if has_part(file.kind, phase) {
-        Ok(())
-    } else {
-        Err(Stop::Fault(Cause::NoPart))
-    }
-}
-
-// That a file has no script of a phase.
-fn only_without_script(file: &NewFile, phase: Phase) -> Result<(), Stop>
-    ensures { Gives (λ x. x) result (only_without_script phase file.now) }
-{
-    if has_script(file, phase) {
-        Err(Stop::Fault(Cause::TwoScripts))
-    } else {
-        Ok(())
-    }
-}
-
 /// That the last file has a part for a phase.
 pub(crate) fn part_checked(volume: &OpenVolume, phase: Phase) -> Result<(), Stop>
     ensures { Gives (λ x. x) result (part_checked phase volume.now) }
 {
     match last_file(volume.files.as_slice()) {
-        Some(last) => only_with_part(last, phase),
-        None => Err(Stop::Fault(Cause::NoFile)),
-    }
-}
-
-// That the last file has no script of a phase.
-fn first_checked(volume: &OpenVolume, phase: Phase) -> Result<(), Stop>
-    ensures { Gives (λ x. x) result (only_first phase (last_of volume.now.files)) }
-{
-    match last_file(volume.files.as_slice()) {
-        Some(last) => only_without_script(last, phase),
+        Some(last) => {
+            if has_part(last.kind, phase) {
+                Ok(())
+            } else {
+                Err(Stop::Fault(Cause::NoPart))
+            }
+        }
         None => Err(Stop::Fault(Cause::NoFile)),
     }
 }
@@ -347,7 +255,16 @@ pub(crate) fn script_checked(volume: &OpenVolume, phase: Phase) -> Result<(), St
     ensures { Gives (λ x. x) result (script_checked phase volume.now) }
 {
     part_checked(volume, phase)?;
-    first_checked(volume, phase)
+    match last_file(volume.files.as_slice()) {
+        Some(last) => {
+            if has_script(last, phase) {
+                Err(Stop::Fault(Cause::TwoScripts))
+            } else {
+                Ok(())
+            }
+        }
+        None => Err(Stop::Fault(Cause::NoFile)),
+    }
 }
 
 // What stands against a volume, as what is wrong with its `end`.

@@ -2,7 +2,7 @@
 ghost use Rattle.std.specs.Prelude.{◌≡◌};
 ghost use Rattle.source_words.specs.Words.{words};
 ghost use Rattle.volume_text.specs.Reading.{Gives};
-ghost use Rattle.volume_text.specs.Words.{word_at, none_left, guid_at, phase_at, is_length, length_at, is_pad_length, pad_length_at, system_at, number_at, told_at, is_header, header_at, place_at, is_size, size_at, last_number, attributes_at, fixed_at, last_alignment, alignment_at, chosen_at, file_type_at, section_type_at};
+ghost use Rattle.volume_text.specs.Words.{word_at, none_left, guid_at, phase_at, is_length, length_at, pad_length_at, system_at, number_at, told_at, is_header, header_at, place_at, size_at, last_number, attributes_at, fixed_at, last_alignment, alignment_at, chosen_at, file_type_at, section_type_at};
 
 use crate::fault::{Cause, Stop};
 use crate::keyword::{byte_of, file_type_of, phase_of, system_of};
@@ -91,13 +91,6 @@ pub(crate) fn is_length(len: u64) -> bool
     LEAST_HEADER_LEN as u64 <= len && len <= MOST_LEN
 }
 
-/// Whether the body of a pad file may be of this length: FFS2 can tell that of the file.
-fn is_pad_length(len: u64) -> bool
-    ensures { result ≡ is_pad_length len }
-{
-    len <= MOST_PAD
-}
-
 /// The length of a pad file's body.
 #[tactic(auto, unfolding(crate::specs::Words::pad_length_at))]
 pub(crate) fn pad_length(text: &[u8]) -> Result<(u64, &[u8]), Stop>
@@ -107,7 +100,7 @@ pub(crate) fn pad_length(text: &[u8]) -> Result<(u64, &[u8]), Stop>
     let Some(len) = number_of(word) else {
         return Err(Stop::Fault(Cause::Number));
     };
-    if is_pad_length(len) {
+    if len <= MOST_PAD {
         Ok((len, rest))
     } else {
         Err(Stop::Fault(Cause::Range))
@@ -188,20 +181,13 @@ pub(crate) fn place(text: &[u8]) -> Result<(u16, &[u8]), Stop>
     }
 }
 
-// Whether an extended header may have this size.
-fn is_size(size: u64) -> bool
-    ensures { result ≡ is_size size }
-{
-    u64::from(EXT_HEADER_LEN) <= size && size < NUMBERS_OF_32_BITS
-}
-
 /// ExtHeaderSize behind the word `size`, and that of an extended header without entries where it is not there.
 #[tactic(auto, unfolding(crate::specs::Words::size_at))]
 pub(crate) fn size(text: &[u8]) -> Result<(u32, &[u8]), Stop>
     ensures { Gives (λ x. (x.0, words x.1.now)) result (size_at (words text.now)) }
 {
     let (size, rest) = told(text, b"size", u64::from(EXT_HEADER_LEN))?;
-    if is_size(size) {
+    if u64::from(EXT_HEADER_LEN) <= size && size < NUMBERS_OF_32_BITS {
         Ok((size as u32, rest))
     } else {
         Err(Stop::Fault(Cause::Range))

@@ -1,8 +1,8 @@
 -- Flags that are set and taken back, and blocks that are passed over.
-use Rattle.std.proofs.Common.{◌≡◌, ℕ, zero, suc, ◌+◌, ◌*◌, ◌/◌, ◌≤◌, ◌<◌, Bool, true, false, ◌||◌, ◌&&◌, List, [], ◌∷◌, length, arith, ap, refl, sym, subst, ◌∙◌, Option, Some, None}
+use Rattle.std.proofs.Common.{◌≡◌, ℕ, zero, suc, ◌+◌, ◌*◌, ◌/◌, ◌≤◌, ◌<◌, Bool, true, false, ◌||◌, ◌&&◌, List, [], ◌∷◌, length, arith, ap, refl, subst, ◌∙◌, Option, Some, None}
 use Rattle.std.proofs.Common.{inl, inr}
 use Rattle.std.specs.Prelude.{slice_set, replicate, IfNone}
-use Rattle.std.proofs.lemmas.Bool.Decides.{eqb_tells, leb_tells}
+use Rattle.std.proofs.lemmas.Bool.Decides.{leb_tells}
 use Rattle.wait_index.specs.PlaceFlags.{flag, count, either, AreMarked, IsFirst}
 
 pub flag_here : (flags : List Bool) (place : ℕ) (set : Bool) → place < length flags → flag (slice_set flags place set) place ≡ set
@@ -104,28 +104,6 @@ pub none_set : (n place : ℕ) → flag (replicate n false) place ≡ false
 none_set zero place = refl
 none_set (suc n) zero = refl
 none_set (suc n) (suc place) = none_set n place
-
--- blocks tell of a place more
-pub marked_set : (flags blocks : List Bool) (place : ℕ) → place / 64 < length blocks → AreMarked flags blocks → AreMarked (slice_set flags place true) (slice_set blocks (place / 64) true)
-marked_set flags blocks place less marked other set = elim (eqb_tells (place / 64) (other / 64)) [
-  | inl same ↦ subst (λ n. flag (slice_set blocks (place / 64) true) n ≡ true) same.1 (flag_here blocks (place / 64) true less)
-  | inr apart ↦ flag_other blocks (place / 64) true (other / 64) apart.1 ∙ marked other (sym (flag_other flags place true other (λ e. apart.1 (ap (λ n. n / 64) e))) ∙ set)
-]
-
--- and of a place less
-pub marked_less : (flags blocks : List Bool) (place : ℕ) → place < length flags → AreMarked flags blocks → AreMarked (slice_set flags place false) blocks
-marked_less flags blocks place less marked other set = elim (eqb_tells place other) [
-  | inl same ↦ let no : false ≡ true = sym (flag_here flags place false less) ∙ subst (λ n. flag (slice_set flags place false) n ≡ true) (sym same.1) set in absurd (cc)
-  | inr apart ↦ marked other (sym (flag_other flags place false other apart.1) ∙ set)
-]
-
--- a block of which no place is set may say so
-pub marked_empty : (flags blocks : List Bool) (block : ℕ) → ((place : ℕ) → block * 64 ≤ place → place < block * 64 + 64 → flag flags place ≡ false) → AreMarked flags blocks
-    → AreMarked flags (slice_set blocks block false)
-marked_empty flags blocks block empty marked place set = elim (eqb_tells block (place / 64)) [
-  | inl same ↦ let no : false ≡ true = sym (empty place (omega (arith, same.1)) (omega (arith, same.1))) ∙ set in absurd (cc)
-  | inr apart ↦ flag_other blocks block false (place / 64) apart.1 ∙ marked place set
-]
 
 -- where no flag from the front on is set, none is
 pub none_left : (flags : List Bool) (from : ℕ) (first : Option ℕ) → IsFirst (either false flags flags) from first → from ≡ 0 → IfNone first (count flags ≡ 0)

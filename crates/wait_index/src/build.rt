@@ -12,6 +12,7 @@ ghost use Rattle.wait_index.specs.Watching.{IsNumbering, Covers, modules_push};
 
 use crate::index::WaitIndex;
 use crate::installed::Installed;
+use crate::place_set::unset;
 use crate::places::Places;
 use crate::watch::{Watch, note_modules};
 use boot_model::ARCHITECTURAL;
@@ -33,16 +34,6 @@ fn protocols_of(alloc: Global, watch: &mut Watch, phase: Phase) -> Result<Seq<us
     }
 }
 
-// No GUID of so many slots is installed.
-fn none_there(alloc: Global, count: usize) -> Result<Seq<bool>, OutOfMemory>
-    ensures { IfOk result (λ there. there ≡ replicate count false) }
-{
-    match vec![in alloc; false; count] {
-        Ok(there) => Ok(Seq::from_vec(there)),
-        Err(_) => Err(OutOfMemory),
-    }
-}
-
 // Each GUID that the parts push has a slot; these are the slots of the architectural protocols, and a flag for each slot.
 fn numbered(
     alloc: Global,
@@ -59,7 +50,7 @@ fn numbered(
 {
     watch.number_modules(alloc, phase, catalog.modules.as_slice())?;
     let protocols = protocols_of(alloc, watch, phase)?;
-    let there = none_there(alloc, watch.watchers.len())?;
+    let there = unset(alloc, watch.watchers.len())?;
     Ok((protocols, there))
 }
 

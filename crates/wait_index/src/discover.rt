@@ -1,7 +1,6 @@
 // The parts of a volume come.
-ghost use Rattle.std.specs.Prelude.{◌≡◌, ◌≤◌, ◌<◌, ◌+◌, ◌++◌, Some, length};
+ghost use Rattle.std.specs.Prelude.{◌≡◌, ◌≤◌, ◌<◌, ◌+◌, ◌++◌, length};
 ghost use Rattle.mod_catalog.specs.WellFormed.{IsWellFormed};
-ghost use Rattle.boot_model.specs.DxeChoice.{is_sor};
 ghost use Rattle.boot_model.specs.Licence.{AllDiffer};
 ghost use Rattle.pi_base.specs.Lists.{Each};
 ghost use Rattle.mod_catalog.specs.Parts.{part_at};
@@ -10,40 +9,24 @@ ghost use Rattle.wait_index.specs.Index.{IsIndex, order_in, owed};
 
 use crate::index::WaitIndex;
 use depex_code::Depex;
-use mod_catalog::{Catalog, Part, PartExpr};
+use mod_catalog::{Catalog, PartExpr};
 use phase_parts::part_of;
 use pi_base::Phase;
 
-// Whether an expression begins with SOR.
-fn is_sor(expression: &Depex) -> bool
-    ensures { result ≡ is_sor expression.now }
-{
-    match expression {
-        Depex::Before(_) => false,
-        Depex::After(_) => false,
-        Depex::Expr { sor, .. } => *sor,
-    }
-}
-
-// Whether a driver is open when it comes.
-fn driver_opens(part: &Part) -> bool
-    ensures { result ≡ opens Phase.Dxe (Some part.now) }
-{
-    match &part.expr {
-        PartExpr::Absent => true,
-        PartExpr::Malformed(_) => true,
-        PartExpr::Held(expression) => !is_sor(expression),
-    }
-}
-
-// Whether the part of a module is open when it comes.
+// Whether the part of a module is open when it comes: a driver with SOR is not.
 fn opens(phase: Phase, catalog: &Catalog, number: u32) -> bool
     ensures { result ≡ opens phase (part_at phase catalog.now number) }
 {
     match phase {
         Phase::Pei => true,
         Phase::Dxe => match part_of(catalog, phase, number) {
-            Some(part) => driver_opens(part),
+            Some(part) => match &part.expr {
+                PartExpr::Absent => true,
+                PartExpr::Malformed(_) => true,
+                PartExpr::Held(Depex::Before(_)) => true,
+                PartExpr::Held(Depex::After(_)) => true,
+                PartExpr::Held(Depex::Expr { sor, .. }) => !*sor,
+            },
             None => true,
         },
     }

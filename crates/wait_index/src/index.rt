@@ -4,7 +4,6 @@ ghost use Rattle.wait_index.specs.Installed.{HasRoom};
 ghost use Rattle.wait_index.specs.Places.{IsInOrder};
 
 use crate::installed::Installed;
-use crate::next::next;
 use crate::places::Places;
 use crate::settle::settle;
 use depex_code::Steps;
@@ -78,7 +77,12 @@ impl WaitIndex {
             → option_and_then (slice_get (order_in self.now)) result
             ≡ find (is_eligible_in catalog self.now) (rotated cursor (order_in self.now)) }
     {
-        next(&self.places, self.has_all(), cursor)
+        let all = self.has_all();
+        let places = &self.places;
+        match places.ready.first_of_two(&places.later, all, cursor) {
+            Some(place) => Some(place),
+            None => places.ready.first_of_two(&places.later, all, 0),
+        }
     }
 
     /// A GUID is installed now, or is not. Where the index knows that, nothing changes.

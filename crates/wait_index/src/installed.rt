@@ -2,7 +2,6 @@
 ghost use Rattle.std.specs.Prelude.{◌≡◌, ◌<◌, length, slice_set};
 ghost use Rattle.std.specs.List.{list_all};
 ghost use Rattle.wait_index.specs.PlaceFlags.{flag};
-ghost use Rattle.wait_index.specs.Installed.{is_there};
 
 use crate::search::flag;
 use depex_code::GuidSet;
@@ -25,7 +24,10 @@ impl GuidSet for Installed {
     ghost in_order = { λ _. Unit {0} };
 
     fn has(&self, guid: &Guid) -> bool {
-        self.is_there(guid)
+        match self.slots.get(guid) {
+            Some(slot) => self.says(slot),
+            None => false,
+        }
     }
 }
 
@@ -35,16 +37,6 @@ impl Installed {
         ensures { result ≡ flag self.now.there slot }
     {
         flag(self.there.as_slice(), slot)
-    }
-
-    /// Whether a GUID is installed, where it has a slot.
-    pub fn is_there(&self, guid: &Guid) -> bool
-        ensures { result ≡ is_there self.now guid.now }
-    {
-        match self.slots.get(guid) {
-            Some(slot) => self.says(slot),
-            None => false,
-        }
     }
 
     /// A slot says so from now on.

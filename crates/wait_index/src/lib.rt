@@ -12,7 +12,6 @@ mod discover;
 mod index;
 mod installed;
 mod laws;
-mod next;
 mod place_set;
 mod places;
 mod rouse;

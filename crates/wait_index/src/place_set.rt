@@ -31,7 +31,7 @@ impl Model for PlaceSet {
 }
 
 // So many flags that are not set.
-fn unset(alloc: Global, count: usize) -> Result<Seq<bool>, OutOfMemory>
+pub(crate) fn unset(alloc: Global, count: usize) -> Result<Seq<bool>, OutOfMemory>
     ensures { IfOk result (λ flags. flags ≡ replicate count false) }
 {
     match vec![in alloc; false; count] {

@@ -3,43 +3,26 @@ ghost use Rattle.std.specs.Prelude.{◌≡◌, ◌≤◌, ◌+◌, if◌then◌e
 ghost use Rattle.pi_base.specs.declared.phase.Phase.{Phase as OfPhase};
 ghost use Rattle.mod_catalog.specs.declared.catalogue.Part.{Part as OfPart};
 ghost use Rattle.boot_model.specs.Eligible.{depex_holds};
-ghost use Rattle.wait_index.specs.Verdict.{verdict_by, absent_verdict, expression_verdict, part_verdict, verdict_of};
+ghost use Rattle.wait_index.specs.Verdict.{expression_verdict, verdict_of};
 ghost use Rattle.wait_index.specs.Installed.{is_there};
 ghost use Rattle.mod_catalog.specs.WellFormed.{IsShortExpression, AreShort};
 
 use crate::installed::Installed;
 use depex_code::Steps;
-use mod_catalog::{Catalog, Part, PartExpr};
+use mod_catalog::{Catalog, PartExpr};
 use phase_parts::{depex_holds, part_of};
 use pi_base::Phase;
 use std::sync::ledger::Ledger;
 
 /// Whether a part may start: no, yes, or where all architectural protocols are installed.
-#[derive(Clone, Copy, PartialEq, Eq)]
+#[derive(Clone, Copy)]
 pub enum Verdict {
     No,
     Yes,
     WithAll,
 }
 
-// Yes or no.
-fn verdict_by(holds: bool) -> Verdict
-    ensures { result ≡ verdict_by holds }
-{
-    if holds { Verdict::Yes } else { Verdict::No }
-}
-
-// What a part without an expression waits for.
-fn absent_verdict(phase: Phase) -> Verdict
-    ensures { result ≡ absent_verdict phase }
-{
-    match phase {
-        Phase::Pei => Verdict::Yes,
-        Phase::Dxe => Verdict::WithAll,
-    }
-}
-
-// What an expression says.
+// What an expression says. Without one a PEIM may start, and a driver where all architectural protocols are installed.
 fn expression_verdict<L: Ledger>(
     phase: Phase,
     expr: &PartExpr,
@@ -52,31 +35,22 @@ fn expression_verdict<L: Ledger>(
     ensures few_steps { steps.new ≤ steps.old + 1 }
 {
     match expr {
-        PartExpr::Absent => absent_verdict(phase),
+        PartExpr::Absent => match phase {
+            Phase::Pei => Verdict::Yes,
+            Phase::Dxe => Verdict::WithAll,
+        },
         PartExpr::Malformed(_) => Verdict::No,
-        PartExpr::Held(expression) => verdict_by(depex_holds(expression, installed, steps)),
+        PartExpr::Held(expression) => {
+            if depex_holds(expression, installed, steps) {
+                Verdict::Yes
+            } else {
+                Verdict::No
+            }
+        }
     }
 }
 
-// What a part's rank and its expression say.
-fn part_verdict<L: Ledger>(
-    phase: Phase,
-    part: &Part,
-    installed: &Installed,
-    steps: &mut Steps<L>,
-) -> Verdict
-    requires short { IsShortExpression part.now.expr }
-    ensures verdict { result ≡ part_verdict phase (is_there installed.now) part.now }
-    ensures counted { steps.old ≤ steps.new }
-    ensures few_steps { steps.new ≤ steps.old + 1 }
-{
-    if phase == Phase::Pei && part.rank.is_some() {
-        return Verdict::Yes;
-    }
-    expression_verdict(phase, &part.expr, installed, steps)
-}
-
-/// What the part of a module says now. At most one expression is evaluated.
+/// What the part of a module says now: a PEIM with a rank may start whatever its expression says. At most one expression is evaluated.
 pub(crate) fn verdict_of<L: Ledger>(
     phase: Phase,
     catalog: &Catalog,
@@ -90,7 +64,12 @@ pub(crate) fn verdict_of<L: Ledger>(
     ensures few_steps { steps.new ≤ steps.old + 1 }
 {
     match part_of(catalog, phase, number) {
-        Some(part) => part_verdict(phase, part, installed, steps),
+        Some(part) => {
+            if phase == Phase::Pei && part.rank.is_some() {
+                return Verdict::Yes;
+            }
+            expression_verdict(phase, &part.expr, installed, steps)
+        }
         None => Verdict::No,
     }
 }

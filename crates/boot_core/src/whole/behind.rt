@@ -73,7 +73,11 @@ fn boot_drivers<M: PeiStore + Drop, S: Sink, C: Choice<S>>(
         choice,
         sink,
     )? {
-        Left::Ended(ended) => close(&pei.store, &ended.handles, result_of(ended.end), sink),
+        Left::Ended(ended) => {
+            let closed = close(&pei.store, &ended.handles, result_of(ended.end), sink);
+            drop(ended);
+            closed
+        }
         Left::Barred(barred) => Ok(Behind::Barred(barred)),
     }
 }
@@ -90,7 +94,10 @@ fn close_pei<M: PeiStore, S: Sink>(
         (record { old = S.text sink.old; new = S.text sink.new }) result) }
     ensures faults { HaltsAfter result (S.faults sink.old) (S.faults sink.new) }
 {
-    close(store, &Handles::new(alloc), end, sink)
+    let none = Handles::new(alloc);
+    let closed = close(store, &none, end, sink);
+    drop(none);
+    closed
 }
 
 /// What follows PEI.

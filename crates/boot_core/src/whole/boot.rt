@@ -5,7 +5,6 @@ ghost use Rattle.mod_catalog.specs.WellFormed.{IsWellFormed};
 ghost use Rattle.store_model.specs.Service.{Present};
 ghost use Rattle.store_model.specs.StoreCall.{Anything};
 ghost use Rattle.store_model.specs.StoreState.{Board, empty_store};
-ghost use Rattle.boot_core.specs.Behind.{left_by};
 ghost use Rattle.boot_core.specs.ByChoice.{BootsByChoice, GoesOn};
 ghost use Rattle.boot_core.specs.FreeWay.{GoesFreely};
 
@@ -44,16 +43,6 @@ pub enum Booted<M: PeiStore + Drop> {
     },
 }
 
-// What a boot came to, by what came behind its PEI.
-fn left_by<M: PeiStore + Drop>(pei: Ended<M>, behind: Behind) -> Booted<M>
-    ensures { result ≡ left_by pei behind }
-{
-    match behind {
-        Behind::Closed(end) => Booted::Ended(Ran { end, pei }),
-        Behind::Barred(barred) => Booted::BarredInDxe { pei, barred },
-    }
-}
-
 // A boot behind its PEI.
 fn go_on<M: PeiStore + Drop, S: Sink, C: Choice<S>>(
     alloc: Global,
@@ -70,7 +59,10 @@ fn go_on<M: PeiStore + Drop, S: Sink, C: Choice<S>>(
     ensures faults { HaltsAfter result (S.faults sink.old) (S.faults sink.new) }
 {
     let behind = boot_behind(alloc, &pei, catalog, fuel, choice, sink)?;
-    Ok(left_by(pei, behind))
+    match behind {
+        Behind::Closed(end) => Ok(Booted::Ended(Ran { end, pei })),
+        Behind::Barred(barred) => Ok(Booted::BarredInDxe { pei, barred }),
+    }
 }
 
 /// A boot from its first line to its last: PEI, DXE behind a hand-off, the lists, the handles and the result; where several modules may start, a choice says which. Before the start of a module that the choice does not let the boot is left. `fuel` is how many actions may be taken.

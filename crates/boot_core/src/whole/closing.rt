@@ -8,9 +8,10 @@ ghost use Rattle.boot_model.specs.Listing.{store_lines};
 ghost use Rattle.boot_model.specs.Text.{text_of};
 ghost use Rattle.boot_core.specs.Closing.{interface_text, result_text, closing_text};
 
+use crate::putting::put_made;
 use boot_io::{Sink, SinkFault};
 use boot_model::{DxeEnd, Line, RunEnd};
-use boot_trace::{put, put_store_lists};
+use boot_trace::put_store_lists;
 use dxe_core::database::Handles;
 use store_model::{Interface, PeiStore};
 
@@ -31,9 +32,9 @@ fn put_interface<S: Sink>(sink: &mut S, interface: Interface) -> Result<(), Sink
     ensures text { Puts result (S.text sink.old) (S.text sink.new) (interface_text interface) }
     ensures cause { SinkFaultsAfter result (S.faults sink.old) (S.faults sink.new) }
 {
-    put(
+    put_made(
         sink,
-        &Line::Handle {
+        Line::Handle {
             handle: interface.handle,
             guid: interface.guid,
             value: interface.value,
@@ -66,14 +67,10 @@ fn put_result<S: Sink>(sink: &mut S, handles: &Handles, end: RunEnd) -> Result<(
     ensures text { Puts result (S.text sink.old) (S.text sink.new) (result_text handles.now end) }
     ensures cause { SinkFaultsAfter result (S.faults sink.old) (S.faults sink.new) }
 {
-    put(
-        sink,
-        &Line::Handles {
-            count: count_of(handles),
-        },
-    )?;
+    let count = count_of(handles);
+    put_made(sink, Line::Handles { count })?;
     put_interfaces(sink, handles.interfaces())?;
-    put(sink, &Line::Result { outcome: end })
+    put_made(sink, Line::Result { outcome: end })
 }
 
 /// Puts the last lines of a boot: the lists of its last store, the handles and the result. Where the sink fails, a prefix of their text was put.

@@ -54,8 +54,6 @@ fn add_install(
 ) -> Result<(), OutOfMemory>
     ensures { OnOk result (actions.new ≡ actions.old ++ installs r d ppi value) }
 {
-    let mut list = Seq::new(actions.alloc());
-    list.push(d)?;
     actions.push(Action::Set { r, n: value })?;
     actions.push(Action::Desc {
         d,
@@ -63,6 +61,8 @@ fn add_install(
         guid: GuidArg::Inline(ppi),
         arg: r,
     })?;
+    let mut list = Seq::new(actions.alloc());
+    list.push(d)?;
     actions.push(Action::Install { list })
 }
 
@@ -170,18 +170,17 @@ fn module(alloc: Global, n: u32, i: u32) -> Result<NewFile, OutOfMemory>
     })
 }
 
-// The modules, from the last down to the first.
-fn modules(alloc: Global, n: u32) -> Result<Seq<NewFile>, OutOfMemory>
+// Adds the modules, from the last down to the first.
+fn add_modules(alloc: Global, files: &mut Seq<NewFile>, n: u32) -> Result<(), OutOfMemory>
     requires { n ≤ MOST_MODULES }
-    ensures { IfOk result (λ files. files ≡ generated_files n) }
+    ensures { OnOk result (files.new ≡ files.old ++ generated_files n) }
 {
-    let mut files = Seq::new(alloc);
     let mut left = n;
     while left > 0 {
         left -= 1;
         files.push(module(alloc, n, left)?)?;
     }
-    Ok(files)
+    Ok(())
 }
 
 /// An FFS2 volume of `VOLUME_LEN` bytes with n modules, in order of place from n - 1 down to 0 (own).
@@ -196,6 +195,7 @@ pub fn generate(alloc: Global, n: u32) -> Result<Seq<u8>, BuildFault>
     ensures len { IfOk result (λ volume. length volume ≡ VOLUME_LEN) }
     ensures memory { IfErr result (λ fault. fault ≡ Memory) }
 {
-    let files = modules(alloc, n)?;
+    let mut files = Seq::new(alloc);
+    add_modules(alloc, &mut files, n)?;
     build_volume(alloc, files.as_slice(), VOLUME_LEN)
 }

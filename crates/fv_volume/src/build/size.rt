@@ -2,7 +2,7 @@
 ghost use Rattle.std.specs.Prelude.{◌≡◌, ◌-◌, ◌^◌, length, min, All};
 ghost use Rattle.std.specs.List.{list_any};
 ghost use Rattle.fv_volume.specs.Sections.{is_extended, section_size, body_bytes, is_section_too_long};
-ghost use Rattle.fv_volume.specs.Files.{bytes_in, has_long_section, is_large, file_size, is_past_size, is_file_too_long, HasWholeName};
+ghost use Rattle.fv_volume.specs.Files.{bytes_in, has_long_section, is_large, file_size, is_file_too_long, HasWholeName};
 ghost use Rattle.fv_volume.specs.Building.{need};
 
 use crate::build::file_system::{FileSystem, MOST_EXTENDED_SIZE, MOST_SIZE};
@@ -83,13 +83,6 @@ pub fn file_size(file_system: FileSystem, body_len: usize) -> usize
     body_len.saturating_add(header_len)
 }
 
-// Whether no size field can tell the size of a file with so many bytes of body.
-fn is_past_size(file_system: FileSystem, body_len: usize) -> bool
-    ensures { result ≡ is_past_size file_system body_len }
-{
-    file_system == FileSystem::Ffs2 && body_len > MOST_SIZE - file_header::HEADER_LEN
-}
-
 // Whether no size field can tell the size of one of the sections.
 fn is_one_too_long(file_system: FileSystem, sections: &[NewSection]) -> bool
     ensures { result ≡ list_any (is_section_too_long file_system) sections.now }
@@ -114,7 +107,8 @@ fn is_file_too_long(file_system: FileSystem, file: &NewFile) -> bool
     ensures { result ≡ is_file_too_long file_system file.now }
 {
     has_long_section(file_system, &file.body)
-        || is_past_size(file_system, body_len(file_system, &file.body))
+        || (file_system == FileSystem::Ffs2
+            && body_len(file_system, &file.body) > MOST_SIZE - file_header::HEADER_LEN)
 }
 
 /// Whether no size field can tell the size of one of the sections or files.

@@ -3,7 +3,7 @@
 /// A section of a stream, without its header.
 ///
 /// PI 1.8, volume 3, `EFI_COMMON_SECTION_HEADER`.
-#[derive(Clone, Copy, PartialEq, Eq)]
+#[derive(Clone, Copy)]
 pub struct Section {
     /// The Type byte.
     pub kind: u8,

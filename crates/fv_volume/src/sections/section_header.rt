@@ -1,6 +1,6 @@
 //! The header of a section: its fields, and what can be wrong with it.
 ghost use Rattle.std.specs.Prelude.{◌≡◌, ◌≤◌, ◌+◌, length};
-ghost use Rattle.fv_volume.specs.SectionHeader.{extended_header_at, header_at, section_at};
+ghost use Rattle.fv_volume.specs.SectionHeader.{header_at, section_at};
 
 use crate::sections::fault::SecCause;
 use crate::sections::section::Section;
@@ -37,22 +37,6 @@ pub(crate) struct SectionHeader {
     pub size: usize,
 }
 
-// The header of an extended section; none where it passes the stream's end.
-fn extended_header_at(bytes: &[u8], at: usize, kind: u8) -> Option<SectionHeader>
-    requires { at ≤ length bytes.now }
-    ensures { result ≡ extended_header_at bytes.now at kind }
-{
-    if bytes.len() - at < EXTENDED_HEADER_LEN {
-        None
-    } else {
-        Some(SectionHeader {
-            kind,
-            len: EXTENDED_HEADER_LEN,
-            size: u32_at(bytes, at + EXTENDED_SIZE_AT) as usize,
-        })
-    }
-}
-
 // The header at a place; none where it passes the stream's end.
 fn header_at(bytes: &[u8], at: usize) -> Option<SectionHeader>
     requires { at + HEADER_LEN ≤ length bytes.now }
@@ -60,13 +44,19 @@ fn header_at(bytes: &[u8], at: usize) -> Option<SectionHeader>
 {
     let kind = bytes[at + TYPE_AT];
     let size = u24_at(bytes, at);
-    if size == EXTENDED {
-        extended_header_at(bytes, at, kind)
-    } else {
+    if size != EXTENDED {
         Some(SectionHeader {
             kind,
             len: HEADER_LEN,
             size: size as usize,
+        })
+    } else if bytes.len() - at < EXTENDED_HEADER_LEN {
+        None
+    } else {
+        Some(SectionHeader {
+            kind,
+            len: EXTENDED_HEADER_LEN,
+            size: u32_at(bytes, at + EXTENDED_SIZE_AT) as usize,
         })
     }
 }

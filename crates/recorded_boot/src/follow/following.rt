@@ -1,5 +1,5 @@
 //! A boot along an order.
-ghost use Rattle.std.specs.Prelude.{◌≡◌, ◌≤◌, ◌<◌, ◌-◌, ◌^◌, None, take, IfOk, length};
+ghost use Rattle.std.specs.Prelude.{◌≡◌, ◌≤◌, ◌<◌, ◌-◌, ◌^◌, None, IfOk, length};
 ghost use Rattle.boot_io.specs.Halted.{HaltsAfter};
 ghost use Rattle.boot_io.specs.Sink.{Puts, SinkFaultsAfter};
 ghost use Rattle.boot_model.specs.declared.phase_end.PeiEnd.TheVariants.{Handoff};
@@ -10,14 +10,13 @@ ghost use Rattle.store_model.specs.StoreCall.{Anything};
 ghost use Rattle.store_model.specs.HandleState.{no_handles};
 ghost use Rattle.store_model.specs.StoreState.{Board, empty_store};
 ghost use Rattle.recorded_boot.specs.Answer.{FollowsTo};
-ghost use Rattle.recorded_boot.specs.Leaving.{ComesTo, IsReached};
+ghost use Rattle.recorded_boot.specs.Leaving.{ComesTo};
 ghost use Rattle.recorded_boot.specs.Behind.{FinishesTo, FollowsBehind, last_text, pei_result};
 
 use crate::follow::against::{Against, cause_against};
 use crate::follow::by_order::{ByOrder, asked_behind};
 use crate::follow::drivers::run_drivers;
 use crate::follow::lacking::Installed;
-use crate::order::{AskedStart, StartOrder};
 use boot_core::whole::put_closing;
 use boot_io::{Halt, Sink, SinkFault};
 use boot_model::{PeiEnd, RunEnd};
@@ -43,24 +42,6 @@ pub enum Followed {
     },
 }
 
-// The lines of which the starts were made.
-fn made(order: &StartOrder, starts: u64) -> &[AskedStart]
-    requires { starts ≤ length order.now.starts }
-    ensures { result.now ≡ take starts order.now.starts }
-{
-    &order.starts.as_slice()[..starts as usize]
-}
-
-// What a boot comes to behind all starts that the order asks for.
-fn reached(end: Option<RunEnd>) -> Followed
-    ensures { IsReached end result }
-{
-    match end {
-        Some(end) => Followed::Ended(end),
-        None => Followed::Stopped,
-    }
-}
-
 // What a boot comes to behind so many starts: it has ended so, or is left before the next one.
 fn come_to<M: PeiStore>(
     alloc: Global,
@@ -76,9 +57,13 @@ fn come_to<M: PeiStore>(
 {
     let asked = match asked_behind(by.order, starts) {
         Some(asked) => asked,
-        None => return Ok(reached(end)),
+        None => match end {
+            Some(end) => return Ok(Followed::Ended(end)),
+            None => return Ok(Followed::Stopped),
+        },
     };
-    let made = made(by.order, starts);
+    // The starts behind which it stands were made.
+    let made = &by.order.starts.as_slice()[..starts as usize];
     let against = cause_against(alloc, by.catalog, by.names, installed, made, &asked.start)?;
     Ok(Followed::No {
         line: asked.line,

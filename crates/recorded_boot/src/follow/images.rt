@@ -6,7 +6,7 @@ ghost use Rattle.boot_plan.specs.Range.{IsPlanInRange};
 ghost use Rattle.mod_catalog.specs.WellFormed.{IsWellFormed};
 ghost use Rattle.store_model.specs.StateFacts.{IsBoard};
 ghost use Rattle.recorded_boot.specs.Named.{AreNames, HasNoTwins};
-ghost use Rattle.recorded_boot.specs.Follow.{FaultsAfter, Follows, FollowsCatalog, IsFaultTold, IsHaltTold};
+ghost use Rattle.recorded_boot.specs.Follow.{FaultsAfter, Follows, FollowsCatalog, IsFaultTold};
 ghost use Rattle.recorded_boot.specs.Answer.{FollowsTo};
 
 use crate::follow::by_order::ByOrder;
@@ -59,16 +59,6 @@ fn fault_of(fault: ImageFault) -> FollowFault
     FollowFault::Image(fault)
 }
 
-// Why a boot was given up.
-fn halted(halt: Halt) -> FollowFault
-    ensures { IsHaltTold halt result }
-{
-    match halt {
-        Halt::Sink => FollowFault::Sink,
-        Halt::Memory => FollowFault::Memory,
-    }
-}
-
 // A boot along an order over the catalogue of a plan whose volumes are mapped so.
 fn follow_over<S: Sink>(
     alloc: Global,
@@ -116,7 +106,8 @@ fn follow_named<S: Sink>(
     };
     match follow_over(alloc, plan, by, roms, sink) {
         Ok(followed) => Ok(followed),
-        Err(halt) => Err(halted(halt)),
+        Err(Halt::Sink) => Err(FollowFault::Sink),
+        Err(Halt::Memory) => Err(FollowFault::Memory),
     }
 }
 

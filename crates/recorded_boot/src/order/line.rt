@@ -1,7 +1,7 @@
 // What a line asks for.
 ghost use Rattle.std.specs.Prelude.{◌≡◌, ◌≢◌, slice_index};
 ghost use Rattle.line_words.specs.Words.{words};
-ghost use Rattle.recorded_boot.specs.LineText.{start_by, stop_by, asked_by, asked_of};
+ghost use Rattle.recorded_boot.specs.LineText.{start_by, asked_by, asked_of};
 
 use crate::order::keyword::{Keyword, keyword_named};
 use crate::order::word::{guid_of, next_word, volume_of};
@@ -37,7 +37,7 @@ pub enum Asked {
     Stop(u32),
 }
 
-// Each of these reads what follows a keyword.
+// The start that the words behind a keyword spell.
 fn start_by(number: u32, phase: Phase, operands: &[u8]) -> Option<Asked>
     requires { slice_index operands.now 0 ≢ 32 }
     ensures { result ≡ start_by number phase (words operands.now) }
@@ -62,16 +62,6 @@ fn start_by(number: u32, phase: Phase, operands: &[u8]) -> Option<Asked>
     }
 }
 
-fn stop_by(number: u32, operands: &[u8]) -> Option<Asked>
-    requires { slice_index operands.now 0 ≢ 32 }
-    ensures { result ≡ stop_by number (words operands.now) }
-{
-    match next_word(operands) {
-        Some(_) => None,
-        None => Some(Asked::Stop(number)),
-    }
-}
-
 // What a keyword asks for with what follows it.
 fn asked_by(number: u32, keyword: Keyword, operands: &[u8]) -> Option<Asked>
     requires { slice_index operands.now 0 ≢ 32 }
@@ -80,7 +70,10 @@ fn asked_by(number: u32, keyword: Keyword, operands: &[u8]) -> Option<Asked>
     match keyword {
         Keyword::Pei => start_by(number, Phase::Pei, operands),
         Keyword::Dxe => start_by(number, Phase::Dxe, operands),
-        Keyword::Stop => stop_by(number, operands),
+        Keyword::Stop => match next_word(operands) {
+            Some(_) => None,
+            None => Some(Asked::Stop(number)),
+        },
     }
 }
 

@@ -2,46 +2,26 @@
 ghost use Rattle.std.specs.Prelude.{◌≡◌, ℕ, Some};
 ghost use Rattle.boot_io.specs.Faults.{IsPrefix};
 ghost use Rattle.boot_model.specs.declared.licence.Licence.{Licence};
-ghost use Rattle.boot_model.specs.declared.line.Line.TheVariants as L;
 ghost use Rattle.boot_model.specs.Text.{line_text};
 ghost use Rattle.pi_base.specs.declared.guid.Guid.{Guid as OfGuid};
 ghost use Rattle.trace_reader.specs.Readable.{IsLineOf, IsReadable};
 ghost use Rattle.recorded_boot.specs.Spelled.{IsRight, left};
 ghost use Rattle.recorded_boot.specs.StartLine.{phase_start};
 
+use crate::order::start_of;
 use crate::trace::Spelled;
 use boot_model::Line;
 use pi_base::{Guid, Phase};
 use trace_reader::{one_reading, start_line};
 
-// The volume and the file name of the PEIM that starts by this line. None where none does.
-fn peim_start(line: &Line) -> Option<(u32, Guid)>
-    ensures { (volume : ℕ) (name : OfGuid) (licence : Licence) → line.now ≡ L.PeiStart volume name licence → result ≡ Some (volume, name) }
-{
-    match line {
-        Line::PeiStart { volume, name, .. } => Some((*volume, *name)),
-        _ => None,
-    }
-}
-
-// The same of a driver.
-fn driver_start(line: &Line) -> Option<(u32, Guid)>
-    ensures { (volume : ℕ) (name : OfGuid) (licence : Licence) → line.now ≡ L.DxeStart volume name licence → result ≡ Some (volume, name) }
-{
-    match line {
-        Line::DxeStart { volume, name, .. } => Some((*volume, *name)),
-        _ => None,
-    }
-}
-
-// The same of a module of a phase.
+// The volume and the file name of the module that starts in a phase by this line. None where none does.
 fn module_start(line: &Line, phase: Phase) -> Option<(u32, Guid)>
     ensures { (volume : ℕ) (name : OfGuid) (licence : Licence) → line.now ≡ phase_start phase volume name licence
         → result ≡ Some (volume, name) }
 {
-    match phase {
-        Phase::Pei => peim_start(line),
-        Phase::Dxe => driver_start(line),
+    match start_of(line) {
+        Some(start) if start.phase == phase => Some((start.volume, start.name)),
+        _ => None,
     }
 }
 

@@ -1,9 +1,9 @@
-use Rattle.std.proofs.Common.{refl, sym, subst}
+use Rattle.std.proofs.Common.{ap, refl, sym, subst}
 use Rattle.std.proofs.lemmas.Result.{err_from_is_err_and}
 use Rattle.boot_core.specs.Job.{IsNamed, IsRefusal}
 use Rattle.boot_core.specs.Reading.{FilesTrail, Lacks}
 use Rattle.boot_io.specs.Words.{words_of}
-use Rattle.boot_core.specs.Deciding.{IsRefused, Names, job_asked, job_refused, number_asked}
+use Rattle.boot_core.specs.Deciding.{IsRefused, asked_of, Names, job_asked, job_refused, number_asked}
 use Rattle.boot_core.proofs.Asking.{lacks_up}
 use Rattle.boot_core.proofs.deciding.decide.Goals as goal
 
@@ -19,9 +19,13 @@ returns-in_err-job-clause-row g c =
     rw p.1 (subst (Lacks (IsRefused told words) (Names told words) t) (sym p.2)
     (lacks_up (IsRefusal told plan) (IsRefused told words) (IsNamed told plan) (Names told words) t c.in_err-job.field-0.0 (λ line r. job_refused command plan asks r) (λ name n. (command, plan, asks, n)) c.in_err-job.ensures.row))
 
-pub returns-in-Some-clause-row : goal.returns-in-Some-clause-row
-returns-in-Some-clause-row g c =
-    (job_asked c.in-Some.command c.in-Some.plan.now c.in-Some.ensures.found c.in_ok-job.job c.in_ok-job.ensures.row.0 c.asked_of.ensures.asked, c.in_ok-job.ensures.row.1)
+pub returns-in-Boot-clause-row : goal.returns-in-Boot-clause-row
+returns-in-Boot-clause-row g c =
+    (job_asked c.in-Some.command c.in-Some.plan.now c.in-Some.ensures.found c.in_ok-job.job c.in_ok-job.ensures.row.0 (sym (ap (λ x. asked_of x c.in_ok-job.job) c.in-Boot.is)), c.in_ok-job.ensures.row.1)
+
+pub returns-in-Audit-clause-row : goal.returns-in-Audit-clause-row
+returns-in-Audit-clause-row g c =
+    (job_asked c.in-Some.command c.in-Some.plan.now c.in-Some.ensures.found c.in_ok-job.job c.in_ok-job.ensures.row.0 (sym (ap (λ x. asked_of x c.in_ok-job.job) c.in-Audit.is)), c.in_ok-job.ensures.row.1)
 
 pub returns-in-Some-asked_number-clause-row : goal.returns-in-Some-asked_number-clause-row
 returns-in-Some-asked_number-clause-row g c = (number_asked c.in-Some-asked_number.number c.in-Some-asked_number.ensures.found refl, refl)

@@ -17,8 +17,8 @@ returns-in-Ok-clause-ends g c =
     let images = c.args.images in
     let catalog = c.in-Ok.catalog in
     let examined : IsExamined plan images catalog = subst (λ x. IsExamined plan x catalog) c.as_slice.ensures c.in-Ok.ensures.found in
-    ends_up (kind_of c.boot_catalog.result.status) (BootOutcome plan catalog images) (ImagesOutcome (CommandOutcome Boot plan images) plan images) (λ _. ⊥) ⊤ ⊤ c.boot_catalog.result.status _
-    (λ s t o. images_sound catalog examined.sound o) (λ b. b) refl c.boot_catalog.ensures.ends
+    ends_up (kind_of c.boot_catalog-booted.result.status) (BootOutcome plan catalog images) (ImagesOutcome (CommandOutcome Boot plan images) plan images) (λ _. ⊥) ⊤ ⊤ c.boot_catalog-booted.result.status _
+    (λ s t o. images_sound catalog examined.sound o) (λ b. b) refl c.boot_catalog-booted.ensures.ends
 
 pub returns-in-Ok-clause-store : goal.returns-in-Ok-clause-store
 returns-in-Ok-clause-store g c =
@@ -26,7 +26,7 @@ returns-in-Ok-clause-store g c =
     let images = c.args.images in
     let catalog = c.in-Ok.catalog in
     let examined : IsExamined plan images catalog = subst (λ x. IsExamined plan x catalog) c.as_slice.ensures c.in-Ok.ensures.found in
-    of_catalogue c.one_catalogue.ensures.catalogues plan images catalog c.boot_catalog.result examined.sound c.boot_catalog.ensures.store
+    of_catalogue c.one_catalogue.ensures.catalogues plan images catalog c.boot_catalog-booted.result examined.sound c.boot_catalog-booted.ensures.store
 
 pub returns-in-Ok-clause-memory : goal.returns-in-Ok-clause-memory
 returns-in-Ok-clause-memory g c = λ catalog sound.
@@ -34,9 +34,9 @@ returns-in-Ok-clause-memory g c = λ catalog sound.
     let plan = c.args.plan.now in
     let images = c.args.images in
     let examined : IsExamined plan images c.in-Ok.catalog = subst (λ x. IsExamined plan x c.in-Ok.catalog) c.as_slice.ensures c.in-Ok.ensures.found in
-    let kind = kind_of c.boot_catalog.result.status in
-    let P : Catalog → Type 0 = λ x. IsWantedOutsidePei kind (board_of plan x images) x plan.fuel (record { old = T c.args.sink.now; new = T c.boot_catalog.new.sink }) in
-    subst P (c.one_catalogue.ensures.catalogues plan images c.in-Ok.catalog catalog examined.sound sound) c.boot_catalog.ensures.memory
+    let kind = kind_of c.boot_catalog-booted.result.status in
+    let P : Catalog → Type 0 = λ x. IsWantedOutsidePei kind (board_of plan x images) x plan.fuel (record { old = T c.args.sink.now; new = T c.boot_catalog-booted.new.sink }) in
+    subst P (c.one_catalogue.ensures.catalogues plan images c.in-Ok.catalog catalog examined.sound sound) c.boot_catalog-booted.ensures.memory
 
 pub returns-in-Err-clause-ends : goal.returns-in-Err-clause-ends
 returns-in-Err-clause-ends g c =

@@ -1,4 +1,4 @@
-use Rattle.std.proofs.Common.{ℕ, List, [], Some, Ok, refl, sym, subst}
+use Rattle.std.proofs.Common.{ℕ, List, [], Some, Ok, refl, subst}
 use Rattle.boot_model.specs.PlanBoard.{board_of}
 use Rattle.recorded_boot.specs.Answer.{FollowsTo}
 use Rattle.tools_core.specs.FollowReport.{boots, image_refused, twins}
@@ -9,9 +9,9 @@ returns-in-Ok c =
     let job = c.args.job in
     let is = c.in-Ok.ensures.row in
     let followed = c.in-Ok.followed in
-    let lines = c.into_text.result in
+    let lines = c.follow.new.sink.text in
     let P : List ℕ → List ℕ → Type 0 = λ before text. FollowsTo (board_of job.plan is.catalog job.images) is.catalog job.plan.fuel c.args.order.now (record { old = Some before; new = Some text }) (Ok followed) in
-    let here : P [] lines = subst (λ before. P before lines) c.new-held.ensures.text (subst (P c.new-held.result.text) (sym c.into_text.ensures) is.is) in
+    let here : P [] lines = subst (λ before. P before lines) c.new-held.ensures.text is.is in
     (boots is.catalog is.sound is.apart followed lines here refl refl, refl)
 
 pub returns-in-Err-Image : goal.returns-in-Err-Image

@@ -3,6 +3,7 @@ use Rattle.tools_core.specs.Ends.{Trail}
 use Rattle.tools_core.specs.Outcome.{Names, Outcome}
 use Rattle.tools_core.proofs.Faults.{file_fault, files_rose, nothing_put, sink_fault, sink_rose}
 use Rattle.tools_core.proofs.OneOutcome.{answers_exactly}
+use Rattle.tools_core.proofs.TextsAgain.{again}
 use Rattle.tools_core.proofs.tools.tools_main.Goals as goal
 
 pub returns : goal.returns
@@ -31,5 +32,5 @@ returns g c =
       memory = nothing_put (Outcome told words) (Names told words) status trail ends;
       any_moment = c.jobs_in_order.ensures.any_moment;
       idle = c.jobs_in_order.ensures.idle;
-      again = c.texts_make_volumes_again.ensures;
+      again = again (record { made = c.made_of_its_text.ensures; refused = c.refused_for_room.ensures });
     }

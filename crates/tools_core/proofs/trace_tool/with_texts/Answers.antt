@@ -1,6 +1,9 @@
+use Rattle.std.proofs.Common.{IfOk, sym, subst}
 use Rattle.boot_core.specs.Job.{IsNamedIn}
 use Rattle.boot_core.specs.Reading.{FilesTrail}
 use Rattle.tools_core.specs.JobOutcome.{job_read}
+use Rattle.tools_core.specs.declared.command_line.TraceTool.{TraceTool}
+use Rattle.tools_core.specs.Ends.{Tells}
 use Rattle.tools_core.specs.TraceReport.{TextsOutcome, TraceReport}
 use Rattle.tools_core.proofs.Ending.{told_reports}
 use Rattle.tools_core.proofs.FileReports.{job_refusal, job_reports}
@@ -21,14 +24,28 @@ returns-in-Err-Refused-clause-report g c =
     job_reports (λ plan images. TraceReport c.args.tool plan images c.args.text.now) told c.args.content.now t c.in-Err-Refused.line c.report_of.result
     (rw c.in-Err-Refused.field-0-is at c.in-Err-Refused.ensures.row) (rw c.in-Err-Refused.line-is at c.report_of.ensures)
 
-pub returns-in-Ok-clause-report : goal.returns-in-Ok-clause-report
-returns-in-Ok-clause-report g c =
+pub returns-in-Check-clause-report : goal.returns-in-Check-clause-report
+returns-in-Check-clause-report g c =
     let F = g.F.Files.faults in
     let told = g.F.Files.told c.args.files.now in
     let content = c.args.content.now in
     let text = c.args.text.now in
     let job = c.in-Ok.job in
     let row = c.in-Ok.ensures.row in
-    told_reports c.trace_report.result (TraceReport c.args.tool job.plan job.images text) (TextsOutcome c.args.tool told content text) (IsNamedIn told content)
+    let P : TraceTool → Type 0 = λ tool. IfOk c.check_report.result (Tells (TraceReport tool job.plan job.images text)) in
+    told_reports c.check_report.result (TraceReport c.args.tool job.plan job.images text) (TextsOutcome c.args.tool told content text) (IsNamedIn told content)
     (record { before = F c.args.files.now; now = F c.job_of.new.files; missed = g.F.Files.missed c.job_of.new.files })
-    (λ s t o. job_read job row.0 o) row.1 c.trace_report.ensures
+    (λ s t o. job_read job row.0 o) row.1 (subst P (sym c.in-Check.is) c.check_report.ensures)
+
+pub returns-in-Explain-clause-report : goal.returns-in-Explain-clause-report
+returns-in-Explain-clause-report g c =
+    let F = g.F.Files.faults in
+    let told = g.F.Files.told c.args.files.now in
+    let content = c.args.content.now in
+    let text = c.args.text.now in
+    let job = c.in-Ok.job in
+    let row = c.in-Ok.ensures.row in
+    let P : TraceTool → Type 0 = λ tool. IfOk c.told_report.result (Tells (TraceReport tool job.plan job.images text)) in
+    told_reports c.told_report.result (TraceReport c.args.tool job.plan job.images text) (TextsOutcome c.args.tool told content text) (IsNamedIn told content)
+    (record { before = F c.args.files.now; now = F c.job_of.new.files; missed = g.F.Files.missed c.job_of.new.files })
+    (λ s t o. job_read job row.0 o) row.1 (subst P (sym c.in-Explain.is) c.told_report.ensures)

@@ -24,8 +24,8 @@ returns-in-Ended-clause-row g c = λ pei first left has.
     let Boots : Left → Type 0 = λ x. BootsBy (NamesDrivers (C.drivers choice) T F from.starts sink) (LetsDrivers (C.lets_in_dxe choice) from.starts) catalog fuel (dxe_opening catalog pei.store from.actions) from.starts (T sink) (T mid) (Ok x) in
     let Come : ℕ → ℕ → Type 0 = λ starts taken. HasBooted (NamesDrivers (C.drivers choice) T F starts sink) (LetsDrivers (C.lets_in_dxe choice) starts) catalog fuel (dxe_opening catalog pei.store taken) ended (T sink) (T mid) in
     let come = by_counts Come from.starts from.actions pei left.starts_are left.actions_are (subst Boots c.in-Ended.is (c.in_ok-ended.ensures.row pei.store left.store_is tt)) in
-    drivers_close choices (NamesDrivers (C.drivers choice) T F (pei_starts pei) sink) T F catalog fuel pei first sink mid c.close.new.sink ended c.result_of.result c.close.result (names_behind (C.drivers choice) T F pei first sink has) has come c.in_ok-ended.ensures.faults c.result_of.ensures
-    (c.close.ensures.row pei.store left.store_is tt)
+    drivers_close choices (NamesDrivers (C.drivers choice) T F (pei_starts pei) sink) T F catalog fuel pei first sink mid c.close-closed.new.sink ended c.result_of.result c.close-closed.result (names_behind (C.drivers choice) T F pei first sink has) has come c.in_ok-ended.ensures.faults c.result_of.ensures
+    (c.close-closed.ensures.row pei.store left.store_is tt)
 
 pub returns-in-Barred-clause-row : goal.returns-in-Barred-clause-row
 returns-in-Barred-clause-row g c = λ pei first left has.

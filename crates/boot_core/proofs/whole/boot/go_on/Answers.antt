@@ -3,15 +3,25 @@ use Rattle.boot_core.specs.Choices.{choices_of}
 use Rattle.boot_core.proofs.Giving.{given_up_behind, has_come}
 use Rattle.boot_core.proofs.whole.boot.go_on.Goals as goal
 
-pub returns-clause-row : goal.returns-clause-row
-returns-clause-row g c = λ board first pei right.
+pub returns-in-Closed-clause-row : goal.returns-in-Closed-clause-row
+returns-in-Closed-clause-row g c = λ board first pei right.
     let T = g.S.Sink.text in
     let F = g.S.Sink.faults in
     let C = g.C.Choice in
     let choice = c.args.choice.now in
     let choices = choices_of (C.peims choice) (C.lets_in_pei choice) (C.drivers choice) (C.lets_in_dxe choice) T F first in
     let told = c.in_ok-behind.ensures.row pei.«end» first pei.is_left (record { put = pei.ended.text; right = right }) in
-    rw c.left_by.ensures (has_come choices g.M.PeiStore.stands_for board c.args.catalog.now c.args.fuel c.args.pei c.in_ok-behind.behind (T first) (T c.args.sink.now) (T c.boot_behind.new.sink) pei told)
+    rw c.in-Closed.is at (has_come choices g.M.PeiStore.stands_for board c.args.catalog.now c.args.fuel c.args.pei c.in_ok-behind.behind (T first) (T c.args.sink.now) (T c.boot_behind.new.sink) pei told)
+
+pub returns-in-Barred-clause-row : goal.returns-in-Barred-clause-row
+returns-in-Barred-clause-row g c = λ board first pei right.
+    let T = g.S.Sink.text in
+    let F = g.S.Sink.faults in
+    let C = g.C.Choice in
+    let choice = c.args.choice.now in
+    let choices = choices_of (C.peims choice) (C.lets_in_pei choice) (C.drivers choice) (C.lets_in_dxe choice) T F first in
+    let told = c.in_ok-behind.ensures.row pei.«end» first pei.is_left (record { put = pei.ended.text; right = right }) in
+    rw c.in-Barred.is at (has_come choices g.M.PeiStore.stands_for board c.args.catalog.now c.args.fuel c.args.pei c.in_ok-behind.behind (T first) (T c.args.sink.now) (T c.boot_behind.new.sink) pei told)
 
 pub returns-in_err-behind-clause-row : goal.returns-in_err-behind-clause-row
 returns-in_err-behind-clause-row g c = λ board first pei right.
