@@ -1,4 +1,4 @@
-//! Which module comes next and what a driver's calls answer, tried over catalogues made by hand.
+//! Which module comes next and what a driver's calls answer, tried over catalogues of volumes that are texts.
 #![tactic(auto)]
 
 #[cfg(test)]

@@ -38,7 +38,8 @@ fn all_of(
 ) -> Result<Option<MpEvent>, OutOfMemory>
     requires { slice_index ops.now 0 ≢ 32 }
     ensures event { IfOk result (λ event. event ≡ all_of cells by (words ops.now)) }
-    ensures fits { (processors : ℕ) → IfSome by (λ by. by < processors) → IfOk result (λ event. IfSome event (IsEvent processors cells)) }
+    ensures fits { (processors : ℕ) → IfSome by (λ by. by < processors)
+        → IfOk result (λ event. IfSome event (IsEvent processors cells)) }
 {
     let Some(by) = by else {
         return Ok(None);
@@ -57,7 +58,8 @@ fn this_of(
 ) -> Result<Option<MpEvent>, OutOfMemory>
     requires { slice_index operands.now 0 ≢ 32 }
     ensures event { IfOk result (λ event. event ≡ this_of cells by (words operands.now)) }
-    ensures fits { (processors : ℕ) → IfSome by (λ by. by < processors) → IfOk result (λ event. IfSome event (IsEvent processors cells)) }
+    ensures fits { (processors : ℕ) → IfSome by (λ by. by < processors)
+        → IfOk result (λ event. IfSome event (IsEvent processors cells)) }
 {
     let Some((on, ops)) = next_word(operands) else {
         return Ok(None);
