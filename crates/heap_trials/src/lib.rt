@@ -2,6 +2,8 @@
 #![tactic(auto)]
 
 #[cfg(test)]
+mod acts;
+#[cfg(test)]
 mod board;
 #[cfg(test)]
 mod calls;
@@ -14,4 +16,8 @@ mod refusals;
 #[cfg(test)]
 mod scene;
 #[cfg(test)]
+mod steps;
+#[cfg(test)]
 mod store;
+#[cfg(test)]
+mod trial;

@@ -2,28 +2,20 @@
 ghost use Rattle.std.specs.Prelude.{◌≤◌};
 ghost use Rattle.store_model.specs.Service.{Present};
 ghost use Rattle.store_model.specs.StoreCall.{Anything};
-ghost use Rattle.heap_trials.specs.Scene.{IsLaid};
 
-use crate::board::{ROM, lists_over, store_over};
+use crate::acts::{Act, Named, fault};
+use crate::board::ROM;
 use crate::calls::{core_install, create, desc, move_to, notify_new, pages, plan, pool};
-use crate::scene::{INLINE, Of, fill, install, laid, notify, reinstall};
+use crate::scene::{INLINE, Of, fill};
+use crate::trial::{Case, passes};
 use hob_codec::Hob;
-use pi_base::{MEMORY_PPI, OutOfMemory, Span};
-use std::alloc::Global;
+use pi_base::{MEMORY_PPI, Span};
 use std::test::*;
 use store_model::{DescKind, GuidFrom, PeiStore, StoreFault};
 
-/// A call that names descriptors of the scene.
-#[derive(Clone, Copy)]
-enum Named {
-    Install(Of),
-    Reinstall(Of, Of),
-    Notify(Of),
-}
-
 /// A call that names none.
 #[derive(Clone, Copy)]
-enum Service {
+pub(crate) enum Service {
     Pool(u32),
     Desc(GuidFrom),
     CreateHob,
@@ -34,7 +26,7 @@ enum Service {
 
 /// How far the scene has come.
 #[derive(Clone, Copy)]
-enum Stage {
+pub(crate) enum Stage {
     /// As it was laid.
     Laid,
     /// Its last bytes of temporary RAM are a page for early pages.
@@ -54,7 +46,7 @@ const PLANNED: Span = Span {
 };
 
 // A stage, the bytes that are free when the call comes, the call, and the fault of its answer.
-type Row = (Stage, u32, Service, Option<StoreFault>);
+pub(crate) type Row = (Stage, u32, Service, Option<StoreFault>);
 
 // Over the scene as it was laid, the bytes that are free when the call comes, the call, and the fault of its answer.
 type NamedRow = (u32, Named, Option<StoreFault>);
@@ -144,25 +136,6 @@ static ROWS: [Row; 30] = [
     (Stage::Moved, 4136, Service::Pages(1), FULL),
 ];
 
-// The fault of an answer.
-fn fault<T: Drop>(answer: Result<T, StoreFault>) -> Option<StoreFault> {
-    match answer {
-        Ok(_) => None,
-        Err(fault) => Some(fault),
-    }
-}
-
-fn call_named<S: PeiStore>(store: &mut S, call: Named) -> Option<StoreFault>
-    requires { IsLaid (S.stands_for store.old) }
-    ensures { IsLaid (S.stands_for store.new) }
-{
-    match call {
-        Named::Install(of) => fault(install(store, of)),
-        Named::Reinstall(old, new) => fault(reinstall(store, old, new)),
-        Named::Notify(of) => fault(notify(store, of)),
-    }
-}
-
 fn call<S: PeiStore>(store: &mut S, call: Service) -> Option<StoreFault>
     requires { Present (S.stands_for store.old) Anything }
     ensures { Present (S.stands_for store.new) Anything }
@@ -190,60 +163,18 @@ fn bring<S: PeiStore>(store: &mut S, stage: Stage) -> bool
     }
 }
 
-// Whether a call of the scene is answered so. False where so little room is not left.
-fn is_named_so<S: PeiStore>(store: &mut S, row: &NamedRow) -> bool
-    requires { IsLaid (S.stands_for store.old) }
+/// Whether a call that names none is answered so at its stage. False where the scene does not come so far.
+pub(crate) fn is_so<S: PeiStore>(store: &mut S, row: &Row) -> bool
+    requires { Present (S.stands_for store.old) Anything }
 {
-    if !fill(store, row.0) {
-        return false;
-    }
-    call_named(store, row.1) == row.2
-}
-
-// The same over the scene in a store.
-fn over_named<S: PeiStore + Drop>(store: S, row: &NamedRow) -> bool
-    requires { Present (S.stands_for store) Anything }
-{
-    match laid(store) {
-        Some(mut store) => is_named_so(&mut store, row),
-        None => false,
-    }
-}
-
-// The same in both stores.
-fn both_named(alloc: Global, row: &NamedRow) -> Result<bool, OutOfMemory> {
-    let lists = over_named(lists_over(alloc, 0x4000, 0)?, row);
-    let memory = over_named(store_over(alloc, 0x4000, 0)?, row);
-    Ok(lists && memory)
+    bring(store, row.0) && fill(store, row.1) && call(store, row.2) == row.3
 }
 
 #[test]
 fn calls_that_name_descriptors_are_refused_in_order(rt: HostRuntime) {
-    for (n, row) in OF_THE_SCENE.iter().enumerate() {
-        assert!(rt; both_named(rt.alloc(), row) == Ok(true));
-    }
-}
-
-// Whether a call that names none is answered so at its stage. False where the scene does not come so far.
-fn is_so<S: PeiStore>(store: &mut S, row: &Row) -> bool
-    requires { Present (S.stands_for store.old) Anything }
-{
-    if !bring(store, row.0) {
-        return false;
-    }
-    if !fill(store, row.1) {
-        return false;
-    }
-    call(store, row.2) == row.3
-}
-
-// The same over the scene in a store.
-fn over_row<S: PeiStore + Drop>(store: S, row: &Row) -> bool
-    requires { Present (S.stands_for store) Anything }
-{
-    match laid(store) {
-        Some(mut store) => is_so(&mut store, row),
-        None => false,
+    for (left, call, want) in &OF_THE_SCENE {
+        let acts = [Act::Fill(*left), Act::Call(*call, *want)];
+        assert!(rt; passes(rt.alloc(), &(0x4000, 0, Case::Scene(&acts, &[]))) == Ok(true));
     }
 }
 
@@ -257,18 +188,10 @@ fn pages_of(stage: Stage) -> u64
     }
 }
 
-// The same in both stores.
-fn both_at(alloc: Global, row: &Row) -> Result<bool, OutOfMemory> {
-    let early = pages_of(row.0);
-    let len = 0x4000 + early;
-    let lists = over_row(lists_over(alloc, len, early)?, row);
-    let memory = over_row(store_over(alloc, len, early)?, row);
-    Ok(lists && memory)
-}
-
 #[test]
 fn refusals_come_in_their_order(rt: HostRuntime) {
-    for (n, row) in ROWS.iter().enumerate() {
-        assert!(rt; both_at(rt.alloc(), row) == Ok(true));
+    for row in &ROWS {
+        let early = pages_of(row.0);
+        assert!(rt; passes(rt.alloc(), &(0x4000 + early, early, Case::At(row))) == Ok(true));
     }
 }

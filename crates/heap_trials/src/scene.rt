@@ -2,7 +2,7 @@
 //
 // Behind the hand-off HOB, which has 56 bytes, stand four descriptors of 48 bytes with their headers, and then four nodes of 40:
 // of the two notifications, of the PPI, and of the pair that is queued. The end HOB is at 56 + 192 + 160 = 408.
-ghost use Rattle.std.specs.Prelude.{◌≡◌, true, IfSome};
+ghost use Rattle.std.specs.Prelude.{◌≡◌, true};
 ghost use Rattle.store_model.specs.StoreState.{StoreState};
 ghost use Rattle.store_model.specs.StateFacts.{IsDescriptorAt, IsNumberOf};
 ghost use Rattle.store_model.specs.Service.{Present};
@@ -106,22 +106,18 @@ pub(crate) fn reinstall<M: PeiStore>(store: &mut M, old: Of, new: Of) -> Result<
     store.reinstall(old, new, MAKER)
 }
 
-/// The scene in a store. None where it does not stand there.
-pub(crate) fn laid<M: PeiStore + Drop>(mut store: M) -> Option<M>
-    requires { Present (M.stands_for store) Anything }
-    ensures { IfSome result (λ store. IsLaid (M.stands_for store)) }
+/// Lays the scene in a store. False where it does not stand there.
+pub(crate) fn lay<M: PeiStore>(store: &mut M) -> bool
+    requires { Present (M.stands_for store.old) Anything }
+    ensures { result ≡ true → IsLaid (M.stands_for store.new) }
 {
-    if !makes_all(&mut store) {
-        return None;
+    if !makes_all(store) {
+        return false;
     }
-    let dispatch = notify(&mut store, Of::Dispatch);
-    let callback = notify(&mut store, Of::Callback);
-    let installed = install(&mut store, Of::Installed);
-    if dispatch.is_ok() && callback.is_ok() && installed.is_ok() {
-        Some(store)
-    } else {
-        None
-    }
+    let dispatch = notify(store, Of::Dispatch).is_ok();
+    let callback = notify(store, Of::Callback).is_ok();
+    let installed = install(store, Of::Installed).is_ok();
+    dispatch && callback && installed
 }
 
 /// Takes a pool, so that so many bytes are free. False where that is not so.

@@ -1,4 +1,3 @@
-use Rattle.std.proofs.Common.{sym, subst}
 use Rattle.store_model.specs.StateFacts.{IsDesc}
 use Rattle.store_model.specs.Service.Install.{reinstall}
 use Rattle.heap_trials.specs.Scene.{AreThere}

@@ -1,7 +1,7 @@
 use Rattle.std.proofs.Common.{◌≡◌, None, Some, sym, ◌∙◌}
 use Rattle.store_model.specs.Service.Reading.{entry_behind}
 use Rattle.store_laws.proofs.Behind.{all_told}
-use Rattle.heap_trials.proofs.readings.first_entries.Goals as goal
+use Rattle.heap_trials.proofs.steps.first_entries.Goals as goal
 
 pub entry_behind-requires : goal.entry_behind-requires
 entry_behind-requires g c =

@@ -1,5 +1,5 @@
 use Rattle.heap_trials.proofs.NewPools.{has_pool}
-use Rattle.heap_trials.proofs.readings.new_pool.Goals as goal
+use Rattle.heap_trials.proofs.steps.new_pool.Goals as goal
 
 pub returns-clause-made : goal.returns-clause-made
 returns-clause-made g c =
