@@ -13,6 +13,10 @@ are_indexed registers blocks count = list_all (λ r. nat_lt r 16) registers && l
 abbrev pub is_indexed : ℕ → Action → Bool
 is_indexed count action = are_indexed (registers_in (format_of (code_of_action action)) (operands action)) (blocks_in (format_of (code_of_action action)) (operands action)) count
 
+-- the action names only blocks below a number
+abbrev pub names_below : ℕ → Action → Bool
+names_below count action = list_all (λ b. nat_lt b count) (blocks_in (format_of (code_of_action action)) (operands action))
+
 -- an action that skips n actions has n + 1 of its block behind it; it and those behind it are left
 abbrev pub has_room : ℕ → Action → Bool
 has_room left (SkipIf condition n) = nat_le (n + 2) left

@@ -1,13 +1,13 @@
 // The blocks of a script, read action by action.
 ghost use Rattle.std.specs.Prelude.{◌≡◌, ◌≤◌, ◌-◌};
-ghost use Rattle.act_code.specs.ScriptReading.{Gives, fault_at, checked_at, many, count_at, block_at, ends_in_ret};
+ghost use Rattle.act_code.specs.ScriptReading.{Gives, fault_at, checked_at, many, count_at, block_at};
 ghost use Rattle.act_code.specs.declared.block.Stop.TheVariants as stop;
 
 use crate::action::Action;
 use crate::action_reading::action;
 use crate::fault::{ActCause, ActFault};
 use crate::header::Header;
-use crate::index::{has_room, is_indexed, is_ret};
+use crate::index::{ends_in_ret, has_room, is_indexed};
 use crate::operand::Unread;
 use pi_base::{OutOfMemory, Seq, u16_at};
 use std::alloc::Global;
@@ -61,7 +61,7 @@ fn checked(alloc: Global, header: Header, left: u16, bytes: &[u8]) -> Result<(Ac
             if !is_indexed(&action, header.blocks) {
                 drop(action);
                 Err(Stop::Fault(fault(header, ActCause::Index, bytes)))
-            } else if !has_room(&action, left) {
+            } else if !has_room(&action, usize::from(left)) {
                 drop(action);
                 Err(Stop::Fault(fault(header, ActCause::Jump, bytes)))
             } else {
@@ -107,16 +107,6 @@ fn count_of(header: Header, bytes: &[u8]) -> Result<(u16, &[u8]), Stop>
         Ok((count, &bytes[2..]))
     } else {
         Err(Stop::Fault(fault(header, ActCause::Block, bytes)))
-    }
-}
-
-// Whether the last action ends the frame.
-fn ends_in_ret(actions: &[Action]) -> bool
-    ensures { result ≡ ends_in_ret actions.now }
-{
-    match actions.last() {
-        Some(action) => is_ret(action),
-        None => false,
     }
 }
 

@@ -99,7 +99,7 @@ impl Source for &[u8] {
         let (kind, rest) = byte(self)?;
         let (length, rest) = number_2(rest)?;
         let (body, rest) = bytes_of(alloc, length as usize, rest)?;
-        if is_hob(kind, length) {
+        if is_hob(kind, length as usize) {
             Ok(((kind, body), rest))
         } else {
             Err(Unread::Malformed)

@@ -1,7 +1,8 @@
 // The registers and blocks that actions name, and the actions that they skip.
 ghost use Rattle.std.specs.Prelude.{◌≡◌, ◌&&◌, nat_lt};
 ghost use Rattle.std.specs.List.{list_all};
-ghost use Rattle.act_code.specs.Index.{are_indexed, is_indexed, has_room, is_ret};
+ghost use Rattle.act_code.specs.Index.{are_indexed, is_indexed, names_below, has_room, is_ret};
+ghost use Rattle.act_code.specs.ScriptReading.{ends_in_ret};
 ghost use Rattle.act_code.specs.Format.{registers_in, blocks_in, Descriptor};
 ghost use Rattle.act_code.specs.Operands.{told};
 
@@ -77,12 +78,29 @@ pub fn is_indexed(action: &Action, count: u8) -> bool
     are_operands_indexed(&action.operands(), count)
 }
 
+/// Whether an action names only blocks below a number.
+pub fn names_below(action: &Action, count: usize) -> bool
+    ensures { result ≡ names_below count action.now }
+{
+    match action {
+        Action::Desc { kind, arg, .. } => {
+            if *kind == PPI {
+                true
+            } else {
+                usize::from(*arg) < count
+            }
+        }
+        Action::DxeNotify { block, .. } => usize::from(*block) < count,
+        _ => true,
+    }
+}
+
 /// Whether the actions that an action skips are there and one more, where so many are left with itself.
-pub fn has_room(action: &Action, left: u16) -> bool
+pub fn has_room(action: &Action, left: usize) -> bool
     ensures { result ≡ has_room left action.now }
 {
     match action {
-        Action::SkipIf { n, .. } => u16::from(*n) + 2 <= left,
+        Action::SkipIf { n, .. } => usize::from(*n) + 2 <= left,
         _ => true,
     }
 }
@@ -94,5 +112,15 @@ pub fn is_ret(action: &Action) -> bool
     match action {
         Action::Ret { .. } => true,
         _ => false,
+    }
+}
+
+/// Whether the last action ends the frame.
+pub fn ends_in_ret(actions: &[Action]) -> bool
+    ensures { result ≡ ends_in_ret actions.now }
+{
+    match actions {
+        [.., last] => is_ret(last),
+        [] => false,
     }
 }

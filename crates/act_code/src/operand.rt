@@ -106,18 +106,11 @@ pub fn counted(alloc: Global, bytes: &[u8], most: u8) -> Result<(Seq<u8>, &[u8])
     bytes_of(alloc, count as usize, rest)
 }
 
-// Whether a byte is printable.
-fn is_printable(byte: u8) -> bool
-    ensures { result ≡ is_within 32 126 byte }
-{
-    b' ' <= byte && byte <= b'~'
-}
-
 /// Whether all bytes are printable.
 pub fn are_printable(bytes: &[u8]) -> bool
     ensures { result ≡ list_all (is_within 32 126) bytes.now }
 {
-    bytes.iter().all(|byte| is_printable(*byte))
+    bytes.iter().all(|byte| b' ' <= *byte && *byte <= b'~')
 }
 
 /// A form, and a GUID or the number of a register.
@@ -149,7 +142,7 @@ mod hob_type {
 }
 
 /// Whether a script may make a HOB of a type with so long a body.
-pub fn is_hob(kind: u8, length: u16) -> bool
+pub fn is_hob(kind: u8, length: usize) -> bool
     ensures { result ≡ is_hob kind length }
 {
     match kind {

@@ -14,11 +14,11 @@ use Rattle.act_code.specs.declared.code.Code.TheVariants as code
 use Rattle.act_code.specs.declared.script.Script.{Script}
 use Rattle.act_code.specs.Format.{registers_in, blocks_in, is_within}
 use Rattle.act_code.specs.Header.{header_bytes, phase_byte}
-use Rattle.act_code.specs.Index.{is_indexed, has_room}
+use Rattle.act_code.specs.Index.{is_indexed, has_room, names_below}
 use Rattle.act_code.specs.Script.{action_bytes, operand_bytes, block_bytes, IsSound, Each, AreSound, IsBlock}
 use Rattle.act_code.specs.ScriptReading.{ends_in_ret}
 use Rattle.act_code.specs.Table.{number_of, format_of, code_of_action, operands}
-use Rattle.asm_text.specs.Drafts.{have_room, is_closed, names_below}
+use Rattle.asm_text.specs.Drafts.{have_room, is_closed}
 use Rattle.asm_text.specs.ReadScript.{IsWellFormed}
 use Rattle.asm_text.proofs.ActionLines.{IsGoodAction}
 use Rattle.asm_text.proofs.ByteLists.{bytes_cons, bytes_tail, bytes_none, bytes_both, bytes_back, bytes_little, bytes_each, each_bytes, below, is_below}

@@ -14,8 +14,9 @@ use Rattle.act_code.specs.Format.{registers_in}
 use Rattle.act_code.specs.ScriptReading.{ends_in_ret}
 use Rattle.act_code.specs.Table.{format_of, code_of_action, operands, is_code_of}
 use Rattle.act_code.specs.declared.code.Code.TheVariants as code
+use Rattle.act_code.specs.Index.{names_below}
 use Rattle.asm_text.specs.ActionText.{action_text}
-use Rattle.asm_text.specs.Drafts.{have_room, names_below}
+use Rattle.asm_text.specs.Drafts.{have_room}
 use Rattle.asm_text.specs.ReadScript.{IsWellFormed, IsScriptText}
 use Rattle.asm_text.specs.ScriptText.{phase_text, block_text, line, script_text}
 use Rattle.asm_text.proofs.ActionLines.{IsGoodAction}

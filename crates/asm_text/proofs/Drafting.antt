@@ -9,10 +9,10 @@ use Rattle.pi_base.specs.declared.phase.Phase.{Phase}
 use Rattle.act_code.specs.declared.action.Action.{Action}
 use Rattle.act_code.specs.declared.action.Action.TheVariants as action
 use Rattle.act_code.specs.declared.script.Script.{Script}
-use Rattle.act_code.specs.Index.{has_room, is_ret}
+use Rattle.act_code.specs.Index.{has_room, is_ret, names_below}
 use Rattle.act_code.specs.ScriptReading.{ends_in_ret}
 use Rattle.asm_text.specs.ActionText.{action_text}
-use Rattle.asm_text.specs.Drafts.{have_room, may_end, may_stand, with_line, names_below, is_whole}
+use Rattle.asm_text.specs.Drafts.{have_room, may_end, may_stand, with_line, is_whole}
 use Rattle.asm_text.specs.ReadScript.{IsWellFormed}
 use Rattle.asm_text.specs.ScriptText.{block_text}
 use Rattle.asm_text.specs.Walk.{split_last}
@@ -45,12 +45,6 @@ more_room (action.SkipIf condition k) m n more room = let here = is_most (k + 2)
     room_for : (k n : ℕ) → k ≤ n → nat_le k n ≡ true
     room_for k n few = grind (arith, nat_tests)
 more_room _ m n more room = refl
-
-pub more_rooms : (actions : List Action) (m n : ℕ) → m ≤ n → have_room m actions ≡ true → have_room n actions ≡ true
-more_rooms [] m n more room = refl
-more_rooms (a ∷ actions) m n more room =
-    let parts = and_parts (has_room m a) (have_room (m - 1) actions) room in
-    and_from (has_room n a) (have_room (n - 1) actions) (more_room a m n more parts.0) (more_rooms actions (m - 1) (n - 1) (omega arith) parts.1)
 
 or_true : (a : Bool) → (a || true) ≡ true
 or_true true = refl

@@ -186,6 +186,10 @@ bad_first text l rest here lacks none = record {
 one_line : (l rest : List ℕ) → flat_map line (l ∷ []) ++ rest ≡ l ++ 10 ∷ rest
 one_line l rest = ap (λ t. t ++ rest) (append-nil (line l)) ∙ append_assoc l (10 ∷ []) rest
 
+-- one line alone
+pub whole_line : (text l rest : List ℕ) (e : Depex) → text ≡ l ++ 10 ∷ rest → IsExpressionOf l e → rest ≡ [] → IsDepexOf text e
+whole_line text l rest e here is none = (is.0, here ∙ ap (λ r. l ++ 10 ∷ r) none ∙ ap (λ t. t ++ 10 ∷ []) is.1)
+
 -- more than one line
 pub bad_second : (text l rest : List ℕ) (e : Depex) → text ≡ l ++ 10 ∷ rest → Lacks 10 l → IsExpressionOf l e → (rest ≡ [] → ⊥) → IsBadLine IsDepexText text 2
 bad_second text l rest e here lacks is some = record {

@@ -8,10 +8,10 @@ use Rattle.std.proofs.lemmas.List.{append-nil, length-append, map_push}
 use Rattle.pi_base.specs.declared.phase.Phase.{Phase}
 use Rattle.act_code.specs.declared.action.Action.{Action}
 use Rattle.act_code.specs.declared.script.Script.{Script}
-use Rattle.act_code.specs.Index.{has_room, is_ret}
+use Rattle.act_code.specs.Index.{has_room, is_ret, names_below}
 use Rattle.act_code.specs.ScriptReading.{ends_in_ret}
 use Rattle.asm_text.specs.ActionText.{action_text}
-use Rattle.asm_text.specs.Drafts.{have_room, is_closed, may_end, with_block, may_stand, pushed, with_action, extended, with_line, names_below, is_whole}
+use Rattle.asm_text.specs.Drafts.{have_room, is_closed, may_end, with_block, may_stand, pushed, with_action, extended, with_line, is_whole}
 use Rattle.asm_text.specs.LineReading.{action_of}
 use Rattle.asm_text.specs.ScriptText.{phase_text, block_text}
 use Rattle.asm_text.specs.Walk.{split_last}

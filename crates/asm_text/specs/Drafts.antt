@@ -4,9 +4,7 @@ use Rattle.std.specs.List.{list_all}
 use Rattle.pi_base.specs.declared.phase.Phase.{Phase}
 use Rattle.act_code.specs.declared.action.Action.{Action}
 use Rattle.act_code.specs.declared.script.Script.{Script}
-use Rattle.act_code.specs.Format.{blocks_in}
-use Rattle.act_code.specs.Table.{format_of, code_of_action, operands}
-use Rattle.act_code.specs.Index.{has_room, is_ret}
+use Rattle.act_code.specs.Index.{names_below, has_room, is_ret}
 use Rattle.act_code.specs.Reading.{◌>>=◌, only_if}
 use Rattle.act_code.specs.ScriptReading.{ends_in_ret}
 use Rattle.pi_base.specs.declared.phase.Phase.TheVariants.{Pei, Dxe}
@@ -52,10 +50,6 @@ extended draft line = split_last draft.blocks >>= with_action draft.phase line
 -- the script with one more line, where there may be such a line
 unfoldable pub with_line : Script → List ℕ → Option Script
 with_line draft line = if bytes_eq line block_text then with_block draft else extended draft line
-
--- the action names only blocks below a number
-abbrev pub names_below : ℕ → Action → Bool
-names_below count action = list_all (λ b. nat_lt b count) (blocks_in (format_of (code_of_action action)) (operands action))
 
 -- the lines are all that the script has
 abbrev pub is_whole : Script → Bool

@@ -1,47 +1,26 @@
 // A script that is put together line by line. Its last block may go on.
-ghost use Rattle.std.specs.Prelude.{◌≡◌, ◌-◌, ◌&&◌, length};
+ghost use Rattle.std.specs.Prelude.{◌≡◌, ◌-◌, ◌&&◌, ◌++◌, ◌∷◌, [], List, length};
+ghost use Rattle.act_code.specs.declared.action.Action.{Action};
 ghost use Rattle.std.specs.List.{list_all};
-ghost use Rattle.act_code.specs.Index.{has_room};
-ghost use Rattle.act_code.specs.ScriptReading.{ends_in_ret};
+ghost use Rattle.act_code.specs.Index.{names_below};
 ghost use Rattle.act_code.specs.Reading.{Gives};
-ghost use Rattle.asm_text.specs.Drafts.{have_room, is_closed, may_end, may_stand, with_block, pushed, extended, with_line, names_below, is_whole};
+ghost use Rattle.asm_text.specs.Drafts.{have_room, is_closed, may_end, may_stand, with_block, with_action, extended, with_line, is_whole};
 ghost use Rattle.asm_text.specs.Walk.{split_last};
 
 use crate::line_reading::action_of;
 use crate::script_text::block_text;
-use act_code::descriptor_kind::PPI;
-use act_code::{Action, MOST_BLOCKS, Script, Unread, is_ret};
+use act_code::{Action, MOST_BLOCKS, Script, Unread, ends_in_ret, has_room, is_ret, names_below};
 use pi_base::{Phase, Seq};
 use std::alloc::Global;
 
 // The most actions of a block.
 const MOST_ACTIONS: usize = act_code::MOST_ACTIONS as usize;
 
-// Whether the actions that an action skips may stand behind it and one more, where so many are left with itself.
-fn has_room(action: &Action, left: usize) -> bool
-    ensures { result ≡ has_room left action.now }
-{
-    match action {
-        Action::SkipIf { n, .. } => usize::from(*n) + 2 <= left,
-        _ => true,
-    }
-}
-
 // Whether an action may stand where so many are left with it.
 fn may_stand(action: &Action, left: usize) -> bool
     ensures { result ≡ may_stand left action.now }
 {
     has_room(action, left) && (left > 1 || is_ret(action))
-}
-
-// Whether the last action is a ret.
-fn ends_in_ret(actions: &[Action]) -> bool
-    ensures { result ≡ ends_in_ret actions.now }
-{
-    match actions {
-        [.., last] => is_ret(last),
-        [] => false,
-    }
 }
 
 // Whether each action that skips others has them behind it and one more.
@@ -73,91 +52,68 @@ fn may_end(blocks: &[Seq<Action>], none: bool) -> bool
     }
 }
 
-// The script with one more block.
-fn with_block(alloc: Global, draft: Script) -> Result<Script, Unread>
-    ensures { Gives (λ x. x) result (with_block draft) }
+// Gives the script one more block.
+fn add_block(alloc: Global, draft: &mut Script) -> Result<(), Unread>
+    ensures { Gives (λ _. draft.new) result (with_block draft.old) }
 {
-    let Script { phase, mut blocks } = draft;
-    if blocks.len() < MOST_BLOCKS as usize && may_end(blocks.as_slice(), true) {
-        blocks.push(Seq::new(alloc))?;
-        Ok(Script { phase, blocks })
+    if draft.blocks.len() < MOST_BLOCKS as usize && may_end(draft.blocks.as_slice(), true) {
+        draft.blocks.push(Seq::new(alloc))?;
+        Ok(())
     } else {
         Err(Unread::Malformed)
     }
 }
 
-// All blocks but the last, and the last.
-fn split_last(mut blocks: Seq<Seq<Action>>) -> Option<(Seq<Seq<Action>>, Seq<Action>)>
-    ensures { result ≡ split_last blocks }
-{
-    match blocks.pop() {
-        Some(last) => Some((blocks, last)),
-        None => None,
-    }
-}
-
-// The blocks, and the last one with one more action.
-fn pushed(
+// Gives a last block one more action.
+fn add_action(
+    alloc: Global,
     phase: Phase,
-    mut others: Seq<Seq<Action>>,
-    mut last: Seq<Action>,
-    action: Action,
-) -> Result<Script, Unread>
-    ensures { Gives (λ x. x) result (pushed phase others last action) }
+    last: &mut Seq<Action>,
+    line: &[u8],
+) -> Result<(), Unread>
+    ensures { (others : List (List Action)) → Gives (λ _. record { phase = phase; blocks = others ++ last.new ∷ [] }) result (with_action phase line.now (others, last.old)) }
 {
+    let action = action_of(alloc, phase, line)?;
     if last.len() >= MOST_ACTIONS || !may_stand(&action, MOST_ACTIONS - last.len()) {
+        drop(action);
         return Err(Unread::Malformed);
     }
     last.push(action)?;
-    others.push(last)?;
-    Ok(Script {
-        phase,
-        blocks: others,
-    })
+    Ok(())
 }
 
-// The script with one more action in its last block.
-fn extended(alloc: Global, draft: Script, line: &[u8]) -> Result<Script, Unread>
-    ensures { Gives (λ x. x) result (extended draft line.now) }
+// Gives the script one more action in its last block.
+fn extend(alloc: Global, draft: &mut Script, line: &[u8]) -> Result<(), Unread>
+    ensures { Gives (λ _. draft.new) result (extended draft.old line.now) }
 {
-    let Script { phase, blocks } = draft;
-    let Some((others, last)) = split_last(blocks) else {
+    let Some(mut last) = draft.blocks.pop() else {
         return Err(Unread::Malformed);
     };
-    let action = action_of(alloc, phase, line)?;
-    pushed(phase, others, last, action)
+    match add_action(alloc, draft.phase, &mut last, line) {
+        Ok(()) => {
+            draft.blocks.push(last)?;
+            Ok(())
+        }
+        Err(unread) => {
+            drop(last);
+            Err(unread)
+        }
+    }
 }
 
-/// The script with one more line.
+/// Gives the script one more line. It is no script any more where there is no such line.
 #[tactic(auto, unfolding(crate::specs::Drafts::with_line))]
-pub(crate) fn with_line(alloc: Global, draft: Script, line: &[u8]) -> Result<Script, Unread>
-    ensures { Gives (λ x. x) result (with_line draft line.now) }
+pub(crate) fn add_line(alloc: Global, draft: &mut Script, line: &[u8]) -> Result<(), Unread>
+    ensures { Gives (λ _. draft.new) result (with_line draft.old line.now) }
 {
     if line == block_text() {
-        with_block(alloc, draft)
+        add_block(alloc, draft)
     } else {
-        extended(alloc, draft, line)
+        extend(alloc, draft, line)
     }
 }
 
-// Whether an action names only blocks below a number.
-fn names_below(action: &Action, count: usize) -> bool
-    ensures { result ≡ names_below count action.now }
-{
-    match action {
-        Action::Desc { kind, arg, .. } => {
-            if *kind == PPI {
-                true
-            } else {
-                usize::from(*arg) < count
-            }
-        }
-        Action::DxeNotify { block, .. } => usize::from(*block) < count,
-        _ => true,
-    }
-}
-
-// Whether all actions of a block do.
+// Whether all actions of a block name only blocks below a number.
 fn name_below(actions: &[Action], count: usize) -> bool
     ensures { result ≡ list_all (names_below count) actions.now }
 {

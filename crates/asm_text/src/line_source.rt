@@ -1,9 +1,9 @@
 // The text of a line as a source of operands.
 use crate::front::behind;
-use crate::list_reading::{MOST_BYTES, are_few, are_printable, bytes, few_registers, is_hob};
+use crate::list_reading::{MOST_BYTES, are_few, bytes, few_registers};
 use crate::operand_reading::{block, guid, guid_arg, last, register, small, small_of};
 use crate::word::{decimal_word, hexadecimal_word, kind_word, status_word, word};
-use act_code::{Code, GuidArg, Source, Unread};
+use act_code::{Code, GuidArg, Source, Unread, are_printable, is_hob};
 use pi_base::{Guid, Seq, Word};
 use std::alloc::Global;
 

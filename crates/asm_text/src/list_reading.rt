@@ -1,7 +1,6 @@
 // The lists among operands, and HOBs. A reader gives a value and what follows it.
 ghost use Rattle.std.specs.Prelude.{◌≡◌};
-ghost use Rattle.std.specs.List.{list_all};
-ghost use Rattle.act_code.specs.Format.{is_within, is_hob};
+ghost use Rattle.act_code.specs.Format.{is_within};
 ghost use Rattle.act_code.specs.Reading.{Gives};
 ghost use Rattle.asm_text.specs.OperandReading.{bytes_at, registers_within};
 
@@ -34,20 +33,6 @@ pub(crate) fn are_few(len: usize, most: usize) -> bool
     1 <= len && len <= most
 }
 
-// Whether a byte is printable.
-fn is_printable(byte: u8) -> bool
-    ensures { result ≡ is_within 32 126 byte }
-{
-    b' ' <= byte && byte <= b'~'
-}
-
-/// Whether all bytes are printable.
-pub(crate) fn are_printable(text: &[u8]) -> bool
-    ensures { result ≡ list_all (is_within 32 126) text.now }
-{
-    text.iter().all(|byte| is_printable(*byte))
-}
-
 /// Registers to the end of the line, at most 8.
 pub(crate) fn few_registers(alloc: Global, text: &[u8]) -> Result<Seq<u8>, Unread>
     ensures { Gives (λ x. x) result (registers_within 8 text.now) }
@@ -67,18 +52,4 @@ pub(crate) fn few_registers(alloc: Global, text: &[u8]) -> Result<Seq<u8>, Unrea
         }
     }
     Ok(list)
-}
-
-/// Whether a script may make a HOB of a type with so long a body.
-pub(crate) fn is_hob(kind: u8, len: usize) -> bool
-    ensures { result ≡ is_hob kind len }
-{
-    match kind {
-        3 => len == 40,
-        4 => 16 <= len && len <= 1024,
-        5 => len == 16,
-        6 => len == 8,
-        9 => len == 48,
-        _ => false,
-    }
 }

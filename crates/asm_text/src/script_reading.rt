@@ -6,7 +6,7 @@ ghost use Rattle.asm_text.specs.Drafts.{phase_of};
 ghost use Rattle.asm_text.specs.ScriptText.{line, phase_text};
 ghost use Rattle.asm_text.specs.ReadScript.{IsScriptOf, IsScriptRefused, GivesScript};
 
-use crate::draft::{is_whole, with_line};
+use crate::draft::{add_line, is_whole};
 use crate::fault::TextFault;
 use crate::script_text::phase_text;
 use act_code::{Script, Unread, WriteFault, write_script};
@@ -43,8 +43,8 @@ fn read_lines(alloc: Global, phase: Phase, text: &[u8]) -> Result<Script, TextFa
         let Some((line, after)) = first_line(rest) else {
             return Err(TextFault::Bad { line: number });
         };
-        match with_line(alloc, draft, line) {
-            Ok(next) => draft = next,
+        match add_line(alloc, &mut draft, line) {
+            Ok(()) => {}
             Err(Unread::Malformed) => return Err(TextFault::Bad { line: number }),
             Err(Unread::Memory) => return Err(TextFault::Memory),
         }

@@ -1,14 +1,13 @@
 -- Stacks of trees: what opcodes leave on one, and what a stack spells.
-use Rattle.std.proofs.Common.{◌≡◌, suc, Bool, List, [], ◌∷◌, ◌++◌, map, length, Option, Some, None, refl, sym, ap, ◌∙◌, append_assoc, arith}
+use Rattle.std.proofs.Common.{◌≡◌, suc, List, [], ◌∷◌, ◌++◌, length, Option, Some, None, refl, sym, ap, ◌∙◌, append_assoc, arith}
 use Rattle.std.specs.Prelude.{option_map, option_and_then}
 use Rattle.std.proofs.lemmas.List.{append-nil}
 use Rattle.std.proofs.lemmas.Bool.Decides.{nat_tests}
-use Rattle.pi_base.specs.declared.guid.Guid.{Guid}
 use Rattle.depex_code.specs.declared.opcode.Opcode.{Opcode}
 use Rattle.depex_code.specs.declared.opcode.Opcode.TheVariants as opcode
-use Rattle.depex_code.specs.Tree.{DepexTree, Push, Not, And, Or, True, False, postfix, truth}
+use Rattle.depex_code.specs.Tree.{DepexTree, Push, Not, And, Or, True, False, postfix}
 use Rattle.depex_code.specs.TreeCode.{built, stack_after, tree_of, alone, stack_after-postfix, tree_of-postfix}
-use Rattle.depex_code.specs.Depth.{depth_after, values_after}
+use Rattle.depex_code.specs.Depth.{depth_after}
 
 -- the opcodes of the trees on a stack, the lowest first
 abbrev pub spelled : List DepexTree → List Opcode
@@ -28,20 +27,6 @@ depth-built opcode.And (second ∷ first ∷ stack) = grind (arith, nat_tests)
 depth-built opcode.Or [] = refl
 depth-built opcode.Or (second ∷ []) = refl
 depth-built opcode.Or (second ∷ first ∷ stack) = grind (arith, nat_tests)
-
--- the values are those of the trees on the stack
-pub values-built : (has : Guid → Bool) (code : Opcode) (stack next : List DepexTree) → built code stack ≡ Some next → values_after has code (map (truth has) stack) ≡ Some (map (truth has) next)
-values-built has (opcode.Push guid) stack next e = let same : Push guid ∷ stack ≡ next = cc in rw (← same) refl
-values-built has opcode.True stack next e = let same : True ∷ stack ≡ next = cc in rw (← same) refl
-values-built has opcode.False stack next e = let same : False ∷ stack ≡ next = cc in rw (← same) refl
-values-built has opcode.Not [] next e = absurd cc
-values-built has opcode.Not (node ∷ stack) next e = let same : Not node ∷ stack ≡ next = cc in rw (← same) refl
-values-built has opcode.And [] next e = absurd cc
-values-built has opcode.And (second ∷ []) next e = absurd cc
-values-built has opcode.And (second ∷ first ∷ stack) next e = let same : And first second ∷ stack ≡ next = cc in rw (← same) refl
-values-built has opcode.Or [] next e = absurd cc
-values-built has opcode.Or (second ∷ []) next e = absurd cc
-values-built has opcode.Or (second ∷ first ∷ stack) next e = let same : Or first second ∷ stack ≡ next = cc in rw (← same) refl
 
 regroup : (front first second : List Opcode) (code : Opcode) → ((front ++ first) ++ second) ++ code ∷ [] ≡ front ++ (first ++ (second ++ code ∷ []))
 regroup front first second code = append_assoc (front ++ first) second (code ∷ []) ∙ append_assoc front first (second ++ code ∷ [])

@@ -37,26 +37,24 @@ pub fn instruction_at(bytes: &[u8]) -> Option<(Instruction, &[u8])>
     ensures { option_map (λ x. (x.0, x.1.now)) result ≡ instruction_at bytes.now }
 {
     let (code, rest) = bytes.split_first()?;
-    match *code {
-        BEFORE => {
+    let instruction = match *code {
+        BEFORE | AFTER | PUSH => {
             let (guid, rest) = guid_front(rest)?;
-            Some((Instruction::Before(guid), rest))
+            let instruction = match *code {
+                BEFORE => Instruction::Before(guid),
+                AFTER => Instruction::After(guid),
+                _ => Instruction::Of(Opcode::Push(guid)),
+            };
+            return Some((instruction, rest));
         }
-        AFTER => {
-            let (guid, rest) = guid_front(rest)?;
-            Some((Instruction::After(guid), rest))
-        }
-        PUSH => {
-            let (guid, rest) = guid_front(rest)?;
-            Some((Instruction::Of(Opcode::Push(guid)), rest))
-        }
-        AND => Some((Instruction::Of(Opcode::And), rest)),
-        OR => Some((Instruction::Of(Opcode::Or), rest)),
-        NOT => Some((Instruction::Of(Opcode::Not), rest)),
-        TRUE => Some((Instruction::Of(Opcode::True), rest)),
-        FALSE => Some((Instruction::Of(Opcode::False), rest)),
-        END => Some((Instruction::End, rest)),
-        SOR => Some((Instruction::Sor, rest)),
-        _ => None,
-    }
+        AND => Instruction::Of(Opcode::And),
+        OR => Instruction::Of(Opcode::Or),
+        NOT => Instruction::Of(Opcode::Not),
+        TRUE => Instruction::Of(Opcode::True),
+        FALSE => Instruction::Of(Opcode::False),
+        END => Instruction::End,
+        SOR => Instruction::Sor,
+        _ => return None,
+    };
+    Some((instruction, rest))
 }

@@ -67,7 +67,7 @@ fn tree_at(alloc: Global, bytes: &[u8], from: u32, room: usize) -> Result<Tree, 
                 rest = behind;
             }
             Turn::End => return Ok(Tree::spelled(code)),
-            Turn::Stuck => return Err(malformed(from, bytes, rest)),
+            Turn::Stuck => break,
         }
     }
     Err(malformed(from, bytes, rest))

@@ -39,7 +39,7 @@ failed false cause other item e = (refl, e)
 same_item : (a b : Item) (P : Item → Type 0) → ◌≡◌ {A = Result Item VolCause} (Ok a) (Ok b) → P a → P b
 same_item a b P e p = let s : a ≡ b = cc in subst P s p
 
-size_fits : (format : Format) (room : ℕ) (header : FileHeader) → size_is_wrong format room header ≡ false → (header.len ≤ header.size) × (header.size ≤ room)
+pub size_fits : (format : Format) (room : ℕ) (header : FileHeader) → size_is_wrong format room header ≡ false → (header.len ≤ header.size) × (header.size ≤ room)
 size_fits format room header e =
     let fits : header.size ≤ room = grind (arith, nat_tests) in
     let least : header.len ≤ header.size = grind (arith, nat_tests) in

@@ -124,12 +124,21 @@ static SOURCE_WORDS: [(&str, &str); 39] = [
     ),
 ];
 
-/// What the cause of a volume's text means, told of the line at fault.
-pub(crate) fn source_words(cause: &str) -> &'static str {
-    for (name, words) in &SOURCE_WORDS {
-        if *name == cause {
+/// What a table has for a word, and otherwise this.
+pub(crate) fn words_for(
+    table: &[(&'static str, &'static str)],
+    word: &str,
+    otherwise: &'static str,
+) -> &'static str {
+    for (name, words) in table {
+        if *name == word {
             return *words;
         }
     }
-    "can not stand there"
+    otherwise
+}
+
+/// What the cause of a volume's text means, told of the line at fault.
+pub(crate) fn source_words(cause: &str) -> &'static str {
+    words_for(&SOURCE_WORDS, cause, "can not stand there")
 }

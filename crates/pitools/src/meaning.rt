@@ -1,5 +1,5 @@
 // What a person is told of a run: what is at fault, and what to do.
-use crate::cause_meaning::source_words;
+use crate::cause_meaning::{source_words, words_for};
 use crate::forms::PROGRAM;
 use crate::order_meaning::{LINE_FORMS, against_words, boot_words, last_lines};
 use crate::source_meaning::tell_readings;
@@ -26,26 +26,38 @@ fn word_at(words: &[String], place: usize) -> &str {
     }
 }
 
+// The tools, and what each takes.
+static VERB_WORDS: [(&str, &str); 10] = [
+    ("check", "takes the names of two files behind it"),
+    ("follow", "takes the names of two files behind it"),
+    ("gcd", "takes the names of two files behind it"),
+    ("mp", "takes the name of a file behind it"),
+    ("hobs", "takes the name of a file behind it"),
+    ("volume", "takes the name of a file behind it"),
+    ("text", "takes the name of a file behind it"),
+    (
+        "explain",
+        "takes the name of a plan behind it, and may take that of a trace",
+    ),
+    (
+        "asm",
+        "takes depex or script behind it, and the name of a file",
+    ),
+    (
+        "dis",
+        "takes pei, dxe or script behind it, and the name of a file",
+    ),
+];
+
 // The words that have no form.
 fn tell_usage(rt: &HostRuntime, words: &[String]) {
+    let usage = USAGE;
     match words {
-        [] => PROGRAM.put(rt, "no word is given, or one that is no UTF-8", USAGE),
+        [] => PROGRAM.put(rt, "no word is given, or one that is no UTF-8", usage),
         [verb, ..] => {
             let verb = verb.as_str();
-            let fault = if verb == "check" || verb == "follow" || verb == "gcd" {
-                "takes the names of two files behind it"
-            } else if verb == "mp" || verb == "hobs" || verb == "volume" || verb == "text" {
-                "takes the name of a file behind it"
-            } else if verb == "explain" {
-                "takes the name of a plan behind it, and may take that of a trace"
-            } else if verb == "asm" {
-                "takes depex or script behind it, and the name of a file"
-            } else if verb == "dis" {
-                "takes pei, dxe or script behind it, and the name of a file"
-            } else {
-                "is no tool"
-            };
-            let _ = eprintln!(rt; "pitools: {verb:?} {fault}; {USAGE}");
+            let fault = words_for(&VERB_WORDS, verb, "is no tool");
+            let _ = eprintln!(rt; "pitools: {verb:?} {fault}; {usage}");
         }
     }
 }
@@ -99,51 +111,59 @@ fn tell_source(rt: &HostRuntime, name: &str, heard: &mut Heard<'_>) -> Option<()
     tell_numbered(rt, name, &mut heard.files, number, why)
 }
 
-// What the cause of a HOB list means.
-fn hobs_words(cause: &str) -> &'static str {
-    if cause == "Short" {
-        "fewer than 8 bytes are left for a HOB's header"
-    } else if cause == "Length" {
-        "a HOB's length is below 8, no multiple of 8, or more than is left"
-    } else if cause == "Form" {
-        "a HOB of a known type has another length, or the list begins with no hand-off HOB of version 9"
-    } else if cause == "NoEnd" {
-        "the list has no end HOB"
-    } else if cause == "NoCpu" {
-        "the list has no CPU HOB (type 6), which says how many bits an address has"
-    } else if cause == "Bits" {
-        "the CPU HOB's memory bits are not 12 to 52"
-    } else if cause == "Range" {
-        "a resource has length 0, or ends behind the address space"
-    } else if cause == "Overlap" {
-        "a resource meets an earlier one"
-    } else {
-        "an allocation has length 0, or an address that is not free system memory"
-    }
-}
+// The causes of a HOB list, and what each means.
+static HOB_WORDS: [(&str, &str); 8] = [
+    ("Short", "fewer than 8 bytes are left for a HOB's header"),
+    (
+        "Length",
+        "a HOB's length is below 8, no multiple of 8, or more than is left",
+    ),
+    (
+        "Form",
+        "a HOB of a known type has another length, or the list begins with no hand-off HOB of version 9",
+    ),
+    ("NoEnd", "the list has no end HOB"),
+    (
+        "NoCpu",
+        "the list has no CPU HOB (type 6), which says how many bits an address has",
+    ),
+    ("Bits", "the CPU HOB's memory bits are not 12 to 52"),
+    (
+        "Range",
+        "a resource has length 0, or ends behind the address space",
+    ),
+    ("Overlap", "a resource meets an earlier one"),
+];
 
-// What the cause of bytes means that are no expression or script.
-fn bytes_words(cause: &str) -> &'static str {
-    if cause == "Malformed" {
-        "no expression goes on there: the opcode is unknown, cut short or of the other phase, or it leaves another number of values than one"
-    } else if cause == "Magic" {
-        "the script is shorter than 8 bytes, or does not begin with PIAS; what asm prints becomes bytes by xxd -r -p"
-    } else if cause == "Version" {
-        "the script's version is not 1"
-    } else if cause == "Phase" {
-        "the script's phase is neither 1 (PEI) nor 2 (DXE)"
-    } else if cause == "Count" {
-        "the script has no block or more than 64, or bytes behind its last block"
-    } else if cause == "Block" {
-        "a block has no action or more than 1024, or its last one is no ret"
-    } else if cause == "Action" {
-        "the action is none of the phase, is cut short, or an operand is out of its range"
-    } else if cause == "Jump" {
-        "skip_if passes the end of its block; an action has to stand behind those that it skips"
-    } else {
-        "a register is above r15, or the script has no block of this number"
-    }
-}
+// The causes of bytes that are no expression or script, and what each means.
+static BYTE_WORDS: [(&str, &str); 8] = [
+    (
+        "Malformed",
+        "no expression goes on there: the opcode is unknown, cut short or of the other phase, or it leaves another number of values than one",
+    ),
+    (
+        "Magic",
+        "the script is shorter than 8 bytes, or does not begin with PIAS; what asm prints becomes bytes by xxd -r -p",
+    ),
+    ("Version", "the script's version is not 1"),
+    ("Phase", "the script's phase is neither 1 (PEI) nor 2 (DXE)"),
+    (
+        "Count",
+        "the script has no block or more than 64, or bytes behind its last block",
+    ),
+    (
+        "Block",
+        "a block has no action or more than 1024, or its last one is no ret",
+    ),
+    (
+        "Action",
+        "the action is none of the phase, is cut short, or an operand is out of its range",
+    ),
+    (
+        "Jump",
+        "skip_if passes the end of its block; an action has to stand behind those that it skips",
+    ),
+];
 
 // The offset of a file that a refusal names last, behind its cause.
 fn tell_place(rt: &HostRuntime, name: &str, text: Option<&[u8]>, of_hobs: bool) -> Option<()> {
@@ -151,9 +171,17 @@ fn tell_place(rt: &HostRuntime, name: &str, text: Option<&[u8]>, of_hobs: bool) 
     let cause = words.next()?;
     let at = words.next()?;
     let why = if of_hobs {
-        hobs_words(cause)
+        words_for(
+            &HOB_WORDS,
+            cause,
+            "an allocation has length 0, or an address that is not free system memory",
+        )
     } else {
-        bytes_words(cause)
+        words_for(
+            &BYTE_WORDS,
+            cause,
+            "a register is above r15, or the script has no block of this number",
+        )
     };
     let _ = eprintln!(rt; "pitools: {name}: at {at}: {why}");
     Some(())

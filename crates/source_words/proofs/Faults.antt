@@ -1,14 +1,14 @@
 -- The first line at which something is wrong, looked for line by line.
-use Rattle.std.proofs.Common.{◌≡◌, ℕ, suc, ◌+◌, ◌-◌, ◌<◌, ◌≤◌, Bool, true, false, not, List, [], ◌∷◌, ◌++◌, length, take, drop, get_or, Option, Some, None, refl, sym, ap, ◌∙◌, arith}
+use Rattle.std.proofs.Common.{◌≡◌, ℕ, suc, ◌+◌, ◌-◌, ◌<◌, ◌≤◌, Bool, true, false, not, List, [], ◌∷◌, ◌++◌, length, take, drop, get_or, Option, Some, None, refl, sym, ap, ◌∙◌, arith, length-drop}
 use Rattle.std.specs.Prelude.{nat_le, if◌then◌else◌}
 use Rattle.std.proofs.lemmas.Bool.Decides.{nat_tests}
 use Rattle.std.proofs.lemmas.List.{append-nil, take_more, drop_more, drop_all, take_all}
 use Rattle.act_code.specs.declared.action.Action.{Action}
 use Rattle.act_code.specs.Format.{is_within}
-use Rattle.act_code.specs.Index.{has_room}
+use Rattle.act_code.specs.Index.{has_room, names_below}
 use Rattle.source_words.specs.declared.script.script.ScriptCause.{ScriptCause}
 use Rattle.source_words.specs.declared.script.script.ScriptCause.TheVariants.{NoRet, Jump, NoSuchBlock, Full}
-use Rattle.source_words.specs.Script.{names_below, action_cause, action_causes, may_end, block_cause, block_causes, end_cause, causes_behind, first_fault}
+use Rattle.source_words.specs.Script.{action_cause, action_causes, may_end, block_cause, block_causes, end_cause, causes_behind, first_fault}
 
 pub within_is : (low high n : ℕ) → low ≤ n → n ≤ high → is_within low high n ≡ true
 within_is low high n least few = grind (arith, nat_tests)
@@ -43,7 +43,7 @@ full_by true others last none = absurd cc
 full_by false others last none = refl
 
 -- an action at which nothing is wrong is one of the first 1,024
-not_full : (count before left : ℕ) (action : Action) → action_cause count before left action ≡ None → before < 1024
+pub not_full : (count before left : ℕ) (action : Action) → action_cause count before left action ≡ None → before < 1024
 not_full count before left action none =
     let test : nat_le 1024 before ≡ false = full_by (nat_le 1024 before) (not (has_room left action)) (not (names_below count action)) none in
     grind (arith, nat_tests)
@@ -59,6 +59,27 @@ few_actions place count before (action ∷ actions) none few =
     let here = not_full count before (length actions + 1) action parts.0 in
     let more = few_actions (place + 1) count (before + 1) actions parts.1 (omega arith) in
     omega arith
+
+-- a step of the search among actions
+one_action : (count index : ℕ) (actions : List Action) (action : Action) → index < length actions → action ≡ get_or actions index action
+    → first_fault index (action_causes count index (drop index actions))
+    ≡ first_fault index (action_cause count index (length actions - index) action ∷ action_causes count (index + 1) (drop (index + 1) actions))
+one_action count index actions action within is =
+    let split : drop index actions ≡ action ∷ drop (index + 1) actions = drop_more actions index action within ∙ ap (λ a. a ∷ drop (index + 1) actions) (sym is) in
+    let left : length (drop (index + 1) actions) + 1 ≡ length actions - index = omega (arith, length-drop (index + 1) actions, within) in
+    ap (λ l. first_fault index (action_causes count index l)) split
+    ∙ ap (λ n. first_fault index (action_cause count index n action ∷ action_causes count (index + 1) (drop (index + 1) actions))) left
+
+pub next_action : (count index : ℕ) (actions : List Action) (action : Action) → index < length actions → action ≡ get_or actions index action
+    → action_cause count index (length actions - index) action ≡ None
+    → first_fault index (action_causes count index (drop index actions)) ≡ first_fault (index + 1) (action_causes count (index + 1) (drop (index + 1) actions))
+next_action count index actions action within is none =
+    one_action count index actions action within is ∙ ap (λ (o : Option ScriptCause). first_fault index (o ∷ action_causes count (index + 1) (drop (index + 1) actions))) none
+
+pub here_action : (count index : ℕ) (cause : ScriptCause) (actions : List Action) (action : Action) → index < length actions → action ≡ get_or actions index action
+    → action_cause count index (length actions - index) action ≡ Some cause → first_fault index (action_causes count index (drop index actions)) ≡ Some (index, cause)
+here_action count index cause actions action within is found =
+    one_action count index actions action within is ∙ ap (λ (o : Option ScriptCause). first_fault index (o ∷ action_causes count (index + 1) (drop (index + 1) actions))) found
 
 -- a step of the search among blocks
 one_block : (count index place : ℕ) (blocks : List (List Action)) (actions : List Action) → index < length blocks → actions ≡ get_or blocks index actions

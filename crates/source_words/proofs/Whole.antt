@@ -14,12 +14,12 @@ use Rattle.act_code.specs.declared.action.Action.{Action}
 use Rattle.act_code.specs.declared.script.Script.{Script}
 use Rattle.act_code.specs.Format.{registers_in, blocks_in}
 use Rattle.act_code.specs.Table.{format_of, code_of_action, operands}
-use Rattle.act_code.specs.Index.{has_room}
+use Rattle.act_code.specs.Index.{has_room, names_below}
 use Rattle.act_code.specs.Script.{IsSound, IsBlock, IsInGrammar, Each}
 use Rattle.act_code.specs.ScriptReading.{ends_in_ret}
 use Rattle.source_words.specs.declared.script.script.ScriptCause.{ScriptCause}
 use Rattle.source_words.specs.declared.script.script.ScriptCause.TheVariants.{NoBlock, NoRet, Jump, NoSuchBlock, Full}
-use Rattle.source_words.specs.Script.{IsSaid, AreSaid, names_below, action_cause, action_causes, may_end, block_cause, end_cause, causes_behind, line_causes, first_fault}
+use Rattle.source_words.specs.Script.{IsSaid, AreSaid, action_cause, action_causes, may_end, block_cause, end_cause, causes_behind, line_causes, first_fault}
 use Rattle.source_words.proofs.Faults.{within_is, few_actions}
 
 -- what the tests of an action say together

@@ -1,13 +1,10 @@
 -- Scripts whose lines are read one by one: a draft with the actions that the lines say, and what is wrong at each of its lines (own).
-use Rattle.std.specs.Prelude.{◌≡◌, ℕ, ◌+◌, ◌-◌, ◌<◌, ⊤, Bool, nat_le, nat_lt, ◌==◌, not, true, if◌then◌else◌, List, [], ◌∷◌, ◌++◌, length, slice_get, Option, Some, None, All}
-use Rattle.std.specs.List.{list_all}
+use Rattle.std.specs.Prelude.{◌≡◌, ℕ, ◌+◌, ◌-◌, ◌<◌, ⊤, Bool, nat_le, ◌==◌, not, true, if◌then◌else◌, List, [], ◌∷◌, ◌++◌, length, slice_get, Option, Some, None, All}
 use Rattle.std.specs.Option.{option_map_or}
 use Rattle.pi_base.specs.declared.phase.Phase.{Phase}
 use Rattle.act_code.specs.declared.action.Action.{Action}
 use Rattle.act_code.specs.declared.script.Script.{Script}
-use Rattle.act_code.specs.Format.{blocks_in}
-use Rattle.act_code.specs.Table.{format_of, code_of_action, operands}
-use Rattle.act_code.specs.Index.{is_indexed, has_room}
+use Rattle.act_code.specs.Index.{is_indexed, names_below, has_room}
 use Rattle.act_code.specs.Script.{IsAction, IsInGrammar, IsScript, script_bytes}
 use Rattle.act_code.specs.ScriptReading.{ends_in_ret}
 use Rattle.source_words.specs.declared.script.script.ScriptCause.{ScriptCause}
@@ -23,10 +20,6 @@ pub record IsSaid (phase : Phase) (action : Action) : Type 0 where
 -- so are all actions of a draft
 abbrev pub AreSaid : Script → Type 0
 AreSaid draft = All (All (IsSaid draft.phase)) draft.blocks
-
--- the action names only blocks below a number
-abbrev pub names_below : ℕ → Action → Bool
-names_below count action = list_all (λ b. nat_lt b count) (blocks_in (format_of (code_of_action action)) (operands action))
 
 -- what is wrong with an action of a script of so many blocks that stands behind so many others of its block, where so many are left with itself
 abbrev pub action_cause : ℕ → ℕ → ℕ → Action → Option ScriptCause

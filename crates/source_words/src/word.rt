@@ -30,7 +30,7 @@ fn behind_blanks(line: &[u8]) -> &[u8]
     ensures trimmed { 0 < length result.now → is_blank (slice_index result.now 0) ≡ false }
 {
     let mut rest = line;
-    'blanks: while let [first, after @ ..] = rest {
+    'blanks: while let Some((first, after)) = rest.split_first() {
         if !is_blank(*first) {
             return rest;
         }

@@ -14,7 +14,7 @@ use Rattle.act_code.specs.Script.{IsScript}
 use Rattle.volume_text.specs.Open.{depex_type, has_part, is_script_of}
 use Rattle.line_words.proofs.Comparisons.{not_same}
 use Rattle.volume_print.specs.declared.form.Host.{Host}
-use Rattle.volume_print.specs.Spelling.{IsExpressionOf, SaysExpression, is_guid_list, holds_volume}
+use Rattle.volume_print.specs.Spelling.{IsExpressionOf, SaysExpression, is_guid_list}
 use Rattle.volume_print.specs.Description.{IsInner}
 use Rattle.volume_print.specs.Finding.{depex_phase, FindsExpression, FindsScript, FindsVolume, TellsExpression, TellsScript, TellsVolume}
 
@@ -99,13 +99,6 @@ not_first host before section script one is earlier = λ other says.
 pub told_script : (host : Host) (before : List NewSection) (section : NewSection) (script : Script) → is_guid_list host section ≡ false → (section.kind == 25) ≡ true → IsScript section.body script
     → has_part host.kind script.phase ≡ true → list_any (is_script_of script.phase) before ≡ false → TellsScript host before section (Some script)
 told_script host before section script no_list raw is part first = record { kind_is = grind (arith, nat_tests); no_list = no_list; part = part; first = first; bytes = is }
-
--- a section is told as a volume, or as none
-pub no_level : (host : Host) (section : NewSection) → TellsVolume (IsInner 0) host section None
-no_level host section = λ text says. says.1
-
-pub no_volume_there : (Inner : List ℕ → List ℕ → Type 0) (host : Host) (section : NewSection) → holds_volume host section.kind ≡ false → TellsVolume Inner host section None
-no_volume_there Inner host section other = λ text says. both (holds_volume host section.kind) says.0 other
 
 pub no_volume : (deep : ℕ) (host : Host) (section : NewSection) → FindsVolume section.body None → TellsVolume (IsInner deep) host section None
 no_volume zero host section none = λ text says. says.1

@@ -60,14 +60,15 @@ goes_on_said below top (Filling b t) e = tt
 goes_on_said below top (Done bytes) e = tt
 
 -- what is made of a volume as it has become
-pub topped : (below : List OpenVolume) (top : Result OpenVolume Stop) (read : Result OpenVolume Cause) → Gives (λ x. x) top read → Gives (λ x. x) (with_top below top) (read >>= (λ last. Ok (Filling below last)))
-topped below (Ok top) read told = ap (λ (r : Result OpenVolume Cause). r >>= (λ last. Ok (Filling below last))) told
-topped below (Err stop.Memory) read told = tt
-topped below (Err (stop.Fault cause)) read told = ap (λ (r : Result OpenVolume Cause). r >>= (λ last. Ok (Filling below last))) told
+pub topped : (below : List OpenVolume) (top : OpenVolume) (done : Result (Unit {0}) Stop) (read : Result OpenVolume Cause) → Gives (λ _. top) done read
+    → Gives (λ x. x) (with_top below top done) (read >>= (λ last. Ok (Filling below last)))
+topped below top (Ok done) read told = ap (λ (r : Result OpenVolume Cause). r >>= (λ last. Ok (Filling below last))) told
+topped below top (Err stop.Memory) read told = tt
+topped below top (Err (stop.Fault cause)) read told = ap (λ (r : Result OpenVolume Cause). r >>= (λ last. Ok (Filling below last))) told
 
-pub topped_said : (below : List OpenVolume) (top : Result OpenVolume Stop) → IfOk (with_top below top) IsSaidState
-topped_said below (Ok top) = tt
-topped_said below (Err e) = tt
+pub topped_said : (below : List OpenVolume) (top : OpenVolume) (done : Result (Unit {0}) Stop) → IfOk (with_top below top done) IsSaidState
+topped_said below top (Ok done) = tt
+topped_said below top (Err e) = tt
 
 -- what a call returned is said where the definition's state is
 gives_said : (made : Result State Stop) (read : Result State Cause) → IfOk read IsSaidState → Gives (λ x. x) made read → IfOk made IsSaidState

@@ -26,7 +26,3 @@ no_guid list word others read = rw read refl
 
 pub all_read : (list : List ℕ) → in_front list (guids_of []) ≡ Ok list
 all_read list = ap Ok (append-nil list)
-
-pub from_nothing : (read : Result (List ℕ) Cause) → in_front [] read ≡ read
-from_nothing (Ok xs) = refl
-from_nothing (Err e) = refl

@@ -1,3 +1,4 @@
+mod LastFile
 mod Lasts
 mod GuidLists
 mod Building

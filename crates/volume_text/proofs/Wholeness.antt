@@ -11,8 +11,9 @@ use Rattle.act_code.specs.Format.{registers_in}
 use Rattle.act_code.specs.Script.{IsSound, AreSound, IsBlock, IsInGrammar}
 use Rattle.act_code.specs.ScriptReading.{ends_in_ret}
 use Rattle.act_code.specs.Table.{format_of, code_of_action, operands}
+use Rattle.act_code.specs.Index.{names_below}
 use Rattle.source_words.specs.declared.script.script.ScriptCause.{ScriptCause}
-use Rattle.source_words.specs.Script.{names_below, action_cause, action_causes, may_end, block_cause, end_cause, block_causes, causes_behind, line_causes, first_fault, HasNoFault}
+use Rattle.source_words.specs.Script.{action_cause, action_causes, may_end, block_cause, end_cause, block_causes, causes_behind, line_causes, first_fault, HasNoFault}
 
 is_most : (n m : ℕ) → nat_le n m ≡ true → n ≤ m
 is_most n m test = grind (arith, nat_tests)

@@ -41,9 +41,9 @@ begun (statement.Volume form len) = Ok (Filling [] (new_volume form len))
 begun _ = Err cause.NoVolume
 
 -- the innermost volume as it has become
-abbrev pub with_top : List OpenVolume → Result OpenVolume Stop → Result State Stop
-with_top below (Ok top) = Ok (Filling below top)
-with_top below (Err e) = Err e
+abbrev pub with_top : List OpenVolume → OpenVolume → Result (Unit {0}) Stop → Result State Stop
+with_top below top (Ok done) = Ok (Filling below top)
+with_top below top (Err e) = Err e
 
 -- a section more in the last file
 abbrev pub filling : List OpenVolume → OpenVolume → NewSection → Result State Cause

@@ -1,5 +1,5 @@
 // A script whose lines are read one by one.
-ghost use Rattle.std.specs.Prelude.{◌≡◌, Ok, IfOk};
+ghost use Rattle.std.specs.Prelude.{◌≡◌, Ok, IfOk, OnOk};
 ghost use Rattle.source_words.specs.Script.{AreSaid, IsSaid};
 ghost use Rattle.volume_text.specs.Reading.{Gives, Answers};
 ghost use Rattle.volume_text.specs.Script.{with_block, action_at, with_action, line_at, IsScriptBody};
@@ -10,14 +10,14 @@ use pi_base::{Phase, Seq};
 use source_words::script::{ScriptCause, ScriptFault, read_action, whole_script};
 use std::alloc::Global;
 
-/// The script with one more block.
-pub(crate) fn with_block(alloc: Global, mut script: Script) -> Result<Script, Stop>
-    requires said { AreSaid script }
-    ensures made { Gives (λ x. x) result (Ok (with_block script)) }
-    ensures said { IfOk result AreSaid }
+/// Gives the script one more block.
+pub(crate) fn add_block(alloc: Global, script: &mut Script) -> Result<(), Stop>
+    requires said { AreSaid script.old }
+    ensures made { Gives (λ _. script.new) result (Ok (with_block script.old)) }
+    ensures said { OnOk result (AreSaid script.new) }
 {
     script.blocks.push(Seq::new(alloc))?;
-    Ok(script)
+    Ok(())
 }
 
 // The action that a line of a script of a phase says.
@@ -32,20 +32,27 @@ fn action(alloc: Global, phase: Phase, line: &[u8]) -> Result<Action, Stop>
     }
 }
 
-/// The script with one more action in its last block.
+/// Gives the last block of the script one more action.
 #[tactic(auto, using(crate::proofs::Lasts::last_push))]
-pub(crate) fn with_action(alloc: Global, mut script: Script, line: &[u8]) -> Result<Script, Stop>
-    requires said { AreSaid script }
-    ensures made { Gives (λ x. x) result (with_action script line.now) }
-    ensures said { IfOk result AreSaid }
+pub(crate) fn add_action(alloc: Global, script: &mut Script, line: &[u8]) -> Result<(), Stop>
+    requires said { AreSaid script.old }
+    ensures made { Gives (λ _. script.new) result (with_action script.old line.now) }
+    ensures said { OnOk result (AreSaid script.new) }
 {
     let Some(mut last) = script.blocks.pop() else {
         return Err(Stop::Fault(Cause::Script(ScriptCause::NoBlock)));
     };
-    let action = action(alloc, script.phase, line)?;
-    last.push(action)?;
-    script.blocks.push(last)?;
-    Ok(script)
+    match action(alloc, script.phase, line) {
+        Ok(action) => {
+            last.push(action)?;
+            script.blocks.push(last)?;
+            Ok(())
+        }
+        Err(stop) => {
+            drop(last);
+            Err(stop)
+        }
+    }
 }
 
 // The text's line of a script's line at a place: the script's end stands behind its lines.

@@ -1,16 +1,16 @@
 // One line more of a text.
-ghost use Rattle.std.specs.Prelude.{◌≡◌, IfOk};
+ghost use Rattle.std.specs.Prelude.{◌≡◌, IfOk, OnOk};
 ghost use Rattle.volume_text.specs.Reading.{Gives, Answers};
 ghost use Rattle.volume_text.specs.Step.{IsSaidState, begun, with_top, filling, nested, with_depex, with_script, closed, filled, written, at_line, EndsScript, goes_on, outside, Takes, Steps};
 ghost use Rattle.source_words.specs.Script.{AreSaid};
 
 use crate::fault::{Cause, Fault, Stop, TextFault};
 use crate::line::read_line;
-use crate::script::{script_body, with_action, with_block};
+use crate::script::{add_action, add_block, script_body};
 use crate::statement::Statement;
 use crate::volume::{
-    OpenVolume, built_of, depex_type, part_checked, script_checked, with_file, with_last_body,
-    with_name, with_pad, with_section,
+    OpenVolume, add_file, add_pad, add_section, built_of, depex_type, part_checked, script_checked,
+    set_last_body, set_name,
 };
 use act_code::Script;
 use fv_volume::build::{NewSection, VolumeForm};
@@ -60,21 +60,26 @@ fn begun(alloc: Global, statement: &Statement) -> Result<State, Stop>
 }
 
 // The innermost volume as it has become, if it has.
-fn with_top(below: Seq<OpenVolume>, top: Result<OpenVolume, Stop>) -> Result<State, Stop>
-    ensures { result ≡ with_top below top }
+fn with_top(below: Seq<OpenVolume>, top: OpenVolume, done: Result<(), Stop>) -> Result<State, Stop>
+    ensures { result ≡ with_top below top done }
 {
-    match top {
-        Ok(top) => Ok(State::Filling { below, top }),
-        Err(stop) => Err(stop),
+    match done {
+        Ok(()) => Ok(State::Filling { below, top }),
+        Err(stop) => {
+            drop(below);
+            drop(top);
+            Err(stop)
+        }
     }
 }
 
 // A section more in the last file.
-fn filling(below: Seq<OpenVolume>, top: OpenVolume, section: NewSection) -> Result<State, Stop>
+#[tactic(auto, using(crate::proofs::Ending::topped))]
+fn filling(below: Seq<OpenVolume>, mut top: OpenVolume, section: NewSection) -> Result<State, Stop>
     ensures { Gives (λ x. x) result (filling below top section) }
 {
-    let top = with_section(top, section)?;
-    Ok(State::Filling { below, top })
+    let added = add_section(&mut top, section);
+    with_top(below, top, added)
 }
 
 // A volume in the last file begins.
@@ -161,7 +166,7 @@ fn closed(alloc: Global, mut below: Seq<OpenVolume>, top: &OpenVolume) -> Result
 fn filled(
     alloc: Global,
     below: Seq<OpenVolume>,
-    top: OpenVolume,
+    mut top: OpenVolume,
     statement: Statement,
 ) -> Result<State, Stop>
     ensures made { Gives (λ x. x) result (filled below top statement) }
@@ -169,14 +174,26 @@ fn filled(
 {
     match statement {
         Statement::Volume { form, len } => nested(alloc, below, top, form, len),
-        Statement::Name { name } => with_top(below, with_name(top, name)),
-        Statement::Pad { len } => with_top(below, with_pad(alloc, top, len)),
+        Statement::Name { name } => {
+            let named = set_name(&mut top, name);
+            with_top(below, top, named)
+        }
+        Statement::Pad { len } => {
+            let added = add_pad(alloc, &mut top, len);
+            with_top(below, top, added)
+        }
         Statement::File {
             kind,
             name,
             attributes,
-        } => with_top(below, with_file(alloc, top, kind, name, attributes)),
-        Statement::Body { bytes } => with_top(below, with_last_body(top, bytes)),
+        } => {
+            let added = add_file(alloc, &mut top, kind, name, attributes);
+            with_top(below, top, added)
+        }
+        Statement::Body { bytes } => {
+            let filled = set_last_body(&mut top, bytes);
+            with_top(below, top, filled)
+        }
         Statement::Section { kind, body } => filling(below, top, NewSection { kind, body }),
         Statement::Depex { phase, body } => with_depex(below, top, phase, body),
         Statement::Script { phase } => with_script(alloc, below, top, phase),
@@ -186,15 +203,15 @@ fn filled(
     }
 }
 
-// A line of a script, which is not its `end`.
-fn written(alloc: Global, script: Script, statement: &Statement) -> Result<Script, Stop>
-    requires said { AreSaid script }
-    ensures made { Gives (λ x. x) result (written script statement.now) }
-    ensures said { IfOk result AreSaid }
+// Gives a script one more line, which is not its `end`.
+fn write(alloc: Global, script: &mut Script, statement: &Statement) -> Result<(), Stop>
+    requires said { AreSaid script.old }
+    ensures made { Gives (λ _. script.new) result (written script.old statement.now) }
+    ensures said { OnOk result (AreSaid script.new) }
 {
     match statement {
-        Statement::Block => with_block(alloc, script),
-        Statement::Action { line } => with_action(alloc, script, line.as_slice()),
+        Statement::Block => add_block(alloc, script),
+        Statement::Action { line } => add_action(alloc, script, line.as_slice()),
         _ => Err(Stop::Fault(Cause::InScript)),
     }
 }
@@ -234,17 +251,26 @@ fn script_ended(alloc: Global, held: OpenScript, number: u64) -> Result<State, T
         script,
         lines,
     } = held;
-    let body = script_body(alloc, &script, lines.as_slice(), number)?;
-    match filling(below, top, NewSection { kind: RAW, body }) {
-        Ok(state) => Ok(state),
-        Err(stop) => Err(at(number, stop)),
+    let written = script_body(alloc, &script, lines.as_slice(), number);
+    drop(script);
+    drop(lines);
+    match written {
+        Ok(body) => match filling(below, top, NewSection { kind: RAW, body }) {
+            Ok(state) => Ok(state),
+            Err(stop) => Err(at(number, stop)),
+        },
+        Err(fault) => {
+            drop(below);
+            drop(top);
+            Err(fault)
+        }
     }
 }
 
 // A script goes on.
 fn script_goes_on(
     alloc: Global,
-    held: OpenScript,
+    mut held: OpenScript,
     number: u64,
     statement: &Statement,
 ) -> Result<State, TextFault>
@@ -252,15 +278,15 @@ fn script_goes_on(
     ensures made { Answers (λ r. r ≡ goes_on held.below held.top held.script held.lines number statement.now) result }
     ensures said { IfOk result IsSaidState }
 {
-    let OpenScript {
-        below,
-        top,
-        script,
-        mut lines,
-    } = held;
-    match written(alloc, script, statement) {
-        Ok(script) => {
-            lines.push(number)?;
+    match write(alloc, &mut held.script, statement) {
+        Ok(()) => {
+            held.lines.push(number)?;
+            let OpenScript {
+                below,
+                top,
+                script,
+                lines,
+            } = held;
             Ok(State::Writing {
                 below,
                 top,
@@ -268,7 +294,10 @@ fn script_goes_on(
                 lines,
             })
         }
-        Err(stop) => Err(at(number, stop)),
+        Err(stop) => {
+            drop(held);
+            Err(at(number, stop))
+        }
     }
 }
 
@@ -278,10 +307,22 @@ fn outside(alloc: Global, state: State, statement: Statement) -> Result<State, S
     ensures said { IfOk result IsSaidState }
 {
     match state {
-        State::Begin => begun(alloc, &statement),
+        State::Begin => {
+            let begun = begun(alloc, &statement);
+            drop(statement);
+            begun
+        }
         State::Filling { below, top } => filled(alloc, below, top, statement),
-        State::Writing { .. } => Err(Stop::Fault(Cause::InScript)),
-        State::Done { .. } => Err(Stop::Fault(Cause::BehindEnd)),
+        State::Writing { .. } => {
+            drop(state);
+            drop(statement);
+            Err(Stop::Fault(Cause::InScript))
+        }
+        State::Done { .. } => {
+            drop(state);
+            drop(statement);
+            Err(Stop::Fault(Cause::BehindEnd))
+        }
     }
 }
 

@@ -1,7 +1,7 @@
 // What is open behind some lines of a text: volumes, one in a file of the other, and in the last file of the innermost maybe a script.
 ghost use Rattle.std.specs.Prelude.{◌≡◌, ◌<◌, ◌^◌, Ok, IfOk, take};
 ghost use Rattle.volume_text.specs.Reading.{Gives};
-ghost use Rattle.volume_text.specs.Open.{holding, with_bytes, with_section, with_last_body, with_new_file, with_file, pad_file, with_pad, with_name, is_in_range, depex_type, has_part, script_front, is_script_of, has_script, IsLastFile, part_checked, script_checked, stop_of, built_of};
+ghost use Rattle.volume_text.specs.Open.{holding, with_bytes, with_section, with_last_body, with_file, pad_file, with_pad, with_name, is_in_range, depex_type, has_part, script_front, is_script_of, has_script, IsLastFile, part_checked, script_checked, stop_of, built_of};
 
 use crate::fault::{Cause, Stop};
 use crate::word::{is_header, is_length};
@@ -29,97 +29,86 @@ pub struct OpenVolume {
     pub files: Seq<NewFile>,
 }
 
-// A file with one more section, unless its body is bytes.
-fn holding(file: NewFile, section: NewSection) -> Result<NewFile, Stop>
-    ensures { Gives (λ x. x) result (holding section file) }
+// Gives a file one more section, unless its body is bytes.
+fn hold(file: &mut NewFile, section: NewSection) -> Result<(), Stop>
+    ensures { Gives (λ _. file.new) result (holding section file.old) }
 {
-    let NewFile {
-        name,
-        kind,
-        attributes,
-        body,
-    } = file;
-    let Body::Sections(mut sections) = body else {
-        return Err(Stop::Fault(Cause::TwoBodies));
-    };
-    sections.push(section)?;
-    Ok(NewFile {
-        name,
-        kind,
-        attributes,
-        body: Body::Sections(sections),
-    })
+    match &mut file.body {
+        Body::Sections(sections) => {
+            sections.push(section)?;
+            Ok(())
+        }
+        Body::Bytes(_) => Err(Stop::Fault(Cause::TwoBodies)),
+    }
 }
 
-// A file with these bytes as its body, unless it has sections or bytes.
-fn with_bytes(file: NewFile, bytes: Seq<u8>) -> Result<NewFile, Stop>
-    ensures { Gives (λ x. x) result (with_bytes bytes file) }
+// Makes these bytes the body of a file, unless it has sections or bytes.
+fn fill(file: &mut NewFile, bytes: Seq<u8>) -> Result<(), Stop>
+    ensures { Gives (λ _. file.new) result (with_bytes bytes file.old) }
 {
     match &file.body {
         Body::Sections(sections) if sections.is_empty() => {}
         _ => return Err(Stop::Fault(Cause::TwoBodies)),
     }
-    Ok(NewFile {
-        name: file.name,
-        kind: file.kind,
-        attributes: file.attributes,
-        body: Body::Bytes(bytes),
-    })
+    file.body = Body::Bytes(bytes);
+    Ok(())
 }
 
-/// The volume with one more section in its last file.
-#[tactic(auto, using(crate::proofs::Lasts::last_push))]
-pub(crate) fn with_section(mut volume: OpenVolume, section: NewSection) -> Result<OpenVolume, Stop>
-    ensures { Gives (λ x. x) result (with_section volume section) }
+/// Gives the last file of a volume one more section.
+pub(crate) fn add_section(volume: &mut OpenVolume, section: NewSection) -> Result<(), Stop>
+    ensures { Gives (λ _. volume.new) result (with_section volume.old section) }
 {
-    let Some(last) = volume.files.pop() else {
+    let Some(mut last) = volume.files.pop() else {
         return Err(Stop::Fault(Cause::NoFile));
     };
-    let last = holding(last, section)?;
-    volume.files.push(last)?;
-    Ok(volume)
+    match hold(&mut last, section) {
+        Ok(()) => {
+            volume.files.push(last)?;
+            Ok(())
+        }
+        Err(stop) => {
+            drop(last);
+            Err(stop)
+        }
+    }
 }
 
-/// The volume with these bytes as the body of its last file.
-#[tactic(auto, using(crate::proofs::Lasts::last_push))]
-pub(crate) fn with_last_body(mut volume: OpenVolume, bytes: Seq<u8>) -> Result<OpenVolume, Stop>
-    ensures { Gives (λ x. x) result (with_last_body volume bytes) }
+/// Makes these bytes the body of the last file of a volume.
+pub(crate) fn set_last_body(volume: &mut OpenVolume, bytes: Seq<u8>) -> Result<(), Stop>
+    ensures { Gives (λ _. volume.new) result (with_last_body volume.old bytes) }
 {
-    let Some(last) = volume.files.pop() else {
+    let Some(mut last) = volume.files.pop() else {
         return Err(Stop::Fault(Cause::NoFile));
     };
-    let last = with_bytes(last, bytes)?;
-    volume.files.push(last)?;
-    Ok(volume)
+    match fill(&mut last, bytes) {
+        Ok(()) => {
+            volume.files.push(last)?;
+            Ok(())
+        }
+        Err(stop) => {
+            drop(last);
+            Err(stop)
+        }
+    }
 }
 
-// The volume with one more file.
-fn with_new_file(mut volume: OpenVolume, file: NewFile) -> Result<OpenVolume, Stop>
-    ensures { Gives (λ x. x) result (Ok (with_new_file volume file)) }
-{
-    volume.files.push(file)?;
-    Ok(volume)
-}
-
-/// The volume with one more file, which has no section yet.
-pub(crate) fn with_file(
+/// Gives a volume one more file, which has no section yet.
+pub(crate) fn add_file(
     alloc: Global,
-    volume: OpenVolume,
+    volume: &mut OpenVolume,
     kind: u8,
     name: Guid,
     attributes: FileAttributes,
-) -> Result<OpenVolume, Stop>
-    ensures { Gives (λ x. x) result (Ok (with_file volume kind name attributes)) }
+) -> Result<(), Stop>
+    ensures { Gives (λ _. volume.new) result (Ok (with_file volume.old kind name attributes)) }
 {
-    with_new_file(
-        volume,
-        NewFile {
-            name,
-            kind,
-            attributes,
-            body: Body::Sections(Seq::new(alloc)),
-        },
-    )
+    volume.files.push(NewFile {
+        name,
+        kind,
+        attributes,
+        body: Body::Sections(Seq::new(alloc)),
+    })?;
+    Ok(())
 }
 
 // A pad file with so many bytes of body.
@@ -137,17 +126,18 @@ fn pad_file(alloc: Global, len: u64) -> Result<NewFile, OutOfMemory>
     }
 }
 
-/// The volume with one more pad file.
-pub(crate) fn with_pad(alloc: Global, volume: OpenVolume, len: u64) -> Result<OpenVolume, Stop>
-    ensures { Gives (λ x. x) result (Ok (with_pad volume len)) }
+/// Gives a volume one more pad file.
+pub(crate) fn add_pad(alloc: Global, volume: &mut OpenVolume, len: u64) -> Result<(), Stop>
+    ensures { Gives (λ _. volume.new) result (Ok (with_pad volume.old len)) }
 {
     let file = pad_file(alloc, len)?;
-    with_new_file(volume, file)
+    volume.files.push(file)?;
+    Ok(())
 }
 
-/// The volume with this name, if it has none yet and its header ends in front of it.
-pub(crate) fn with_name(volume: OpenVolume, name: VolumeName) -> Result<OpenVolume, Stop>
-    ensures { Gives (λ x. x) result (with_name volume name) }
+/// Gives a volume this name, if it has none yet and its header ends in front of it.
+pub(crate) fn set_name(volume: &mut OpenVolume, name: VolumeName) -> Result<(), Stop>
+    ensures { Gives (λ _. volume.new) result (with_name volume.old name) }
 {
     if volume.name.is_some() {
         return Err(Stop::Fault(Cause::TwoNames));
@@ -155,10 +145,8 @@ pub(crate) fn with_name(volume: OpenVolume, name: VolumeName) -> Result<OpenVolu
     if !is_placed(&volume.form, Some(name)) {
         return Err(Stop::Fault(Cause::Range));
     }
-    Ok(OpenVolume {
-        name: Some(name),
-        ..volume
-    })
+    volume.name = Some(name);
+    Ok(())
 }
 
 /// The type of the section with the expression for a phase.

@@ -1,5 +1,5 @@
 //! A volume of many modules, from their number (own).
-ghost use Rattle.std.specs.Prelude.{◌≡◌, ◌<◌, ◌≤◌, ◌++◌, OnOk, IfOk, IfErr, length, true};
+ghost use Rattle.std.specs.Prelude.{◌≡◌, ◌<◌, ◌≤◌, ◌++◌, OnOk, IfOk, IfErr, length};
 ghost use Rattle.act_code.specs.Script.{script_bytes};
 ghost use Rattle.fv_volume.specs.declared.build.fault.BuildFault.TheVariants.{Memory};
 ghost use Rattle.fv_volume.specs.Generated.{numbered, installs, memory_said, actions_of, script_of, waits_for, expression_of, module_of, generated_files, generated};
@@ -66,10 +66,13 @@ fn add_install(
     actions.push(Action::Install { list })
 }
 
-// Adds the actions that say where permanent memory is.
-fn add_memory(actions: &mut Seq<Action>) -> Result<(), OutOfMemory>
-    ensures { OnOk result (actions.new ≡ actions.old ++ memory_said true) }
+// Adds the actions of the first module that say where permanent memory is.
+fn add_memory(actions: &mut Seq<Action>, first: bool) -> Result<(), OutOfMemory>
+    ensures { OnOk result (actions.new ≡ actions.old ++ memory_said first) }
 {
+    if !first {
+        return Ok(());
+    }
     actions.push(Action::Set {
         r: 2,
         n: MEMORY_BASE,
@@ -84,23 +87,24 @@ fn add_memory(actions: &mut Seq<Action>) -> Result<(), OutOfMemory>
     })
 }
 
-// The actions of module i.
-fn actions(alloc: Global, first: bool, last: bool, i: u32) -> Result<Seq<Action>, OutOfMemory>
+// Adds the actions of module i.
+fn add_actions(
+    actions: &mut Seq<Action>,
+    first: bool,
+    last: bool,
+    i: u32,
+) -> Result<(), OutOfMemory>
     requires { i < MOST_MODULES }
-    ensures { IfOk result (λ actions. actions ≡ actions_of first last i) }
+    ensures { OnOk result (actions.new ≡ actions.old ++ actions_of first last i) }
 {
-    let mut actions = Seq::new(alloc);
-    add_install(&mut actions, 0, 1, numbered(PPIS, i), u64::from(i))?;
-    if first {
-        add_memory(&mut actions)?;
-    }
+    add_install(actions, 0, 1, numbered(PPIS, i), u64::from(i))?;
+    add_memory(actions, first)?;
     if last {
-        add_install(&mut actions, 4, 5, DXE_IPL_PPI, 0)?;
+        add_install(actions, 4, 5, DXE_IPL_PPI, 0)?;
     }
     actions.push(Action::Ret {
         status: Word::Success,
-    })?;
-    Ok(actions)
+    })
 }
 
 // The script of module i.
@@ -108,14 +112,18 @@ fn script(alloc: Global, first: bool, last: bool, i: u32) -> Result<Seq<u8>, Out
     requires { i < MOST_MODULES }
     ensures { IfOk result (λ text. text ≡ script_bytes (script_of first last i)) }
 {
+    let mut actions = Seq::new(alloc);
+    add_actions(&mut actions, first, last, i)?;
     let mut blocks = Seq::new(alloc);
-    blocks.push(actions(alloc, first, last, i)?)?;
+    blocks.push(actions)?;
     let script = Script {
         phase: Phase::Pei,
         blocks,
     };
+    let written = write_script(alloc, &script);
+    drop(script);
     // It is far below the longest script, so memory alone can be wanting.
-    match write_script(alloc, &script) {
+    match written {
         Ok(text) => Ok(text),
         Err(_) => Err(OutOfMemory),
     }

@@ -1,7 +1,5 @@
 // The line of an action.
 ghost use Rattle.std.specs.Prelude.{◌≡◌, IfOk};
-ghost use Rattle.std.specs.List.{list_all};
-ghost use Rattle.act_code.specs.Format.{is_within};
 ghost use Rattle.source_words.specs.Words.{words};
 ghost use Rattle.source_words.specs.Reading.{Gives};
 ghost use Rattle.source_words.specs.Operands.{operands_at};
@@ -13,7 +11,7 @@ use crate::script::line::{behind_blank, unindented};
 use crate::script::operand::ended;
 use crate::script::word::word;
 use crate::script::word_source::Words;
-use act_code::{Action, Code, read_operands};
+use act_code::{Action, Code, are_printable, read_operands};
 use asm_text::code_named;
 use pi_base::{Phase, Seq};
 use std::alloc::Global;
@@ -46,20 +44,6 @@ fn code_of_name(phase: Phase, name: &[u8]) -> Result<Code, Stop>
         Some(_) => Err(Stop::Fault(LineFault::OtherPhase)),
         None => Err(Stop::Fault(LineFault::UnknownAction)),
     }
-}
-
-// Whether a byte is printable.
-fn is_printable(byte: u8) -> bool
-    ensures { result ≡ is_within 32 126 byte }
-{
-    b' ' <= byte && byte <= b'~'
-}
-
-// Whether all bytes are printable.
-fn are_printable(text: &[u8]) -> bool
-    ensures { result ≡ list_all (is_within 32 126) text.now }
-{
-    text.iter().all(|byte| is_printable(*byte))
 }
 
 // Whether a text can be logged.

@@ -1,6 +1,6 @@
 // The lists among operands, and HOBs. A reader gives a value and the words behind it.
 ghost use Rattle.std.specs.Prelude.{◌≡◌};
-ghost use Rattle.act_code.specs.Format.{is_within, is_hob};
+ghost use Rattle.act_code.specs.Format.{is_within};
 ghost use Rattle.source_words.specs.Words.{words};
 ghost use Rattle.source_words.specs.Reading.{Gives};
 ghost use Rattle.source_words.specs.Operands.{registers_within};
@@ -43,18 +43,4 @@ pub(crate) fn few_registers(alloc: Global, text: &[u8]) -> Result<Seq<u8>, Stop>
         }
     }
     Ok(list)
-}
-
-/// Whether a script may make a HOB of a type with so long a body.
-pub(crate) fn is_hob(kind: u8, len: usize) -> bool
-    ensures { result ≡ is_hob kind len }
-{
-    match kind {
-        3 => len == 40,
-        4 => 16 <= len && len <= 1024,
-        5 => len == 16,
-        6 => len == 8,
-        9 => len == 48,
-        _ => false,
-    }
 }

@@ -1,11 +1,8 @@
 // Scripts whose lines are read one by one.
 ghost use Rattle.std.specs.Prelude.{◌≡◌, ◌≤◌, [], length, IfOk, IfErr, IfSome};
-ghost use Rattle.act_code.specs.ScriptReading.{ends_in_ret};
-ghost use Rattle.act_code.specs.Index.{has_room};
-ghost use Rattle.source_words.specs.Script.{AreSaid, IsUnfit, IsWhole, names_below, action_cause, action_causes, may_end, block_cause, block_causes, end_cause, causes_behind, first_fault};
+ghost use Rattle.source_words.specs.Script.{AreSaid, IsUnfit, IsWhole, action_cause, action_causes, may_end, block_cause, block_causes, end_cause, causes_behind, first_fault};
 
-use act_code::descriptor_kind::PPI;
-use act_code::{Action, Script, WriteFault, is_ret, write_script};
+use act_code::{Action, Script, WriteFault, ends_in_ret, has_room, names_below, write_script};
 use pi_base::Seq;
 use std::alloc::Global;
 use std::fmt::{self, Display, Formatter};
@@ -47,43 +44,6 @@ pub enum ScriptFault {
     TooLong,
     /// Want of memory.
     Memory,
-}
-
-// Whether the last action is a ret.
-fn ends_in_ret(actions: &[Action]) -> bool
-    ensures { result ≡ ends_in_ret actions.now }
-{
-    match actions {
-        [.., last] => is_ret(last),
-        [] => false,
-    }
-}
-
-// Whether an action has what it skips behind it and one more, where so many are left with itself.
-fn has_room(action: &Action, left: usize) -> bool
-    ensures { result ≡ has_room left action.now }
-{
-    match action {
-        Action::SkipIf { n, .. } => usize::from(*n) + 2 <= left,
-        _ => true,
-    }
-}
-
-// Whether an action names only blocks below a number.
-fn names_below(action: &Action, count: usize) -> bool
-    ensures { result ≡ names_below count action.now }
-{
-    match action {
-        Action::Desc { kind, arg, .. } => {
-            if *kind == PPI {
-                true
-            } else {
-                usize::from(*arg) < count
-            }
-        }
-        Action::DxeNotify { block, .. } => usize::from(*block) < count,
-        _ => true,
-    }
 }
 
 // What is wrong with an action behind so many others of its block, where so many are left with itself.

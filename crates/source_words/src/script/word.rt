@@ -40,8 +40,8 @@ pub(crate) fn word(text: &[u8]) -> Result<(&[u8], &[u8]), Stop>
 pub(crate) fn register_of(word: &[u8]) -> Option<u8>
     ensures { result ≡ register_of word.now }
 {
-    match word {
-        [b'r', digits @ ..] => match number_of(digits) {
+    match word.split_first() {
+        Some((b'r', digits)) => match number_of(digits) {
             Some(r) if r < REGISTERS => Some(r as u8),
             _ => None,
         },

@@ -1,9 +1,9 @@
 // The words of a line as a source of operands.
 use crate::script::fault::{LineFault, Stop};
-use crate::script::list::{MOST_BYTES, are_few, few_registers, is_hob};
+use crate::script::list::{MOST_BYTES, are_few, few_registers};
 use crate::script::operand::{block, guid, guid_arg, last, register, small, small_of};
 use crate::script::word::{bytes, kind_of, status_of, word};
-use act_code::{Code, GuidArg, Source};
+use act_code::{Code, GuidArg, Source, is_hob};
 use line_words::number_of;
 use pi_base::{Guid, Seq, Word};
 use std::alloc::Global;

@@ -27,7 +27,7 @@ lines-preserved c =
     let i = c.lines.invariant in
     let l = c.in-Some.line.now in (
       i.0 ++ l ∷ [],
-      reached_more c.args.phase i.0 c.lines.draft c.in-Ok.next l i.1 c.in-Some.ensures.1 c.in-Ok.ensures,
+      reached_more c.args.phase i.0 c.lines.draft c.add_line.new.draft l i.1 c.in-Some.ensures.1 c.in-Ok.ensures,
       text_more c.args.phase i.0 _ c.lines.rest.now l c.in-Some.after.now i.2 c.in-Some.ensures.0,
       omega (arith, i.3, length-append i.0 (l ∷ [])),
     )

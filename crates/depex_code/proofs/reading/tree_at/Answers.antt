@@ -1,7 +1,10 @@
-use Rattle.std.proofs.Common.{length, arith, ap}
+use Rattle.std.proofs.Common.{◌≡◌, length, arith, ap, inl, inr}
+use Rattle.std.specs.Prelude.{◌⊎◌}
 use Rattle.std.proofs.lemmas.List.{length_push}
-use Rattle.depex_code.proofs.TreeWalk.{more_read, left-le, place-near, tree_read, is_read}
+use Rattle.depex_code.proofs.TreeWalk.{more_read, left-le, place-near, tree_read, is_read, is_stuck}
+use Rattle.depex_code.specs.Reading.{instruction_at, BlocksAt}
 use Rattle.depex_code.proofs.reading.tree_at.Goals as goal
+use Rattle.depex_code.proofs.reading.tree_at.Goals.{else-opcodes-test, then-opcodes-test+in-Stuck}
 
 pub opcodes-preserved : goal.opcodes-preserved
 opcodes-preserved c =
@@ -27,5 +30,8 @@ malformed-requires-clause-part c = left-le c.args.bytes.now c.opcodes.code c.opc
 pub malformed-requires-clause-near : goal.malformed-requires-clause-near
 malformed-requires-clause-near c = omega (arith, place-near c.args.bytes.now c.opcodes.code c.opcodes.depth c.opcodes.rest.now c.opcodes.invariant.read)
 
-pub malformed-requires-2-clause-near : goal.malformed-requires-2-clause-near
-malformed-requires-2-clause-near c = omega (arith, place-near c.args.bytes.now c.opcodes.code c.opcodes.depth c.opcodes.rest.now c.opcodes.invariant.read)
+pub returns-clause-refused : goal.returns-clause-refused
+returns-clause-refused c =
+    let stops : BlocksAt c.opcodes.depth (instruction_at c.opcodes.rest.now) ⊎ (length c.opcodes.code ≡ c.args.room) =
+    elim c.opcodes-test.branch [ else-opcodes-test w ↦ inr (omega arith) | then-opcodes-test+in-Stuck w ↦ inl w.in-Stuck.ensures ] in
+    rw c.malformed.ensures (is_stuck c.args.bytes.now c.opcodes.code c.opcodes.depth c.opcodes.rest.now c.args.from c.args.room c.opcodes.invariant.read c.opcodes.invariant.few stops)

@@ -1,5 +1,7 @@
-use Rattle.std.proofs.Common.{◌≡◌, ◌++◌, ◌∷◌, [], sym, ap, ◌∙◌, arith, length-append}
+use Rattle.std.proofs.Common.{length, ◌≡◌, ◌++◌, ◌∷◌, [], sym, ap, ◌∙◌, arith, length-append}
+use Rattle.fv_volume.specs.declared.file.FfsFile.{FfsFile}
 use Rattle.fv_volume.specs.Item.{listed_of}
+use Rattle.fv_volume.specs.Search.{met_at}
 use Rattle.fv_volume.proofs.Searches.{leads_more, files_more, step}
 use Rattle.fv_volume.proofs.search.files_of.Goals as goal
 
@@ -31,3 +33,14 @@ search-preserved c =
       few = rw listed (omega (arith, length-append c.search.files (listed_of item.kind), met.few, c.len.ensures));
       within = omega (arith, met.lies.ends, c.aligned-at.ensures);
     }
+
+pub returns-in-Err-clause-refused : goal.returns-in-Err-clause-refused
+returns-in-Err-clause-refused c other =
+    let path = c.search.invariant.path in
+    let counted = c.len.ensures ∙ ap (length {A = FfsFile}) path.2 in (
+      path.0,
+      path.1,
+      rw path.2 at c.search.invariant.few,
+      sym c.ends_at.ensures ∙ c.search-test.true,
+      ap (λ n. met_at c.args.image.now c.args.frame.now.format n c.search.at) (sym counted) ∙ sym c.in-Err.ensures,
+    )

@@ -1,4 +1,4 @@
-use Rattle.std.proofs.Common.{◌≡◌, ◌+◌, ◌-◌, ◌≤◌, length, ap, ◌∙◌, arith, length-append}
+use Rattle.std.proofs.Common.{◌≡◌, ◌+◌, ◌-◌, length, ap, ◌∙◌, arith, length-append}
 use Rattle.fv_volume.specs.Building.{files_bytes}
 use Rattle.fv_volume.specs.Front.{front_len}
 use Rattle.fv_volume.proofs.VolumesRead.{sound}

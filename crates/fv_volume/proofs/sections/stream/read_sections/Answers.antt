@@ -1,5 +1,6 @@
-use Rattle.std.proofs.Common.{◌≡◌, ◌+◌, ◌≤◌, ◌++◌, ◌∷◌, [], sym, arith, length, length-append}
+use Rattle.std.proofs.Common.{◌≡◌, ◌+◌, ◌≤◌, ◌++◌, ◌∷◌, [], sym, ap, ◌∙◌, arith, length, length-append}
 use Rattle.std.proofs.lemmas.List.Elements.{All-push}
+use Rattle.fv_volume.specs.Stream.{met_at}
 use Rattle.fv_volume.proofs.Streams.{leads_more, met_ok, section_lies}
 use Rattle.fv_volume.proofs.sections.stream.read_sections.Goals as goal
 
@@ -18,3 +19,11 @@ stream-preserved c =
       inside = rw pushed (All-push (λ s. s.body_at + s.body_len ≤ length bytes) sections section c.stream.invariant.inside lies.ends);
       within = omega (arith, lies.ends, c.aligned-at.ensures);
     }
+
+pub returns-in-Err-clause-refused : goal.returns-in-Err-clause-refused
+returns-in-Err-clause-refused c other =
+    let faulty = ap (λ n. met_at c.args.bytes.now n c.stream.at) (sym c.len.ensures) ∙ sym c.in-Err.ensures in
+    (c.stream.sections, c.stream.invariant.leads, c.stream.invariant.few, c.stream-test.true, faulty)
+
+pub returns-clause-found : goal.returns-clause-found
+returns-clause-found c = (c.stream.at, c.stream.invariant.leads, omega (arith, c.stream-test.false), c.stream.invariant.few)

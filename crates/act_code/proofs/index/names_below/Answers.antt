@@ -1,7 +1,7 @@
 use Rattle.std.proofs.Common.{◌≡◌, Bool, true, false, refl, eqb, arith}
 use Rattle.std.specs.Prelude.{◌&&◌, nat_lt}
 use Rattle.std.proofs.lemmas.Bool.Decides.{nat_tests}
-use Rattle.asm_text.proofs.draft.names_below.Goals as goal
+use Rattle.act_code.proofs.index.names_below.Goals as goal
 
 and_true : (test : Bool) → test ≡ (test && true)
 and_true true = refl

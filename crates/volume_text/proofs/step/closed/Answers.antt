@@ -1,0 +1,14 @@
+use Rattle.std.proofs.Common.{ℕ, List, Result, sym, ap, ◌∙◌, subst}
+use Rattle.volume_text.specs.declared.step.State.{State}
+use Rattle.volume_text.specs.declared.fault.Cause.{Cause}
+use Rattle.volume_text.specs.Reading.{◌>>=◌, Gives}
+use Rattle.volume_text.specs.Step.{last_volume, closed_in}
+use Rattle.volume_text.proofs.Lasts.{last_push}
+use Rattle.volume_text.proofs.step.closed.Goals as goal
+
+pub returns-in-Some : goal.returns-in-Some
+returns-in-Some c =
+    let bytes = c.in_ok-bytes.bytes in
+    let last = ap last_volume c.in-Some.ensures.last ∙ last_push c.pop.new.self c.in-Some.top in
+    let all = ap (λ (r : Result (List ℕ) Cause). r >>= (λ body. closed_in body (last_volume c.args.below))) c.in_ok-bytes.ensures ∙ ap (closed_in bytes) last in
+    subst (λ (r : Result State Cause). Gives (λ x. x) c.filling.result r) (sym all) c.filling.ensures
