@@ -1,5 +1,5 @@
 -- What holds of each item holds of the one that is found.
-use Rattle.std.proofs.Common.{◌≡◌, ℕ, suc, Bool, true, false, cond, List, [], ◌∷◌, find, All, Some, subst, arith}
+use Rattle.std.proofs.Common.{◌≡◌, suc, Bool, true, false, cond, List, [], ◌∷◌, find, All, Some, subst, arith}
 
 pub found_holds : {A : Type 0} (P : A → Type 0) (test : A → Bool) (xs : List A) (x : A) → All P xs → find test xs ≡ Some x → P x
 found_holds P test [] x all e = absurd cc

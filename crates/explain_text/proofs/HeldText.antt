@@ -206,3 +206,15 @@ pub all_put : {X : Type 0} (text : X → List ℕ) (xs : List X) (i : ℕ) (out 
     → new ≡ out ++ flat_map spaced (or_dash (map text xs))
 all_put text [] i out new some all before = absurd cc
 all_put text (x ∷ xs) i out new some all before = before ∙ ap (λ l. out ++ flat_map spaced (map text l)) (take_all i (x ∷ xs) all)
+
+-- a module and whether it started, one word after the other
+pub pair_added : (started : ℕ → Bool) (number : ℕ) (old mid new : List ℕ) → mid ≡ old ++ spaced (decimal number) → new ≡ mid ++ spaced (word_of (cond (started number) K.Started K.Waits))
+    → new ≡ old ++ flat_map spaced (pair_words started number)
+pair_added started number old mid new e f =
+    let first = spaced (decimal number) in
+    let second = spaced (word_of (cond (started number) K.Started K.Waits)) in
+    f ∙ ap (λ t. t ++ second) e ∙ append_assoc old first second ∙ ap (λ t. old ++ (first ++ t)) (sym (append-nil second))
+
+-- what is added behind what was added before
+pub next_added : (old mid new x y : List ℕ) → mid ≡ old ++ x → new ≡ mid ++ y → new ≡ old ++ (x ++ y)
+next_added old mid new x y e f = f ∙ ap (λ t. t ++ y) e ∙ append_assoc old x y

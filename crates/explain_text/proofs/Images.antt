@@ -1,7 +1,6 @@
 -- Volumes for which no image is left.
-use Rattle.std.proofs.Common.{◌≡◌, ℕ, ◌<◌, List, [], ◌∷◌, ◌++◌, length, Option, Some, None, refl, ap, ◌∙◌, arith}
+use Rattle.std.proofs.Common.{◌≡◌, ℕ, ◌<◌, List, [], ◌∷◌, ◌++◌, length, Option, Some, None, refl, ap, arith}
 use Rattle.mod_catalog.specs.declared.catalogue.VolumeEntry.{VolumeEntry}
-use Rattle.phys_mem.specs.declared.rom.Rom.{Rom}
 use Rattle.boot_model.specs.PlanBoard.{roms_of, mapped, left_by}
 use Rattle.explain_text.specs.Mapped.{mapped_from}
 

@@ -10,3 +10,4 @@ mod FirstFound
 mod Images
 mod Names
 mod OneTitle
+mod FileBytes

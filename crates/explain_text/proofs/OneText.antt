@@ -1,5 +1,5 @@
 -- Modules have one list of names.
-use Rattle.std.proofs.Common.{◌≡◌, ℕ, List, [], ◌∷◌, Option, refl, ap, ◌∙◌}
+use Rattle.std.proofs.Common.{◌≡◌, List, [], ◌∷◌, refl, ap, ◌∙◌}
 use Rattle.pi_base.specs.Lists.{EachPair}
 
 pub one_list : {A B : Type 0} (R : A → B → Type 0) → ((a : A) (x y : B) → R a x → R a y → x ≡ y) → (items : List A) (xs ys : List B) → EachPair R items xs → EachPair R items ys → xs ≡ ys

@@ -1,7 +1,7 @@
 -- The GUIDs of what a script may install. In PEI a script installs descriptors; those that it makes name their GUIDs, or read them in a volume, and one that it was handed was installed before.
 -- In DXE an action that installs an interface, also in the place of another, names its protocol.
 -- PI 1.8, volume 1, `InstallPpi()` and `ReinstallPpi()`; UEFI, `InstallProtocolInterface()`; the actions are own.
-use Rattle.std.specs.Prelude.{◌≡◌, ℕ, Bool, true, false, ◌==◌, if◌then◌else◌, List, flat_map, Option, Some, None, is_some}
+use Rattle.std.specs.Prelude.{◌≡◌, Bool, true, false, ◌==◌, if◌then◌else◌, List, flat_map, Option, Some, None, is_some}
 use Rattle.std.specs.List.{list_any}
 use Rattle.std.specs.Option.{option_to_list}
 use Rattle.pi_base.specs.declared.guid.Guid.{Guid}

@@ -5,7 +5,6 @@ use Rattle.hex.specs.Hex.{encode_lower}
 use Rattle.boot_io.specs.Line.{line_of}
 use Rattle.pi_base.specs.WordText.{guid_text}
 use Rattle.pi_base.specs.Lists.{EachPair}
-use Rattle.pi_base.specs.declared.guid.Guid.{Guid}
 use Rattle.pi_base.specs.declared.phase.Phase.{Phase}
 use Rattle.pi_base.specs.declared.phase.Phase.TheVariants.{Pei, Dxe}
 use Rattle.act_code.specs.declared.script.Script.{Script}
@@ -18,20 +17,10 @@ use Rattle.mod_catalog.specs.declared.catalogue.VolumeEntry.{VolumeEntry}
 use Rattle.explain_text.specs.Name.{title_word}
 use Rattle.explain_text.specs.Title.{IsTitle}
 use Rattle.explain_text.specs.Gives.{given_in, gives_any}
+use Rattle.explain_text.specs.Words.{word_of}
+use Rattle.explain_text.specs.declared.keyword.Keyword.TheVariants as K
 
--- the first words of the lines, and the word of a phase
-unfoldable pub module_text : List ℕ
-module_text = codes "module"
-
-unfoldable pub expr_keyword : List ℕ
-expr_keyword = codes "expr"
-
-unfoldable pub gives_text : List ℕ
-gives_text = codes "gives"
-
-unfoldable pub any_text : List ℕ
-any_text = codes "any"
-
+-- the word of a phase
 unfoldable pub phase_text : Phase → List ℕ
 phase_text Pei = codes "pei"
 phase_text Dxe = codes "dxe"
@@ -48,20 +37,20 @@ expr_text (Held expression) = expression_text expression
 
 -- the line of a module with its name
 abbrev pub module_line : ℕ → Module → Option (List ℕ) → List ℕ
-module_line number m title = line_of module_text (decimal number ∷ decimal m.volume ∷ guid_text m.name ∷ encode_lower (m.kind ∷ []) ∷ title_word title ∷ [])
+module_line number m title = line_of (word_of K.Module) (decimal number ∷ decimal m.volume ∷ guid_text m.name ∷ encode_lower (m.kind ∷ []) ∷ title_word title ∷ [])
 
 -- the line of a part's expression
 abbrev pub expr_line : ℕ → Phase → PartExpr → List ℕ
-expr_line number phase expr = line_of expr_keyword (decimal number ∷ phase_text phase ∷ expr_text expr ∷ [])
+expr_line number phase expr = line_of (word_of K.Expr) (decimal number ∷ phase_text phase ∷ expr_text expr ∷ [])
 
 -- the line of a GUID that a part's script may install
 abbrev pub gives_line : ℕ → Phase → List ℕ → List ℕ
-gives_line number phase word = line_of gives_text (decimal number ∷ phase_text phase ∷ word ∷ [])
+gives_line number phase word = line_of (word_of K.Gives) (decimal number ∷ phase_text phase ∷ word ∷ [])
 
 -- those of all that it names, and last one where it may install what it does not name
 abbrev pub gives_lines : ℕ → Phase → Script → List ℕ
 gives_lines number phase script =
-    flat_map (λ guid. gives_line number phase (guid_text guid)) (given_in script) ++ (if gives_any script then gives_line number phase any_text else [])
+    flat_map (λ guid. gives_line number phase (guid_text guid)) (given_in script) ++ (if gives_any script then gives_line number phase (word_of K.Any) else [])
 
 -- the lines of a part
 abbrev pub part_lines : ℕ → Phase → Option Part → List ℕ

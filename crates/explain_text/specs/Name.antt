@@ -1,6 +1,6 @@
 -- The name in a user interface section, and the word that shows it. The text is of UTF-16 code units and ends with a null; what stands behind the first null is no part of the name.
 -- PI 1.8, volume 3, `EFI_SECTION_USER_INTERFACE`; the word is own.
-use Rattle.std.specs.Prelude.{ℕ, ◌/◌, ◌%◌, Bool, ◌&&◌, ◌==◌, not, nat_le, if◌then◌else◌, List, [], ◌∷◌, ◌++◌, codes, flat_map, Option, Some, None, option_map}
+use Rattle.std.specs.Prelude.{ℕ, ◌/◌, ◌%◌, Bool, ◌&&◌, ◌==◌, not, nat_le, if◌then◌else◌, List, [], ◌∷◌, flat_map, Option, Some, None, option_map}
 use Rattle.hex.specs.Hex.{encode_lower}
 
 -- the code units before the first null; none where there is no null

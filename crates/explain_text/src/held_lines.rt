@@ -1,16 +1,13 @@
 // The lines of the modules that wait.
-ghost use Rattle.std.specs.Prelude.{◌≡◌, ◌++◌, ◌∷◌, [], ℕ, List, decimal, flat_map, map, OnOk};
+ghost use Rattle.std.specs.Prelude.{◌≡◌, ◌++◌, ℕ, List, flat_map, map, OnOk};
 ghost use Rattle.boot_io.specs.Line.{spaced};
 ghost use Rattle.pi_base.specs.WordText.{guid_text};
 ghost use Rattle.mod_catalog.specs.declared.catalogue.Module.{Module as OfModule};
 ghost use Rattle.explain_text.specs.declared.reasons.Begun.{Begun as Start};
-ghost use Rattle.explain_text.specs.Fronts.{front_of};
-ghost use Rattle.explain_text.specs.declared.keyword.Keyword.TheVariants as K;
-ghost use Rattle.explain_text.specs.Words.{word_of};
 ghost use Rattle.explain_text.specs.Context.{AreContexts, IsContext};
 ghost use Rattle.explain_text.specs.Flags.{flag};
 ghost use Rattle.explain_text.specs.Givers.{Chain};
-ghost use Rattle.explain_text.specs.HeldLines.{core_gives, has_line, held_lines, lacks_line, lacks_words, need_line, or_dash, pair_words, told_words, waits_line, with_core, would_lines};
+ghost use Rattle.explain_text.specs.HeldLines.{core_gives, has_line, held_lines, lacks_line, lacks_words, need_line, or_dash, pair_words, told_words, waits_line, would_lines};
 
 use crate::catalog::{end_line, phase_word, put_front, put_line, put_word};
 use crate::context::Context;
@@ -71,45 +68,7 @@ fn put_told(
     }
 }
 
-// Adds the core, which waits, and modules.
-fn put_core(
-    out: &mut Seq<u8>,
-    started: &[bool],
-    links: &[Link],
-    first: Option<usize>,
-) -> Result<(), OutOfMemory>
-    ensures { (numbers : List ℕ) → Chain links.now first numbers
-        → OnOk result (out.new ≡ out.old ++ flat_map spaced (with_core (told_words (flag started.now) numbers))) }
-{
-    put_word(out, word_of(Keyword::Core))?;
-    put_word(out, word_of(Keyword::Waits))?;
-    put_told(out, started, links, first)?;
-    Ok(())
-}
-
-// Adds modules, or a dash where there is none.
-fn put_modules(
-    out: &mut Seq<u8>,
-    started: &[bool],
-    links: &[Link],
-    first: Option<usize>,
-) -> Result<(), OutOfMemory>
-    ensures { (numbers : List ℕ) → Chain links.now first numbers
-        → OnOk result (out.new ≡ out.old ++ flat_map spaced (or_dash (told_words (flag started.now) numbers))) }
-{
-    match link_at(links, first) {
-        None => {
-            put_word(out, word_of(Keyword::Dash))?;
-            Ok(())
-        }
-        Some(_) => {
-            put_told(out, started, links, first)?;
-            Ok(())
-        }
-    }
-}
-
-// Adds who may install a GUID.
+// Adds who may install a GUID: the core, which waits, in front of modules, or a dash where there is nobody.
 fn put_givers(
     out: &mut Seq<u8>,
     context: &Context,
@@ -123,24 +82,14 @@ fn put_givers(
     let links = context.givers.links.as_slice();
     let first = context.givers.first.get(guid);
     if core_gives(phase, guid) {
-        put_core(out, started, links, first)?;
-        Ok(())
-    } else {
-        put_modules(out, started, links, first)?;
-        Ok(())
+        put_word(out, word_of(Keyword::Core))?;
+        put_word(out, word_of(Keyword::Waits))?;
+        return put_told(out, started, links, first);
     }
-}
-
-// Adds the front of the line of a GUID that is not there.
-fn put_lacking(out: &mut Seq<u8>, number: u32, guid: &Guid) -> Result<(), OutOfMemory>
-    ensures { OnOk result (out.new
-        ≡ out.old ++ front_of (word_of K.Lacks) (decimal number ∷ guid_text guid.now ∷ [])) }
-{
-    put_front(
-        out,
-        word_of(Keyword::Lacks),
-        &[decimal_word(u64::from(number)).as_slice(), &guid.to_text()],
-    )
+    match link_at(links, first) {
+        Some(_) => put_told(out, started, links, first),
+        None => put_word(out, word_of(Keyword::Dash)),
+    }
 }
 
 // The line of a GUID that is not there.
@@ -154,10 +103,13 @@ fn put_lacks(
     ensures { (begun : List Start) (modules : List OfModule) → IsContext begun modules phase context.now
         → OnOk result (out.new ≡ out.old ++ lacks_line begun modules phase number guid.now) }
 {
-    put_lacking(out, number, guid)?;
+    put_front(
+        out,
+        word_of(Keyword::Lacks),
+        &[decimal_word(u64::from(number)).as_slice(), &guid.to_text()],
+    )?;
     put_givers(out, context, phase, guid)?;
-    end_line(out)?;
-    Ok(())
+    end_line(out)
 }
 
 // The line of a GUID that somebody has installed.

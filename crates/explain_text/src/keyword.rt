@@ -22,6 +22,10 @@ pub(crate) enum Keyword {
     Scheduled,
     Unreported,
     Undiscovered,
+    Module,
+    Expr,
+    Gives,
+    Any,
     Dash,
 }
 
@@ -48,6 +52,10 @@ pub(crate) fn word_of(word: Keyword) -> &'static [u8]
         Keyword::Scheduled => b"scheduled",
         Keyword::Unreported => b"unreported",
         Keyword::Undiscovered => b"undiscovered",
+        Keyword::Module => b"module",
+        Keyword::Expr => b"expr",
+        Keyword::Gives => b"gives",
+        Keyword::Any => b"any",
         Keyword::Dash => b"-",
     }
 }

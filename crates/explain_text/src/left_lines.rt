@@ -17,7 +17,7 @@ use pi_base::{OutOfMemory, Phase, Seq};
 fn has_number(list: &[u32], number: u32) -> bool
     ensures { result ≡ has_number list.now number }
 {
-    list.iter().any(|other| *other == number)
+    list.contains(&number)
 }
 
 // The word of why a part is left.

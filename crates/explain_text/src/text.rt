@@ -19,22 +19,6 @@ use mod_catalog::{Catalog, Module};
 use pi_base::{OutOfMemory, Phase, Seq};
 use std::alloc::Global;
 
-// The lines of the modules that wait, by what is known of PEI.
-fn put_waiting_with(
-    alloc: Global,
-    out: &mut Seq<u8>,
-    pei: &Context,
-    modules: &[Module],
-    explained: &Explained,
-) -> Result<(), OutOfMemory>
-    requires few { length modules.now ≤ MOST_MODULES }
-    requires pei { IsContext explained.now.begun modules.now Pei pei.now }
-    ensures { OnOk result (out.new ≡ out.old ++ flat_map (held_lines explained.now.begun modules.now) explained.now.held) }
-{
-    let dxe = context_of(alloc, explained.begun.as_slice(), modules, Phase::Dxe)?;
-    put_all_held(out, pei, &dxe, explained.held.as_slice())
-}
-
 // The lines of the modules that wait.
 fn put_waiting(
     alloc: Global,
@@ -46,7 +30,8 @@ fn put_waiting(
     ensures { OnOk result (out.new ≡ out.old ++ flat_map (held_lines explained.now.begun modules.now) explained.now.held) }
 {
     let pei = context_of(alloc, explained.begun.as_slice(), modules, Phase::Pei)?;
-    put_waiting_with(alloc, out, &pei, modules, explained)
+    let dxe = context_of(alloc, explained.begun.as_slice(), modules, Phase::Dxe)?;
+    put_all_held(out, &pei, &dxe, explained.held.as_slice())
 }
 
 // The modules that started in a phase or wait at its end.

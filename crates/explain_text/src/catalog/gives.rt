@@ -48,21 +48,17 @@ fn reads_guid(action: &Action) -> bool
 }
 
 // Whether an action of a block does.
-fn block_reads(actions: &[Action]) -> bool
+fn block_reads(actions: &Seq<Action>) -> bool
     ensures { result ≡ list_any reads_guid actions.now }
 {
-    actions.iter().any(|action| reads_guid(action))
+    actions.as_slice().iter().any(reads_guid)
 }
 
 /// Whether a script may install what it does not name: a PPI whose GUID it reads in a volume.
 pub(crate) fn gives_any(script: &Script) -> bool
     ensures { result ≡ gives_any script.now }
 {
-    script
-        .blocks
-        .as_slice()
-        .iter()
-        .any(|actions| block_reads(actions.as_slice()))
+    script.blocks.as_slice().iter().any(block_reads)
 }
 
 // One GUID more.

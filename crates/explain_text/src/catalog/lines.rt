@@ -1,51 +1,24 @@
 // The lines of a catalogue.
-ghost use Rattle.std.specs.Prelude.{◌≡◌, ◌≤◌, ◌++◌, ◌∷◌, [], ℕ, List, Option, flat_map, length, option_map, IfOk, OnOk};
+ghost use Rattle.std.specs.Prelude.{◌≡◌, ◌≤◌, ◌++◌, ◌∷◌, [], ℕ, List, Option, flat_map, length, option_map, OnOk};
 ghost use Rattle.hex.specs.Hex.{encode_lower};
 ghost use Rattle.pi_base.specs.WordText.{guid_text};
 ghost use Rattle.pi_base.specs.Field.{words_of};
 ghost use Rattle.mod_catalog.specs.declared.limits.TheConstants.{MOST_MODULES};
-ghost use Rattle.explain_text.specs.Name.{title_word};
-ghost use Rattle.explain_text.specs.Lines.{any_text, expr_keyword, expr_line, gives_line, gives_lines, gives_text, module_line, module_text, part_lines, phase_text};
+ghost use Rattle.explain_text.specs.Lines.{expr_line, gives_line, gives_lines, module_line, part_lines, phase_text};
 ghost use Rattle.explain_text.specs.Putting.{AddsCatalog, AddsModule};
+ghost use Rattle.explain_text.specs.Words.{word_of};
+ghost use Rattle.explain_text.specs.declared.keyword.Keyword.TheVariants as K;
 
 use crate::catalog::expression::expr_text;
 use crate::catalog::gives::{given_in, gives_any};
 use crate::catalog::line::put_line;
 use crate::catalog::{put_title, title_of};
+use crate::keyword::{Keyword, word_of};
 use act_code::Script;
 use boot_trace::decimal_word;
 use mod_catalog::{Catalog, Module, Part, PartExpr, VolumeEntry};
 use pi_base::{Guid, OutOfMemory, Phase, Seq};
 use std::alloc::Global;
-
-// The first words of the lines.
-#[tactic(auto, unfolding(crate::specs::Lines::module_text))]
-fn module_text() -> &'static [u8]
-    ensures { result.now ≡ module_text }
-{
-    b"module"
-}
-
-#[tactic(auto, unfolding(crate::specs::Lines::expr_keyword))]
-fn expr_keyword() -> &'static [u8]
-    ensures { result.now ≡ expr_keyword }
-{
-    b"expr"
-}
-
-#[tactic(auto, unfolding(crate::specs::Lines::gives_text))]
-fn gives_text() -> &'static [u8]
-    ensures { result.now ≡ gives_text }
-{
-    b"gives"
-}
-
-#[tactic(auto, unfolding(crate::specs::Lines::any_text))]
-fn any_text() -> &'static [u8]
-    ensures { result.now ≡ any_text }
-{
-    b"any"
-}
 
 /// The word of a phase.
 #[tactic(auto, unfolding(crate::specs::Lines::phase_text))]
@@ -67,15 +40,6 @@ fn kind_word(kind: u8) -> [u8; 2]
     digits
 }
 
-// The word of a module's name.
-fn title_word(alloc: Global, title: Option<&[u8]>) -> Result<Seq<u8>, OutOfMemory>
-    ensures { IfOk result (λ word. word ≡ title_word (option_map (λ name. words_of name.now) title.entry)) }
-{
-    let mut word = Seq::new(alloc);
-    put_title(&mut word, title)?;
-    Ok(word)
-}
-
 // The line of a module with its name.
 fn put_module(
     alloc: Global,
@@ -87,16 +51,17 @@ fn put_module(
     ensures { OnOk result
         (out.new ≡ out.old ++ module_line number member.now (option_map (λ name. words_of name.now) title.entry)) }
 {
-    let title = title_word(alloc, title)?;
+    let mut word = Seq::new(alloc);
+    put_title(&mut word, title)?;
     put_line(
         out,
-        module_text(),
+        word_of(Keyword::Module),
         &[
             decimal_word(u64::from(number)).as_slice(),
             decimal_word(u64::from(member.volume)).as_slice(),
             &member.name.to_text(),
             &kind_word(member.kind),
-            title.as_slice(),
+            word.as_slice(),
         ],
     )
 }
@@ -115,7 +80,7 @@ fn put_expr(
     let number = decimal_word(u64::from(number));
     put_line(
         out,
-        expr_keyword(),
+        word_of(Keyword::Expr),
         &[number.as_slice(), phase_word(phase), text.as_slice()],
     )
 }
@@ -127,20 +92,20 @@ fn put_gives(out: &mut Seq<u8>, number: u32, phase: Phase, guid: &Guid) -> Resul
     let number = decimal_word(u64::from(number));
     put_line(
         out,
-        gives_text(),
+        word_of(Keyword::Gives),
         &[number.as_slice(), phase_word(phase), &guid.to_text()],
     )
 }
 
 // The line of a script that may install what it does not name.
 fn put_gives_any(out: &mut Seq<u8>, number: u32, phase: Phase) -> Result<(), OutOfMemory>
-    ensures { OnOk result (out.new ≡ out.old ++ gives_line number phase any_text) }
+    ensures { OnOk result (out.new ≡ out.old ++ gives_line number phase (word_of K.Any)) }
 {
     let number = decimal_word(u64::from(number));
     put_line(
         out,
-        gives_text(),
-        &[number.as_slice(), phase_word(phase), any_text()],
+        word_of(Keyword::Gives),
+        &[number.as_slice(), phase_word(phase), word_of(Keyword::Any)],
     )
 }
 
