@@ -5,9 +5,9 @@ ghost use Rattle.mod_catalog.specs.declared.limits.TheConstants.{MOST_MODULES, M
 ghost use Rattle.boot_model.specs.Audit.{expression_word, part_word, part_rank};
 ghost use Rattle.boot_core.specs.AuditText.{audit_text, volume_text, module_text, text_in, members_text, entry_text, entries_text};
 
-use crate::putting::put_made;
 use boot_io::{Sink, SinkFault};
 use boot_model::{ExpressionWord, Line, RunEnd};
+use boot_trace::put_made;
 use depex_code::Depex;
 use mod_catalog::{Catalog, Module, Part, PartExpr, VolumeEntry};
 

@@ -9,10 +9,9 @@ ghost use Rattle.mod_catalog.specs.declared.catalogue.Catalog.{Catalog};
 ghost use Rattle.pei_dispatch.specs.Ends.{IsLeft};
 ghost use Rattle.boot_core.specs.GeneratedOutcome.{index_text, module_index, summary_line_text, summary_lines, summary_text};
 
-use crate::putting::put_made;
 use boot_io::{Sink, SinkFault, put_line};
 use boot_model::{Line, RunEnd};
-use boot_trace::{count_hobs, count_ppis};
+use boot_trace::{count_hobs, count_ppis, put_made};
 use pei_dispatch::Ended;
 use pi_base::decimal;
 use store_model::PeiStore;

@@ -1,5 +1,5 @@
 -- Who has a GUID installed, a step further.
-use Rattle.std.proofs.Common.{◌≡◌, ◌≤◌, ◌-◌, ℕ, Bool, true, false, ◌||◌, cond, List, [], ◌∷◌, ◌++◌, length, get_or, Option, Some, None, refl, sym, ap, ◌∙◌, subst}
+use Rattle.std.proofs.Common.{◌≡◌, ◌<◌, ◌≤◌, ◌-◌, arith, ℕ, Bool, true, false, ◌||◌, cond, List, [], ◌∷◌, ◌++◌, length, get_or, Option, Some, None, refl, sym, ap, ◌∙◌, subst}
 use Rattle.std.specs.Prelude.{drop, take}
 use Rattle.std.specs.Prelude.{unwrap_or}
 use Rattle.std.proofs.lemmas.Slice.Eq.{bytes_eq-Decides}
@@ -75,6 +75,11 @@ pub noted_on : (has : Guid → Bool) (actor : Giver) (guids : List Guid) (d : Gu
     → AreNoted has actor (take (length guids - 1) (drop 1 guids)) mid new → AreNoted has actor guids old new
 noted_on has actor guids d old mid new some first rest =
     subst (λ xs. AreNoted has actor xs old new) (left_after guids d some) (noted_then has actor (get_or guids 0 d ∷ []) (take (length guids - 1) (drop 1 guids)) old mid new first rest)
+
+-- no GUID is noted
+pub none_noted : (has : Guid → Bool) (actor : Giver) (guids : List Guid) (map : List (Guid × Giver)) → length guids < 1 → AreNoted has actor guids map map
+none_noted has actor [] map none = λ guid. refl
+none_noted has actor (first ∷ rest) map none = absurd (omega (arith, none))
 
 -- over the same set by another name
 pub noted_over : (has other : Guid → Bool) (actor : Giver) (guids : List Guid) (old new : List (Guid × Giver)) → ((guid : Guid) → has guid ≡ other guid) → AreNoted has actor guids old new → AreNoted other actor guids old new

@@ -1,5 +1,5 @@
 -- Whether a place is one of a list.
-use Rattle.std.proofs.Common.{◌≡◌, ℕ, zero, suc, ◌≤◌, ◌<◌, true, false, List, [], ◌∷◌, length, arith, sym, Option, Some, None, slice_get, is_some}
+use Rattle.std.proofs.Common.{◌≡◌, ℕ, zero, suc, ◌≤◌, ◌<◌, true, List, [], ◌∷◌, length, arith, sym, Option, Some, None, slice_get, is_some}
 use Rattle.std.proofs.lemmas.Option.{slice_get_within}
 
 pub told_within : {A : Type 0} (xs : List A) (n : ℕ) (x : A) → Some x ≡ slice_get xs n → n < length xs
@@ -16,7 +16,3 @@ past (x ∷ xs) (suc n) e = omega (arith, past xs n e)
 
 pub none_past : {A : Type 0} (xs : List A) (n : ℕ) → None ≡ slice_get xs n → length xs ≤ n
 none_past xs n e = past xs n (sym e)
-
-pub past_none : {A : Type 0} (xs : List A) (n : ℕ) (o : Option A) → o ≡ slice_get xs n → is_some o ≡ false → length xs ≤ n
-past_none xs n None e h = past xs n (sym e)
-past_none xs n (Some x) e h = cc

@@ -22,7 +22,7 @@ mod word_list;
 pub use entry_list::count_ppis;
 pub use fixed_word::{FixedWord, licence_word, reason_word, run_end_word};
 pub use hob_bytes::hob_list;
-pub use line::{put, put_all, put_refused_file, put_refused_long};
+pub use line::{put, put_all, put_made, put_refused_file, put_refused_long};
 pub use number_word::{decimal_word, hexadecimal_word};
 pub use start::put_start;
 pub use store_hobs::{HobCount, count_hobs};

@@ -17,8 +17,8 @@ pub fn put<S: Sink>(sink: &mut S, line: &Line) -> Result<(), SinkFault>
     put_words(sink, keyword(line), words(line).as_slice())
 }
 
-// A line that is not wanted any more.
-pub(crate) fn put_own<S: Sink>(sink: &mut S, line: Line) -> Result<(), SinkFault>
+/// Puts a line, which is dropped here, once for all who make one. Where the sink fails, a prefix of its text was put.
+pub fn put_made<S: Sink>(sink: &mut S, line: Line) -> Result<(), SinkFault>
     ensures text { Puts result (S.text sink.old) (S.text sink.new) (line_text line) }
     ensures cause { SinkFaultsAfter result (S.faults sink.old) (S.faults sink.new) }
 {

@@ -1,5 +1,5 @@
 //! The words of numbers, bytes and expressions.
-ghost use Rattle.std.specs.Prelude.{◌≡◌, [], ◌∷◌, decimal};
+ghost use Rattle.std.specs.Prelude.{◌≡◌, ◌≤◌, ◌+◌, ◌++◌, [], ◌∷◌, decimal, length};
 ghost use Rattle.hex.specs.Hex.{encode_lower};
 ghost use Rattle.pi_base.specs.WordText.{hexadecimal};
 ghost use Rattle.boot_model.specs.Text.{expression_text};
@@ -36,32 +36,34 @@ pub fn hexadecimal_word(number: u64) -> ArrayVec<u8, HEXADECIMAL_LEN>
     word
 }
 
+// A text, and one behind it.
+fn joined(front: &[u8], back: &[u8]) -> ArrayVec<u8, EXPRESSION_LEN>
+    requires { length front.now + length back.now ≤ EXPRESSION_LEN }
+    ensures { result.items ≡ front.now ++ back.now }
+{
+    let mut word = ArrayVec::new();
+    word.try_extend_from_slice(front).unwrap();
+    word.try_extend_from_slice(back).unwrap();
+    word
+}
+
 // The word of a part's expression.
 #[tactic(auto, unfolding(boot_model::specs::Text::expression_text))]
 pub(crate) fn expression_word(expression: ExpressionWord) -> ArrayVec<u8, EXPRESSION_LEN>
     ensures { result.items ≡ expression_text expression }
 {
-    let mut word = ArrayVec::new();
     match expression {
-        ExpressionWord::NoPart => word.try_extend_from_slice(DASH).unwrap(),
-        ExpressionWord::Absent => word.try_extend_from_slice(ABSENT).unwrap(),
-        ExpressionWord::Malformed(at) => {
-            word.try_extend_from_slice(MALFORMED_AT).unwrap();
-            word.try_extend_from_slice(decimal_word(u64::from(at)).as_slice())
-                .unwrap();
-        }
-        ExpressionWord::Tree => word.try_extend_from_slice(TREE).unwrap(),
-        ExpressionWord::Sor => word.try_extend_from_slice(SOR).unwrap(),
-        ExpressionWord::Before(name) => {
-            word.try_extend_from_slice(BEFORE).unwrap();
-            word.try_extend_from_slice(&name.to_text()).unwrap();
-        }
-        ExpressionWord::After(name) => {
-            word.try_extend_from_slice(AFTER).unwrap();
-            word.try_extend_from_slice(&name.to_text()).unwrap();
-        }
+        ExpressionWord::NoPart => joined(DASH, b""),
+        ExpressionWord::Absent => joined(ABSENT, b""),
+        ExpressionWord::Malformed(at) => joined(
+            MALFORMED_AT,
+            decimal_word(u64::from(at)).as_slice(),
+        ),
+        ExpressionWord::Tree => joined(TREE, b""),
+        ExpressionWord::Sor => joined(SOR, b""),
+        ExpressionWord::Before(name) => joined(BEFORE, &name.to_text()),
+        ExpressionWord::After(name) => joined(AFTER, &name.to_text()),
     }
-    word
 }
 
 // A byte as two hexadecimal digits.

@@ -3,7 +3,7 @@ ghost use Rattle.boot_io.specs.Sink.{Puts, SinkFaultsAfter};
 ghost use Rattle.boot_model.specs.Text.{text_of};
 ghost use Rattle.boot_trace.specs.StartLines.{started_lines};
 
-use crate::line::put_own;
+use crate::line::put_made;
 use boot_io::{Sink, SinkFault};
 use boot_model::Line;
 use pi_base::Word;
@@ -13,11 +13,11 @@ pub fn put_start<S: Sink>(sink: &mut S, line: Line, runs: bool) -> Result<(), Si
     ensures text { Puts result (S.text sink.old) (S.text sink.new) (text_of (started_lines line runs)) }
     ensures cause { SinkFaultsAfter result (S.faults sink.old) (S.faults sink.new) }
 {
-    put_own(sink, line)?;
+    put_made(sink, line)?;
     if runs {
         return Ok(());
     }
-    put_own(
+    put_made(
         sink,
         Line::End {
             status: Word::Success,

@@ -9,7 +9,7 @@ ghost use Rattle.boot_model.specs.Listing.{hob_lines, hob_lines_from};
 ghost use Rattle.boot_trace.specs.HobLines.{IsHobCount, all_hobs, hob_line_at};
 
 use crate::heap_bytes::put_heap_line;
-use crate::line::put_own;
+use crate::line::put_made;
 use boot_io::{Sink, SinkFault};
 use boot_model::Line;
 use store_model::{HobSpan, PeiStore};
@@ -82,7 +82,7 @@ pub(crate) fn put_hobs<S: Sink, M: PeiStore>(sink: &mut S, store: &M) -> Result<
     ensures cause { SinkFaultsAfter result (S.faults sink.old) (S.faults sink.new) }
 {
     let count = count_hobs(store).hobs;
-    match put_own(sink, Line::Hobs { count }) {
+    match put_made(sink, Line::Hobs { count }) {
         Ok(()) => put_hob_lines(sink, store),
         Err(SinkFault) => Err(SinkFault),
     }

@@ -9,7 +9,7 @@ ghost use Rattle.boot_model.specs.Listing.{store_lines};
 ghost use Rattle.boot_trace.specs.EntryLines.{entry_lines, list_text};
 
 use crate::entry_list::{count_line, entry_count, told_line};
-use crate::line::put_own;
+use crate::line::put_made;
 use crate::store_hobs::put_hobs;
 use boot_io::{Sink, SinkFault};
 use store_laws::entries_are_told;
@@ -42,7 +42,7 @@ fn put_entries<S: Sink, M: PeiStore>(
         let Some(told) = store.entry_behind(list, node) else {
             return Ok(());
         };
-        put_own(sink, told_line(list, told))?;
+        put_made(sink, told_line(list, told))?;
         node = Some(told.node);
     }
     Ok(())
@@ -55,7 +55,7 @@ fn put_list<S: Sink, M: PeiStore>(sink: &mut S, store: &M, list: EntryList) -> R
     ensures cause { SinkFaultsAfter result (S.faults sink.old) (S.faults sink.new) }
 {
     let count = entry_count(store, list);
-    put_own(sink, count_line(list, count))?;
+    put_made(sink, count_line(list, count))?;
     put_entries(sink, store, list, count)
 }
 

@@ -30,9 +30,6 @@ with_handles s handles = record s { handles = handles }
 pub grow_handles : (s : Services) (handles : HandleState) → OneMore s.handles handles → GrowByOne s (with_handles s handles)
 grow_handles s handles more = record { made = more.made; interfaces = more.interfaces; notes = omega (arith); flags = refl }
 
-pub grow_same : (s : Services) → GrowByOne s s
-grow_same s = record { made = omega (arith); interfaces = omega (arith); notes = omega (arith); flags = refl }
-
 pub on_ok : {A B : Type 0} (r : Result A B) (P : Type 0) → P → OnOk r P
 on_ok (Ok a) P p = p
 on_ok (Err b) P p = tt

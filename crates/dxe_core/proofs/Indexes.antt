@@ -8,7 +8,7 @@ use Rattle.pi_base.specs.Lists.{Ordered}
 use Rattle.store_model.specs.declared.interface.Interface.{Interface}
 use Rattle.store_model.specs.HandleFacts.{IsNotBehind, AreOfOthers}
 use Rattle.dxe_core.specs.declared.database.holders.Holders.{Holders}
-use Rattle.dxe_core.specs.Holders.{holders_of, Rises, HasInstead, HaveStill}
+use Rattle.dxe_core.specs.Holders.{holders_of, Rises, HasInstead}
 use Rattle.dxe_core.specs.Index.{handles_with, IsIndex}
 use Rattle.dxe_core.proofs.Firsts.{guid_is}
 use Rattle.dxe_core.proofs.HandlesWith.{rises, none_there, some_there}
@@ -27,9 +27,6 @@ chosen old is change guid other false same index = index other
 
 pub index_changes : (old new : Holders) (is after : List Interface) (change : List ℕ → List ℕ) (guid : Guid) → IsIndex old is → HasInstead old guid (change (holders_of old guid)) new → Changed change guid is after → IsIndex new after
 index_changes old new is after change guid index instead changed other = instead other ∙ chosen old is change guid other (same_guid guid other) refl index ∙ sym (changed other)
-
-pub index_stays : (old new : Holders) (is after : List Interface) → IsIndex old is → HaveStill old new → after ≡ is → IsIndex new after
-index_stays old new is after index still same other = still other ∙ index other ∙ ap (handles_with other) (sym same)
 
 -- whether a protocol is there
 has_by : (guid : Guid) (is : List Interface) (ns : List ℕ) → handles_with guid is ≡ ns → not (length ns == 0) ≡ list_any (λ i. same_guid i.guid guid) is

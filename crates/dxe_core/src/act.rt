@@ -10,12 +10,13 @@ ghost use Rattle.dxe_core.specs.Standing.{IsFor, StandsFor};
 use crate::action::take_own;
 use crate::dxe::Dxe;
 use crate::event::Event;
-use crate::lines::{print, put_reply};
+use crate::lines::put_reply;
 use crate::reply::Reply;
 use crate::stepped::Stepped;
 use act_code::Action;
 use boot_io::{Halt, Sink};
 use boot_model::{DxeEnd, Line};
+use boot_trace::put_made;
 use mod_catalog::Catalog;
 use phase_parts::{Acted, act, effects_are_alike};
 use pi_base::Phase;
@@ -89,7 +90,7 @@ impl Dxe {
             Acted::Spent => Ok(Stepped::Ended(DxeEnd::Spent)),
             Acted::Silent => Ok(Stepped::Went(Event::quiet())),
             Acted::Prints(line) => {
-                print(sink, line)?;
+                put_made(sink, line)?;
                 Ok(Stepped::Went(Event::quiet()))
             }
             Acted::Own(action) => {

@@ -7,7 +7,7 @@ ghost use Rattle.boot_model.specs.Text.{line_text, text_of};
 
 use boot_io::{Sink, SinkFault};
 use boot_model::{Line, ProtocolNote, ProtocolSweep, Scheduled};
-use boot_trace::put;
+use boot_trace::put_made;
 use mod_catalog::Catalog;
 use phase_parts::{name_of, volume_of};
 
@@ -33,21 +33,13 @@ pub(crate) fn start_line(catalog: &Catalog, next: &Scheduled) -> Line
     }
 }
 
-/// Puts a line that is of no more use then. Where the sink fails, a prefix of its text was put.
-pub(crate) fn print<S: Sink>(sink: &mut S, line: Line) -> Result<(), SinkFault>
-    ensures text { Puts result (S.text sink.old) (S.text sink.new) (line_text line) }
-    ensures cause { SinkFaultsAfter result (S.faults sink.old) (S.faults sink.new) }
-{
-    put(sink, &line)
-}
-
 /// Puts a line for each volume that is discovered. Where the sink fails, a prefix of the text was put.
 pub fn put_volumes<S: Sink>(sink: &mut S, volumes: &[u32]) -> Result<(), SinkFault>
     ensures text { Puts result (S.text sink.old) (S.text sink.new) (text_of (discovery_lines volumes.now)) }
     ensures cause { SinkFaultsAfter result (S.faults sink.old) (S.faults sink.new) }
 {
     'volumes: for volume in volumes {
-        print(sink, Line::DxeVolume { volume: *volume })?;
+        put_made(sink, Line::DxeVolume { volume: *volume })?;
     }
     Ok(())
 }
@@ -57,6 +49,6 @@ pub(crate) fn put_reply<S: Sink>(sink: &mut S, call: Line, volumes: &[u32]) -> R
     ensures text { Puts result (S.text sink.old) (S.text sink.new) (text_of (call ∷ discovery_lines volumes.now)) }
     ensures cause { SinkFaultsAfter result (S.faults sink.old) (S.faults sink.new) }
 {
-    print(sink, call)?;
+    put_made(sink, call)?;
     put_volumes(sink, volumes)
 }

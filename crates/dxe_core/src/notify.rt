@@ -8,11 +8,12 @@ ghost use Rattle.dxe_core.specs.Standing.{IsFor};
 
 use crate::dxe::Dxe;
 use crate::event::Event;
-use crate::lines::{print, protocol_line};
+use crate::lines::protocol_line;
 use crate::services::DxeServices;
 use crate::stepped::Stepped;
 use boot_io::{Halt, Sink};
 use boot_model::{DriverFrame, DxeEnd, ProtocolNote, ProtocolSweep, Register};
+use boot_trace::put_made;
 use mod_catalog::Catalog;
 use phase_parts::{begin_notification, notified};
 
@@ -75,7 +76,7 @@ impl Dxe {
         if !begin_notification(&mut self.frames, notification_frame(&note, &sweep), sweep) {
             return Ok(Stepped::Ended(DxeEnd::Deep));
         }
-        print(sink, protocol_line(catalog, &sweep, &note))?;
+        put_made(sink, protocol_line(catalog, &sweep, &note))?;
         Ok(Stepped::Went(Event::quiet()))
     }
 }

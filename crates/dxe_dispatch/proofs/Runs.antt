@@ -1,5 +1,5 @@
 -- A run of DXE, a step at a time.
-use Rattle.std.proofs.Common.{◌≡◌, ◌≤◌, ◌<◌, ℕ, zero, suc, ◌+◌, List, [], ◌++◌, length, Option, Some, None, refl, sym, ap, ◌∙◌, append_assoc, arith}
+use Rattle.std.proofs.Common.{◌≡◌, ◌≤◌, ℕ, zero, suc, ◌+◌, List, [], ◌++◌, length, Option, Some, None, refl, sym, ap, ◌∙◌, append_assoc, arith}
 use Rattle.std.proofs.lemmas.List.{append-nil, length-append}
 use Rattle.std.proofs.lemmas.Grind.{flat_map-append}
 use Rattle.pi_base.specs.declared.phase.Phase.TheVariants.{Dxe}
@@ -73,13 +73,4 @@ run_discovers catalog fuel (suc n) m =
           let one = discovered_more catalog m.discovered grown.discovered.0 (dxe_step catalog fuel m).discovered grown.discovered.1 in
           let rest = run_discovers catalog fuel n (dxe_step catalog fuel m) in
           omega (arith, one, rest)
-    ]
-
--- no more actions are taken than the fuel lets
-pub run_few : (catalog : Catalog) (fuel n most : ℕ) (m : DxeMachine) → fuel < most → m.actions < most → (dxe_run catalog fuel n m).actions < most
-run_few catalog fuel zero most m bound few = few
-run_few catalog fuel (suc n) most m bound few =
-    elim m.ended as (λ o. (run_by catalog fuel n m o).actions < most) [
-      | Some end ↦ few
-      | None ↦ run_few catalog fuel n most (dxe_step catalog fuel m) bound (step_grew catalog fuel most m bound few).actions
     ]

@@ -1,8 +1,7 @@
 -- Drivers are scheduled one after the other.
 use Rattle.std.proofs.Common.{◌≡◌, ℕ, zero, suc, ◌+◌, ◌<◌, ◌≤◌, ◌==◌, Bool, true, false, ◌&&◌, ◌||◌, not, List, [], ◌∷◌, ◌++◌, length, drop, get_or, map, reverse, refl, sym, subst, ap, ◌∙◌, arith, append_assoc}
-use Rattle.std.proofs.lemmas.List.{append-nil, drop-append-le, drop_at, drop_more, length-append, length-set, map-append, reverse-append}
+use Rattle.std.proofs.lemmas.List.{append-nil, drop-append-le, drop_at, drop_more, length-set, map-append, reverse-append}
 use Rattle.std.proofs.lemmas.List.Folds.{list_any-append}
-use Rattle.std.proofs.Math.ListN.{drop_of_length-le}
 use Rattle.std.proofs.Math.Dec.{eqb-zero-suc, eqb-suc-zero}
 use Rattle.std.specs.Prelude.{slice_set, flat_map}
 use Rattle.std.specs.List.{list_any}
@@ -25,15 +24,12 @@ use Rattle.boot_laws.proofs.PartLists.{IsKnown, IsPartOfVolume, drivers_are, is_
 use Rattle.boot_laws.proofs.Queue.{has_behind}
 use Rattle.wait_index.specs.declared.index.WaitIndex.{WaitIndex}
 use Rattle.dxe_core.specs.Order.{Drivers}
-use Rattle.wait_index.specs.Index.{IsIndex, IsSame, IsSet, asked, order_in}
-use Rattle.dxe_dispatch.specs.Choosing.{AllWait, Come, HasFlagFor, Schedules, as_apriori}
+use Rattle.wait_index.specs.Index.{IsIndex, IsSet, asked, order_in}
+use Rattle.dxe_dispatch.specs.Choosing.{Come, HasFlagFor, Schedules, as_apriori}
 use Rattle.dxe_dispatch.specs.Index.{IsRequested, WaitsNoMore, is_scheduled_in}
 use Rattle.dxe_dispatch.specs.Queue.{AreNew, HasProtocol, HasRequest, Queue, HasVolumes, IsDriver, IsQueueFor, IsQueueOf, owed, waits_at}
-use Rattle.dxe_dispatch.proofs.Machines.{none_before, stands_changed, stands_come, stands_requested, stands_scheduled, stands_settled, untouched_changed, untouched_requested, waiting_same}
-use Rattle.dxe_dispatch.proofs.WaitingDrivers.{leave_then, neither, none_leave}
-
-pub none_scheduled : (queue : Queue) → Schedules queue [] queue
-none_scheduled queue = record { scheduled = sym (append-nil queue.scheduled); left = refl; waits = λ n. refl; flags = refl; index = none_leave queue.index }
+use Rattle.dxe_dispatch.proofs.Machines.{none_before, stands_changed, stands_come, stands_requested, stands_scheduled, untouched_changed, untouched_requested, waiting_same}
+use Rattle.dxe_dispatch.proofs.WaitingDrivers.{leave_then, neither}
 
 pub scheduled_then : (queue mid later : Queue) (a b : List Scheduled) → Schedules queue a mid → Schedules mid b later → Schedules queue (a ++ b) later
 scheduled_then queue mid later a b f g = record {
@@ -71,13 +67,6 @@ one_scheduled items new head flags later index left x within number more cleared
   flags = ap length cleared ∙ length-set flags x.module_number false;
   index = leaves;
 }
-
--- one flag more that is up
-pub one_waits : (flags : List Bool) → AllWait flags → AllWait (flags ++ true ∷ [])
-one_waits [] up zero = refl
-one_waits [] up (suc n) = refl
-one_waits (flag ∷ flags) up zero = up zero
-one_waits (flag ∷ flags) up (suc n) = one_waits flags (λ k. up (suc k)) n
 
 -- a driver of a discovered volume, as it is scheduled
 abbrev pub IsKnownNext : Catalog → List ℕ → Scheduled → Type 0
@@ -184,10 +173,6 @@ volumes_on catalog old now next volumes i below one on later rest =
     on later (subst (λ xs. Schedules now xs later) (ranked_volumes catalog volume (drop (i + 1) volumes) ∙ ap (a_priori_drivers catalog) (sym (drop_more volumes i 0 below)))
     (scheduled_then now next later (a_priori_drivers catalog (volume ∷ [])) (a_priori_drivers catalog (drop (i + 1) volumes)) one rest))
 
-pub volumes_done : (catalog : Catalog) (old now : Queue) (volumes : List ℕ) (i : ℕ) → length volumes ≤ i
-    → ((later : Queue) → Schedules now (a_priori_drivers catalog (drop i volumes)) later → Schedules old (a_priori_drivers catalog volumes) later) → Schedules old (a_priori_drivers catalog volumes) now
-volumes_done catalog old now volumes i out on = on now (subst (λ xs. Schedules now (a_priori_drivers catalog xs) now) (sym (drop_of_length-le volumes out)) (none_scheduled now))
-
 pub each_front : {A : Type 0} (P : A → Type 0) (xs ys : List A) → Each P (xs ++ ys) → Each P xs
 each_front P [] ys e = tt
 each_front P (x ∷ xs) ys e = (e.0, each_front P xs ys e.1)
@@ -242,16 +227,6 @@ change_row catalog m new guid there queue later scheduled left flags is q has = 
   others = untouched_changed catalog m new guid there q.others has;
 }
 
--- expressions were evaluated
-pub settle_row : (catalog : Catalog) (m : DxeMachine) (queue later : Queue) → later.scheduled ≡ queue.scheduled → later.left ≡ queue.left → later.waits ≡ queue.waits → IsSame queue.index later.index → IsQueueOf catalog m queue → IsQueueOf catalog m later
-settle_row catalog m queue later scheduled left flags is q = record {
-  scheduled = q.scheduled ∙ sym scheduled;
-  left = left ∙ q.left;
-  waits = λ n. ap (λ fs. waits_at fs n) flags ∙ q.waits n;
-  index = stands_settled catalog m queue.index later.index q.index is;
-  others = q.others;
-}
-
 -- the drivers of volumes are modules
 pub drivers_below : (catalog : Catalog) (volumes : List ℕ) → Each (λ n. n < length catalog.modules) (drivers_of catalog volumes)
 drivers_below catalog volumes =
@@ -265,12 +240,6 @@ new_are catalog queue order volumes place all drivers new is at behind =
 
 pub new_differ : (catalog : Catalog) (queue : Queue) (order : Drivers) (volumes drivers : List ℕ) → AreNew catalog queue order volumes → drivers ≡ drivers_of catalog volumes → AllDiffer (order_in queue.index ++ drivers)
 new_differ catalog queue order volumes drivers new are = subst AllDiffer (new.drivers ∙ ap (λ xs. order_in queue.index ++ xs) (sym are)) new.differ
-
-pub new_within : (catalog : Catalog) (queue : Queue) (order : Drivers) (volumes : List ℕ) (place : ℕ) (all : List ℕ) → AreNew catalog queue order volumes → all ≡ order.drivers → place ≡ length (order_in queue.index) → place ≤ length all
-new_within catalog queue order volumes place all new is at =
-    let long : length all ≡ length (order_in queue.index) + length (drivers_of catalog volumes) =
-    ap length (is ∙ new.drivers) ∙ length-append (order_in queue.index) (drivers_of catalog volumes) in
-    omega (arith, long, at)
 
 -- what is kept for a catalogue, with another index of it
 pub still_made : (catalog : Catalog) (queue later : Queue) → later.scheduled ≡ queue.scheduled → later.waits ≡ queue.waits → later.index.phase ≡ queue.index.phase → IsIndex catalog later.index → IsQueueFor catalog queue → IsQueueFor catalog later

@@ -60,9 +60,6 @@ core_still catalog core m lines is = record {
 queue_still : (catalog : Catalog) (queue : Queue) (m : DxeMachine) (lines : List Line) → IsQueueOf catalog m queue → IsQueueOf catalog (record m { lines = lines; ended = None }) queue
 queue_still catalog queue m lines is = queue_same catalog queue m (record m { lines = lines; ended = None }) is refl refl refl refl (λ guid. refl)
 
-pub are_still : (catalog : Catalog) (core : DxeCore) (queue : Queue) (m : DxeMachine) (lines : List Line) → AreKeptFor catalog core queue m → AreKeptFor catalog core queue (record m { lines = lines; ended = None })
-are_still catalog core queue m lines are = record { core = core_still catalog core m lines are.core; queue = queue_still catalog queue m lines are.queue }
-
 pub now_still : {M : Type 0} (stands : M → StoreState → Type 0) (store : M) (catalog : Catalog) (core : DxeCore) (queue : Queue) (m : DxeMachine) (lines : List Line) → IsNow stands store catalog core queue m
     → IsNow stands store catalog core queue (record m { lines = lines; ended = None })
 now_still stands store catalog core queue m lines now = record {

@@ -1,17 +1,16 @@
 -- The index of the waiting drivers, where drivers are scheduled and requested.
-use Rattle.std.proofs.Common.{◌≡◌, ℕ, zero, suc, ◌<◌, ◌≤◌, ◌==◌, Bool, true, false, ◌&&◌, ◌||◌, not, cond, List, [], ◌∷◌, ◌++◌, Option, Some, None, length, refl, sym, ap, ◌∙◌, arith}
+use Rattle.std.proofs.Common.{◌≡◌, ℕ, zero, suc, ◌<◌, ◌==◌, Bool, true, false, ◌&&◌, ◌||◌, not, cond, List, [], ◌∷◌, ◌++◌, Option, Some, None, length, refl, sym, ap, ◌∙◌, arith}
 use Rattle.std.specs.Prelude.{slice_get}
 use Rattle.std.proofs.lemmas.Bool.Decides.{nat_tests}
 use Rattle.std.proofs.lemmas.List.Folds.{list_any-append}
-use Rattle.mod_catalog.specs.declared.catalogue.Catalog.{Catalog}
 use Rattle.mod_catalog.specs.Parts.{has_number}
 use Rattle.boot_model.specs.declared.driver.Scheduled.{Scheduled}
 use Rattle.boot_laws.proofs.PartLists.{is_equal}
 use Rattle.wait_index.specs.declared.index.WaitIndex.{WaitIndex}
 use Rattle.wait_index.specs.declared.places.Places.{Places}
 use Rattle.wait_index.specs.declared.standing.Standing.{Standing}
-use Rattle.wait_index.specs.Change.{IsChanged, gated, started}
-use Rattle.wait_index.specs.Index.{Changes, IsIndex, is_open_in, order_in, owed, waits_in}
+use Rattle.wait_index.specs.Change.{IsChanged, started}
+use Rattle.wait_index.specs.Index.{is_open_in, order_in, owed, waits_in}
 use Rattle.wait_index.specs.Places.{order_of, standing_of}
 use Rattle.dxe_dispatch.specs.Index.{IsRequested, WaitsNoMore, WaitNoMore, is_scheduled_in}
 
@@ -55,23 +54,6 @@ again_by : (b : Bool) (s : Standing) → s.again ≡ false → (cond b (started 
 again_by true s h = refl
 again_by false s h = h
 
--- a driver waits no more
-pub leaves_at : (number place : ℕ) (old new : WaitIndex) → slice_get (order_in old) place ≡ Some number → Changes started place old new → ((catalog : Catalog) → IsIndex catalog old → IsIndex catalog new) → owed new ≤ owed old
-    → WaitsNoMore number old new
-leaves_at number place old new at is kept few =
-    let stands : (n : ℕ) → standing_of new.places n ≡ cond (number == n) (started (standing_of old.places n)) (standing_of old.places n) =
-    λ n. stands_by started (order_in old) old.places new.places place number n (number == n) refl at is.changed refl in
-    record {
-      phase = is.phase;
-      installed = is.installed;
-      order = is.changed.order;
-      waits = λ n known. ap (λ (s : Standing). s.waits) (stands n) ∙ waits_by (number == n) (standing_of old.places n);
-      opens = λ n. ap (λ (s : Standing). s.«open») (stands n) ∙ opens_by (number == n) (standing_of old.places n);
-      again = λ n h. ap (λ (s : Standing). s.again) (stands n) ∙ again_by (number == n) (standing_of old.places n) h;
-      kept = kept;
-      owed = few;
-    }
-
 none_by : (b : Bool) (number n : ℕ) (order : List ℕ) → (number == n) ≡ b → ((place : ℕ) → slice_get order place ≡ Some number → ⊥) → has_number order n ≡ true → b ≡ false
 none_by true number n order e none known =
     let there = has_place order n known in absurd (none there.0 (there.1 ∙ ap Some (sym (is_equal number n e))))
@@ -89,35 +71,6 @@ leaves_none number old none = record {
   kept = λ catalog is. is;
   owed = omega arith;
 }
-
-gates_by : (b : Bool) (s : Standing) → (cond b (gated true s) s).«open» ≡ (b || s.«open»)
-gates_by true s = refl
-gates_by false s = refl
-
-gated_waits : (b : Bool) (s : Standing) → (cond b (gated true s) s).waits ≡ s.waits
-gated_waits true s = refl
-gated_waits false s = refl
-
-gated_again : (b : Bool) (s : Standing) → (cond b (gated true s) s).again ≡ s.again
-gated_again true s = refl
-gated_again false s = refl
-
--- a driver is open
-pub requested_at : (number place : ℕ) (old new : WaitIndex) → slice_get (order_in old) place ≡ Some number → Changes (gated true) place old new → ((catalog : Catalog) → IsIndex catalog old → IsIndex catalog new) → owed new ≡ owed old
-    → IsRequested number old new
-requested_at number place old new at is kept few =
-    let stands : (n : ℕ) → standing_of new.places n ≡ cond (number == n) (gated true (standing_of old.places n)) (standing_of old.places n) =
-    λ n. stands_by (gated true) (order_in old) old.places new.places place number n (number == n) refl at is.changed refl in
-    record {
-      phase = is.phase;
-      installed = is.installed;
-      order = is.changed.order;
-      waits = λ n. ap (λ (s : Standing). s.waits) (stands n) ∙ gated_waits (number == n) (standing_of old.places n);
-      opens = λ n known. ap (λ (s : Standing). s.«open») (stands n) ∙ gates_by (number == n) (standing_of old.places n);
-      again = λ n. ap (λ (s : Standing). s.again) (stands n) ∙ gated_again (number == n) (standing_of old.places n);
-      kept = kept;
-      owed = few;
-    }
 
 pub requested_none : (number : ℕ) (old : WaitIndex) → ((place : ℕ) → slice_get (order_in old) place ≡ Some number → ⊥) → IsRequested number old old
 requested_none number old none = record {

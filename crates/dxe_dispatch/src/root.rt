@@ -3,33 +3,22 @@ ghost use Rattle.std.specs.Prelude.{◌≡◌, length};
 ghost use Rattle.boot_model.specs.DriverLicence as Of;
 ghost use Rattle.boot_model.specs.DxeMachine.{DxeMachine};
 ghost use Rattle.dxe_core.specs.Order.{IsOrderOf};
-ghost use Rattle.dxe_dispatch.specs.Roots.{given_by};
 ghost use Rattle.boot_laws.specs.DxeAim.{follows};
 
 use depex_code::Depex;
 use dxe_core::DriverOrder;
 use mod_catalog::{Catalog, PartExpr};
 use phase_parts::part_of;
-use pi_base::{Guid, Phase};
-
-// The name that an expression gives in BEFORE or in AFTER.
-fn given_by(expression: &PartExpr) -> Option<Guid>
-    ensures { result ≡ given_by expression.now }
-{
-    match expression {
-        PartExpr::Held(Depex::Before(name)) => Some(*name),
-        PartExpr::Held(Depex::After(name)) => Some(*name),
-        _ => None,
-    }
-}
+use pi_base::Phase;
 
 /// The driver that a driver names in BEFORE or in AFTER.
 pub fn target_of(catalog: &Catalog, order: &DriverOrder, number: u32) -> Option<u32>
     ensures { (m : DxeMachine) → IsOrderOf catalog.now m.discovered order.now → result ≡ Of.target_of catalog.now m number }
 {
-    let part = part_of(catalog, Phase::Dxe, number)?;
-    let name = given_by(&part.expr)?;
-    order.named(&name)
+    match &part_of(catalog, Phase::Dxe, number)?.expr {
+        PartExpr::Held(Depex::Before(name) | Depex::After(name)) => order.named(name),
+        _ => None,
+    }
 }
 
 /// The driver to which the names lead from a driver, after at most as many as there are modules.

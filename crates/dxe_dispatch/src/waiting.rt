@@ -2,10 +2,9 @@
 ghost use Rattle.std.specs.Prelude.{◌≡◌, ◌&&◌, not, Some};
 ghost use Rattle.boot_io.specs.Sink.{SinkFaultsAfter};
 ghost use Rattle.mod_catalog.specs.Parts.{has_number};
-ghost use Rattle.boot_model.specs.DxeChoice.{asks_for_request, is_sor};
+ghost use Rattle.boot_model.specs.DxeChoice.{asks_for_request};
 ghost use Rattle.boot_model.specs.DxeMachine.{DxeMachine};
 ghost use Rattle.boot_model.specs.DxeStep as D;
-ghost use Rattle.mod_catalog.specs.declared.catalogue.PartExpr.TheVariants.{Held};
 ghost use Rattle.dxe_dispatch.specs.Waiting.{PutsWaiting, PutsAllWaiting};
 
 use crate::DriverQueue;
@@ -18,23 +17,6 @@ use mod_catalog::{Catalog, Part, PartExpr};
 use phase_parts::{name_of, part_of, volume_of};
 use pi_base::Phase;
 
-// Why a driver waits that has this expression.
-fn expression_reason(expression: &Depex, requested: bool) -> Reason
-    ensures { result ≡ D.driver_reason_by (is_sor expression.now && not requested) (Held expression.now) }
-{
-    match expression {
-        Depex::Before(_) => Reason::Before,
-        Depex::After(_) => Reason::After,
-        Depex::Expr { sor, .. } => {
-            if *sor && !requested {
-                Reason::Unrequested
-            } else {
-                Reason::False
-            }
-        }
-    }
-}
-
 // Why a driver waits that has this part.
 fn reason_by(part: &Part, requested: bool) -> Reason
     ensures { result ≡ D.driver_reason_by (asks_for_request (Some part.now) && not requested) part.now.expr }
@@ -42,7 +24,12 @@ fn reason_by(part: &Part, requested: bool) -> Reason
     match &part.expr {
         PartExpr::Absent => Reason::Absent,
         PartExpr::Malformed(_) => Reason::Malformed,
-        PartExpr::Held(expression) => expression_reason(expression, requested),
+        PartExpr::Held(Depex::Before(_)) => Reason::Before,
+        PartExpr::Held(Depex::After(_)) => Reason::After,
+        PartExpr::Held(Depex::Expr { sor, .. }) => match *sor && !requested {
+            true => Reason::Unrequested,
+            false => Reason::False,
+        },
     }
 }
 

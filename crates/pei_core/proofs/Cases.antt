@@ -64,9 +64,6 @@ some_by s true (Some to) e = cc
 some_by s false None e = cc
 some_by s false (Some to) e = (migrated_to s to, refl)
 
-pub a_move : (s : StoreState) → memory_due s ≡ true → (new : StoreState) × (migration s ≡ Some new)
-a_move s e = some_by s s.moved s.planned e
-
 -- an option is not both, nor is a list
 pub some_none : {A : Type 0} (o : Option A) (a : A) → o ≡ Some a → o ≡ None → ⊥
 some_none (Some b) a some none = cc

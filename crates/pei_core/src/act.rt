@@ -16,12 +16,13 @@ ghost use Rattle.store_model.specs.StoreCall.{Anything};
 use crate::action::take_own;
 use crate::event::{Again, Event, Stepped};
 use crate::pei::Pei;
-use crate::reports::{last_volumes, print, put_reports, report};
+use crate::reports::{last_volumes, put_reports, report};
 use crate::taken::{Reply, Taken};
 use act_code::Action;
 use boot_io::{Halt, Sink};
 use boot_laws::replies_are_sound;
 use boot_model::{CallName, Extra, Line, PeiEnd, state_of};
+use boot_trace::put_made;
 use mod_catalog::Catalog;
 use phase_parts::{Acted, Writes, act, effects_are_alike};
 use pi_base::Phase;
@@ -42,7 +43,7 @@ impl<M: PeiStore + Drop> Pei<M> {
         let again = Again::by_registering(state, self.store.moved(), number);
         let status = self.core.register(number);
         self.core.frames.answer(&Writes::Nothing, status, None);
-        print(
+        put_made(
             sink,
             Line::Call {
                 name: CallName::Shadow,
@@ -85,7 +86,7 @@ impl<M: PeiStore + Drop> Pei<M> {
             &self.store,
             installs.as_slice(),
         );
-        print(
+        put_made(
             sink,
             Line::Call {
                 name,
@@ -151,7 +152,7 @@ impl<M: PeiStore + Drop> Pei<M> {
             Acted::Spent => Ok(Stepped::Ended(PeiEnd::Spent)),
             Acted::Silent => Ok(Stepped::Went(Event::quiet())),
             Acted::Prints(line) => {
-                print(sink, line)?;
+                put_made(sink, line)?;
                 Ok(Stepped::Went(Event::quiet()))
             }
             Acted::Own(action) => {

@@ -13,9 +13,9 @@ use crate::core_state::Core;
 use crate::event::{Event, Stepped};
 use crate::names::callback_line;
 use crate::pei::Pei;
-use crate::reports::print;
 use boot_io::{Halt, Sink};
 use boot_model::{BLOCKS, PeiEnd, PeiFrame, Register};
+use boot_trace::put_made;
 use mod_catalog::Catalog;
 use phase_parts::{begin_notification, notified};
 use store_model::{Firing, PeiStore, Sweep};
@@ -93,7 +93,7 @@ impl<M: PeiStore + Drop> Pei<M> {
         if !self.core.begin_callback(&firing, sweep) {
             return Ok(Stepped::Ended(PeiEnd::Deep));
         }
-        print(sink, callback_line(catalog, &firing))?;
+        put_made(sink, callback_line(catalog, &firing))?;
         Ok(Stepped::Went(Event::quiet()))
     }
 }

@@ -9,9 +9,9 @@ ghost use Rattle.pei_core.specs.Standing.{KeepsFor, last_start};
 use crate::event::{Again, Event, Stepped};
 use crate::guids::Changes;
 use crate::pei::Pei;
-use crate::reports::print;
 use boot_io::{Halt, Sink};
 use boot_model::Line;
+use boot_trace::put_made;
 use pi_base::{MEMORY_PPI, Word};
 use store_model::PeiStore;
 
@@ -27,7 +27,7 @@ impl<M: PeiStore + Drop> Pei<M> {
         match self.store.core_install() {
             Ok(sweep) => {
                 self.core.sweep = Some(sweep);
-                print(
+                put_made(
                     sink,
                     Line::CoreInstall {
                         status: Word::Success,
@@ -42,7 +42,7 @@ impl<M: PeiStore + Drop> Pei<M> {
             Err(fault) => {
                 let status = fault.status().ok_or(Halt::Memory)?;
                 self.core.sweep = None;
-                print(sink, Line::CoreInstall { status })?;
+                put_made(sink, Line::CoreInstall { status })?;
                 Ok(Event::quiet())
             }
         }
@@ -57,7 +57,7 @@ impl<M: PeiStore + Drop> Pei<M> {
         ensures faults { HaltsAfter result (S.faults sink.old) (S.faults sink.new) }
     {
         let (from, to) = self.store.migrate();
-        print(sink, Line::Migrate { from, to })?;
+        put_made(sink, Line::Migrate { from, to })?;
         let installed = self.install_memory(sink)?;
         Ok(Stepped::Went(Event {
             changes: installed.changes,

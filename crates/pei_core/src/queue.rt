@@ -11,8 +11,8 @@ use crate::event::{Event, Stepped};
 use crate::fire::notification_frame;
 use crate::names::dispatch_line;
 use crate::pei::Pei;
-use crate::reports::print;
 use boot_io::{Halt, Sink};
+use boot_trace::put_made;
 use mod_catalog::Catalog;
 use store_model::{Firing, PeiStore};
 
@@ -45,7 +45,7 @@ impl<M: PeiStore + Drop> Pei<M> {
             None => Ok(Stepped::Idle),
             Some(firing) => {
                 self.core.begin_dispatch(&firing);
-                print(sink, dispatch_line(catalog, &firing))?;
+                put_made(sink, dispatch_line(catalog, &firing))?;
                 Ok(Stepped::Went(Event::quiet()))
             }
         }

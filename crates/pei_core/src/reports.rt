@@ -11,18 +11,10 @@ ghost use Rattle.boot_io.specs.Sink.{Puts, SinkFaultsAfter};
 
 use boot_io::{Sink, SinkFault};
 use boot_model::Line;
-use boot_trace::put;
+use boot_trace::put_made;
 use mod_catalog::Catalog;
 use phase_parts::VolumeList;
 use store_model::{Desc, PeiStore};
-
-/// Puts a line that is of no more use then. Where the sink fails, a prefix of its text was put.
-pub(crate) fn print<S: Sink>(sink: &mut S, line: Line) -> Result<(), SinkFault>
-    ensures text { Puts result (S.text sink.old) (S.text sink.new) (line_text line) }
-    ensures cause { SinkFaultsAfter result (S.faults sink.old) (S.faults sink.new) }
-{
-    put(sink, &line)
-}
 
 /// What PPIs report comes behind the volumes that were reported. How many volumes that is.
 pub(crate) fn report<M: PeiStore>(
@@ -58,7 +50,7 @@ pub fn put_reports<S: Sink>(sink: &mut S, volumes: &[u32]) -> Result<(), SinkFau
     ensures cause { SinkFaultsAfter result (S.faults sink.old) (S.faults sink.new) }
 {
     'volumes: for volume in volumes {
-        print(sink, Line::Report { volume: *volume })?;
+        put_made(sink, Line::Report { volume: *volume })?;
     }
     Ok(())
 }

@@ -18,30 +18,17 @@ use Rattle.wait_index.specs.declared.standing.Standing.{Standing}
 use Rattle.wait_index.specs.Change as C
 use Rattle.wait_index.specs.Discovery.{HaveCome, IsNew, opens}
 use Rattle.wait_index.specs.Dispatch.{StandsForPei}
-use Rattle.wait_index.specs.Index.{IsIndex, IsSame, Changes, order_in, has_in}
+use Rattle.wait_index.specs.Index.{IsIndex, IsSame, Changes, order_in}
 use Rattle.wait_index.specs.Installed.{is_there}
 use Rattle.wait_index.specs.Places.{standing_of}
 use Rattle.pei_dispatch.specs.declared.queue.PeiQueue.{PeiQueue}
 use Rattle.pei_dispatch.specs.Queue.{Shows, IsInOrder, AreNew, HasStarted}
-use Rattle.pei_dispatch.specs.View.{View, view_of, first_view, is_number, parts_of, with_again, with_start, with_volumes}
+use Rattle.pei_dispatch.specs.View.{View, view_of, is_number, parts_of, with_again, with_start, with_volumes}
 use Rattle.pei_dispatch.proofs.Numbers.{has_append, has_front, apart}
 use Rattle.pei_dispatch.proofs.Room.{order_more}
 
 none_in : (xs : List ℕ) (n : ℕ) → xs ≡ [] → has_number xs n ≡ true → ⊥
 none_in xs n empty h = let none : has_number xs n ≡ false = ap (λ ys. has_number ys n) empty in absurd (cc)
-
-pub shows_first : (catalog : Catalog) (queue : PeiQueue) → IsIndex catalog queue.index → queue.index.phase ≡ Pei → order_in queue.index ≡ [] → ((guid : Guid) → has_in queue.index guid ≡ false)
-    → Shows catalog queue first_view
-shows_first catalog queue is pei empty nothing = record {
-  of_catalog = is;
-  phase = pei;
-  order = empty;
-  waits = λ n h. absurd (none_in (order_in queue.index) n empty h);
-  opens = λ n h. absurd (none_in (order_in queue.index) n empty h);
-  allowed = λ n h. absurd (none_in (order_in queue.index) n empty h);
-  installed = λ guid slot here. nothing guid;
-  within = λ n h. absurd (cc);
-}
 
 -- the same is shown by another view that says the same
 and_with : (s a b : Bool) → (s ≡ true → a ≡ b) → (s && a) ≡ (s && b)

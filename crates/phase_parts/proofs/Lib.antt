@@ -10,3 +10,7 @@ mod VolumeRoom
 mod Families
 mod Newcomers
 mod Ppis
+mod PeekedBytes
+mod Topmost
+pub mod Got
+mod FoundActions

@@ -1,7 +1,6 @@
 // Printing a report.
 ghost use Rattle.std.specs.Prelude.{◌≡◌};
 ghost use Rattle.boot_io.specs.Sink.{Puts, SinkFaultsAfter};
-ghost use Rattle.boot_model.specs.Text.{line_text};
 ghost use Rattle.tools_core.specs.Refusals.{bytes_line, cause_text, malformed_line, malformed_text, no_line};
 ghost use Rattle.tools_core.specs.Refusals.{refused_bytes, refused_text, refused_twins, text_line, twins_line, verdict_line};
 ghost use Rattle.tools_core.specs.ReportText.{report_text};
@@ -12,18 +11,10 @@ use crate::source_refusal::put_source;
 use act_code::{ActCause, ActFault};
 use boot_io::{Sink, SinkFault, put_line};
 use boot_model::Line;
-use boot_trace::{decimal_word, put, put_refused_file, put_refused_long};
+use boot_trace::{decimal_word, put_made, put_refused_file, put_refused_long};
 use gcd_map::{put_answers, put_command_refusal, put_hobs_refusal, put_map};
 use mp_core::{put_bad_line, put_outcome};
 use recorded_boot::trace::Verdict;
-
-// Puts a line, which is dropped here, once for all that are made.
-fn put_made<S: Sink>(sink: &mut S, line: Line) -> Result<(), SinkFault>
-    ensures text { Puts result (S.text sink.old) (S.text sink.new) (line_text line) }
-    ensures cause { SinkFaultsAfter result (S.faults sink.old) (S.faults sink.new) }
-{
-    put(sink, &line)
-}
 
 // The first words of lines.
 #[tactic(auto, unfolding(crate::specs::Refusals::refused_twins))]

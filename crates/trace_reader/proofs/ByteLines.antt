@@ -1,25 +1,17 @@
 -- Lines that show bytes behind a keyword.
-use Rattle.std.proofs.Common.{◌≡◌, ◌++◌, ℕ, List, [], ◌∷◌, flat_map, sym, ap, ◌∙◌, append-nil, not, eqb, arith, length, decimal, ◌<◌, ◌^◌, Option, Some, None, Result, Ok, Err, IfOk}
+use Rattle.std.proofs.Common.{◌≡◌, ◌++◌, ℕ, List, [], ◌∷◌, flat_map, sym, ap, ◌∙◌, append-nil, arith, length, decimal, ◌<◌, ◌^◌, Option, Some, None, Result, Ok, Err, IfOk}
 use Rattle.std.specs.Prelude.{codes}
 use Rattle.std.specs.Option.{MatchOption}
 use Rattle.hex.specs.Hex.{IsBytes, encode_lower}
 use Rattle.boot_model.specs.Text.{bytes_text, dash}
-use Rattle.line_words.specs.PrintedWords.{Finds, Lacks}
+use Rattle.line_words.specs.PrintedWords.{Finds}
 use Rattle.trace_reader.proofs.Splits.{same_back, behind_is, tail_of}
 use Rattle.trace_reader.proofs.PlainWords.{decimal_16_plain}
-use Rattle.std.specs.List.{list_all}
-use Rattle.std.proofs.lemmas.Bool.{and_parts}
-use Rattle.std.proofs.lemmas.List.Folds.{list_all-append}
 use Rattle.boot_io.specs.Line.{spaced}
 
 -- one word behind a keyword
 pub one_word : (keyword word : List ℕ) → keyword ++ flat_map spaced (word ∷ []) ≡ keyword ++ 32 ∷ word
 one_word keyword word = ap (λ rest. keyword ++ 32 ∷ rest) (append-nil word)
-
--- the parts of bytes without such a byte have none
-pub lacks_back : (sought : ℕ) (front back : List ℕ) → Lacks sought (front ++ back) → Lacks sought back
-lacks_back sought front back lacks =
-    (and_parts (list_all (λ byte. not (eqb byte sought)) front) (list_all (λ byte. not (eqb byte sought)) back) (sym (list_all-append (λ byte. not (eqb byte sought)) front back) ∙ lacks)).1
 
 -- what a HOB's line shows behind its type
 pub body_is : (line word body : List ℕ) (kind other : ℕ) → kind < 2 ^ 16 → other < 2 ^ 16 → line ≡ codes "hob" ++ flat_map spaced (decimal kind ∷ word ∷ [])

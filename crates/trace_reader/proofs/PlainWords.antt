@@ -1,7 +1,6 @@
 -- The words of fields are plain.
-use Rattle.std.proofs.Common.{◌≡◌, ◌<◌, ◌^◌, ◌++◌, ℕ, Bool, true, false, ltb, eqb, cond, List, [], ◌∷◌, Option, Some, None, refl, ◌∙◌, arith, decimal}
+use Rattle.std.proofs.Common.{◌≡◌, ◌<◌, ◌^◌, ℕ, Bool, true, false, eqb, cond, List, [], ◌∷◌, Option, Some, None, refl, arith, decimal}
 use Rattle.std.proofs.lemmas.Bool.Decides.{nat_tests}
-use Rattle.std.proofs.lemmas.List.Folds.{list_all-append}
 use Rattle.hex.specs.Hex.{encode_lower}
 use Rattle.pi_base.specs.declared.guid.Guid.{Guid}
 use Rattle.boot_model.specs.declared.line.ExpressionWord.{ExpressionWord}
@@ -40,9 +39,6 @@ rank_plain (Some rank) fits = decimal_32_plain rank fits
 pub name_plain : (name : Option Guid) → IsName name → IsPlain (name_text name)
 name_plain None fits = refl
 name_plain (Some name) fits = guid_plain name
-
-both_plain : (a b : List ℕ) → IsPlain a → IsPlain b → IsPlain (a ++ b)
-both_plain a b front back = list_all-append (λ byte. ltb 32 byte) a b ∙ rw (front, back) refl
 
 pub expression_plain : (expression : ExpressionWord) → IsExpression expression → IsPlain (expression_text expression)
 unfolding expression_text

@@ -145,7 +145,7 @@ impl Watch {
 fn ends_with(list: &[u32], number: u32) -> bool
     ensures { result ≡ ends_with list.now number }
 {
-    match list.get(list.len().saturating_sub(1)) {
+    match list.last() {
         Some(last) => *last == number,
         None => false,
     }

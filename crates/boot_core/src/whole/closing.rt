@@ -8,10 +8,9 @@ ghost use Rattle.boot_model.specs.Listing.{store_lines};
 ghost use Rattle.boot_model.specs.Text.{text_of};
 ghost use Rattle.boot_core.specs.Closing.{interface_text, result_text, closing_text};
 
-use crate::putting::put_made;
 use boot_io::{Sink, SinkFault};
 use boot_model::{DxeEnd, Line, RunEnd};
-use boot_trace::put_store_lists;
+use boot_trace::{put_made, put_store_lists};
 use dxe_core::database::Handles;
 use store_model::{Interface, PeiStore};
 

@@ -1,6 +1,9 @@
 use Rattle.boot_model.specs.PeiRun.{pei_end}
 use Rattle.boot_core.proofs.generated.sum_up_on.Goals as goal
 
+pub boot_store-requires-clause-opening : goal.boot_store-requires-clause-opening
+boot_store-requires-clause-opening g c = c.requires.opening
+
 pub summary_of-requires : goal.summary_of-requires
 summary_of-requires g c =
     let end = pei_end c.requires.opening.0 c.args.catalog.now c.args.fuel in

@@ -11,6 +11,9 @@ of_machine : (result : Result HandOff OutOfMemory) (Is Also : PeiMachine → Typ
 of_machine (Ok one) Is Also m is also each = each m is also
 of_machine (Err e) Is Also m is also each = tt
 
+pub boot_first_pei-requires-clause-opening : goal.boot_first_pei-requires-clause-opening
+boot_first_pei-requires-clause-opening g c = c.requires.opening
+
 pub handed_by-requires : goal.handed_by-requires
 handed_by-requires g c =
     let end = pei_end c.requires.opening.0 c.args.catalog.now c.args.fuel in

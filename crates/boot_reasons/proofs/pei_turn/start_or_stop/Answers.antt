@@ -8,6 +8,9 @@ use Rattle.boot_reasons.specs.Unseen.{NamesUnseen}
 use Rattle.boot_reasons.proofs.PeiSteps.{Laws, barred_on, chose_unseen, start_on, stop_on}
 use Rattle.boot_reasons.proofs.pei_turn.start_or_stop.Goals as goal
 
+pub start_told-requires-clause-made : goal.start_told-requires-clause-made
+start_told-requires-clause-made g c = c.requires.made
+
 pub aim-requires : goal.aim-requires
 aim-requires g c = (c.args.catalog.now, view_of c.requires.state.0, c.requires.state.1.parts.shows)
 

@@ -16,6 +16,9 @@ noted_both has other actor gone there shown old mid new (Ok u) same are first se
     noted_then other actor gone there old mid new first (noted_over has other actor there mid new same (subst (λ guids. AreNoted has actor guids mid new) are second))
 noted_both has other actor gone there shown old mid new (Err e) same are first second = tt
 
+pub tell_gone-requires : goal.tell_gone-requires
+tell_gone-requires g c = record { state = c.requires.state }
+
 pub returns : goal.returns
 returns g c m stands =
     let event = c.args.event.now in

@@ -7,6 +7,12 @@ use Rattle.boot_reasons.specs.Unseen.{NamesUnseen}
 use Rattle.boot_reasons.proofs.PeiSteps.{Laws, cut_on, on_ok, went_on}
 use Rattle.boot_reasons.proofs.pei_turn.turn.Goals as goal
 
+pub go_on-requires-clause-made : goal.go_on-requires-clause-made
+go_on-requires-clause-made g c = c.requires.made
+
+pub go_on-requires-clause-state : goal.go_on-requires-clause-state
+go_on-requires-clause-state g c = c.requires.state
+
 pub tell_step-requires : goal.tell_step-requires
 tell_step-requires g c =
     let m = c.requires.state.0 in

@@ -8,15 +8,15 @@ use Rattle.boot_trace.specs.StartLines.{started_lines}
 use Rattle.boot_trace.proofs.StartLines.{first_text, one_text}
 use Rattle.boot_trace.proofs.start.put_start.Goals as goal
 
-pub returns-in_err-put_own-clause-text : goal.returns-in_err-put_own-clause-text
-returns-in_err-put_own-clause-text g c =
+pub returns-in_err-put_made-clause-text : goal.returns-in_err-put_made-clause-text
+returns-in_err-put_made-clause-text g c =
     let T = g.S.Sink.text in
-    puts_err c.from_residual.result (T c.args.sink.now) (T c.put_own.new.sink) (text_of (started_lines c.args.line c.args.runs)) c.from_residual.ensures.0
-    (first_text c.args.line c.args.runs (T c.args.sink.now) (T c.put_own.new.sink) c.in_err-put_own.ensures.text)
+    puts_err c.from_residual.result (T c.args.sink.now) (T c.put_made.new.sink) (text_of (started_lines c.args.line c.args.runs)) c.from_residual.ensures.0
+    (first_text c.args.line c.args.runs (T c.args.sink.now) (T c.put_made.new.sink) c.in_err-put_made.ensures.text)
 
 pub returns-clause-text : goal.returns-clause-text
 returns-clause-text g c =
     let T = g.S.Sink.text in
     let end = L.End Success in
-    rw c.if-runs.false (puts_then c.put_own-2.result (T c.args.sink.now) (T c.put_own.new.sink) (T c.put_own-2.new.sink) (line_text c.args.line) (text_of (end ∷ [])) c.in_ok-put_own.ensures.text
-    (subst (λ text. Puts c.put_own-2.result (T c.put_own.new.sink) (T c.put_own-2.new.sink) text) (sym (one_text end)) c.put_own-2.ensures.text))
+    rw c.if-runs.false (puts_then c.put_made-2.result (T c.args.sink.now) (T c.put_made.new.sink) (T c.put_made-2.new.sink) (line_text c.args.line) (text_of (end ∷ [])) c.in_ok-put_made.ensures.text
+    (subst (λ text. Puts c.put_made-2.result (T c.put_made.new.sink) (T c.put_made-2.new.sink) text) (sym (one_text end)) c.put_made-2.ensures.text))

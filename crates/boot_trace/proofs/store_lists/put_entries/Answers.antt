@@ -8,14 +8,14 @@ use Rattle.boot_trace.proofs.EntryPlaces.{none_behind, told_at}
 use Rattle.boot_trace.proofs.PutLines.{next_line, next_part, all_lines}
 use Rattle.boot_trace.proofs.store_lists.put_entries.Goals as goal
 
-pub returns-in_err-put_own-clause-text : goal.returns-in_err-put_own-clause-text
-returns-in_err-put_own-clause-text g c s stands needs =
+pub returns-in_err-put_made-clause-text : goal.returns-in_err-put_made-clause-text
+returns-in_err-put_made-clause-text g c s stands needs =
     let T = g.S.Sink.text in
     let at = c.entries.invariant.at s stands in
     let told = told_at c.entries_are_told.ensures s c.args.list c.entries.node c.entries._place c.in-Some.told (g.met.M.PeiStore.facts c.args.store.now s stands) at (c.in-Some.ensures.row s stands at.is_in) in
-    puts_err c.from_residual.result (T c.args.sink.now) (T c.put_own.new.sink) (text_of (entry_lines s c.args.list)) c.from_residual.ensures.0
-    (next_part line_text (entry_lines s c.args.list) c.entries._place (told_line c.args.list c.in-Some.told) (T c.args.sink.now) (T c.entries.sink) (T c.put_own.new.sink) told.line
-    (c.entries.invariant.text s stands) (rw c.told_line.ensures at c.in_err-put_own.ensures.text))
+    puts_err c.from_residual.result (T c.args.sink.now) (T c.put_made.new.sink) (text_of (entry_lines s c.args.list)) c.from_residual.ensures.0
+    (next_part line_text (entry_lines s c.args.list) c.entries._place (told_line c.args.list c.in-Some.told) (T c.args.sink.now) (T c.entries.sink) (T c.put_made.new.sink) told.line
+    (c.entries.invariant.text s stands) (rw c.told_line.ensures at c.in_err-put_made.ensures.text))
 
 pub entries-preserved : goal.entries-preserved
 entries-preserved g c =
@@ -24,12 +24,12 @@ entries-preserved g c =
       text = λ s stands.
           let at = c.entries.invariant.at s stands in
           let told = told_at c.entries_are_told.ensures s c.args.list c.entries.node c.entries._place c.in-Some.told (g.met.M.PeiStore.facts c.args.store.now s stands) at (c.in-Some.ensures.row s stands at.is_in) in
-          next_line line_text (entry_lines s c.args.list) c.entries._place (told_line c.args.list c.in-Some.told) (T c.args.sink.now) (T c.entries.sink) (T c.put_own.new.sink) told.line
-          (c.entries.invariant.text s stands) (rw c.told_line.ensures at c.in_ok-put_own.ensures.text);
+          next_line line_text (entry_lines s c.args.list) c.entries._place (told_line c.args.list c.in-Some.told) (T c.args.sink.now) (T c.entries.sink) (T c.put_made.new.sink) told.line
+          (c.entries.invariant.text s stands) (rw c.told_line.ensures at c.in_ok-put_made.ensures.text);
       at = λ s stands.
           let at = c.entries.invariant.at s stands in
           (told_at c.entries_are_told.ensures s c.args.list c.entries.node c.entries._place c.in-Some.told (g.met.M.PeiStore.facts c.args.store.now s stands) at (c.in-Some.ensures.row s stands at.is_in)).next;
-      count = c.in_ok-put_own.ensures.cause ∙ c.entries.invariant.count;
+      count = c.in_ok-put_made.ensures.cause ∙ c.entries.invariant.count;
     }
 
 pub returns-in_default-clause-text : goal.returns-in_default-clause-text

@@ -10,6 +10,15 @@ use Rattle.dxe_core.specs.Reply.{IsReply, Replies}
 use Rattle.dxe_core.proofs.Taking.{counts, counts_where, flags_where, more}
 use Rattle.dxe_core.proofs.action.take_own.Goals as goal
 
+pub read_memory-requires-clause-state : goal.read_memory-requires-clause-state
+read_memory-requires-clause-state g c = c.requires.state
+
+pub install-requires : goal.install-requires
+install-requires g c = record { counted = c.requires.counted }
+
+pub reinstall-requires : goal.reinstall-requires
+reinstall-requires g c = record { counted = c.requires.counted }
+
 pub read_memory-requires-clause-few : goal.read_memory-requires-clause-few
 read_memory-requires-clause-few g c = let is = subst (IsScriptAction Dxe) c.in-Peek.is c.requires.action in at_most c.in-Peek.n is.0.in_range.1
 

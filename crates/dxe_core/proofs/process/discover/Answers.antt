@@ -1,9 +1,14 @@
 use Rattle.std.proofs.Common.{ap, sym, subst, ◌∙◌, Ok}
 use Rattle.dxe_core.specs.Answered.{ProcessesVolume, did}
 use Rattle.dxe_core.specs.Event.{discovers}
+use Rattle.dxe_core.specs.Order.{IsOrderOf}
 use Rattle.dxe_core.specs.Services.{Services}
 use Rattle.dxe_core.proofs.Discovered.{known_volume, new_volume, with_order}
 use Rattle.dxe_core.proofs.process.discover.Goals as goal
+
+pub add_counted-requires-clause-order : goal.add_counted-requires-clause-order
+add_counted-requires-clause-order c =
+    (c.requires.order.0, subst (λ (services : Services). IsOrderOf c.args.catalog.now c.requires.order.0 services.order) (sym c.services.view_is) c.requires.order.1)
 
 pub returns-clause-row : goal.returns-clause-row
 returns-clause-row c =

@@ -6,6 +6,9 @@ use Rattle.dxe_core.proofs.Discovered.{unmapped}
 use Rattle.dxe_core.proofs.Handling.{unasked}
 use Rattle.dxe_core.proofs.process.process.Goals as goal
 
+pub discover-requires-clause-order : goal.discover-requires-clause-order
+discover-requires-clause-order c = c.requires.order
+
 pub returns-in-None-clause-row : goal.returns-in-None-clause-row
 returns-in-None-clause-row c = λ m has.
     let catalog = c.args.catalog.now in

@@ -4,6 +4,9 @@ use Rattle.dxe_dispatch.specs.Choices.{LetsDrivers, NamesDrivers}
 use Rattle.dxe_dispatch.proofs.Openings.{left_behind, none_ran}
 use Rattle.dxe_dispatch.proofs.boot.run_with_ledger.Goals as goal
 
+pub run_dxe-reached-requires-clause-made : goal.run_dxe-reached-requires-clause-made
+run_dxe-reached-requires-clause-made g c = c.requires.made
+
 pub returns-in_err-queue-clause-row : goal.returns-in_err-queue-clause-row
 returns-in_err-queue-clause-row g c s actions fuel made stands =
     let p = err_from_is_err_and c.from_residual.result c.from_residual.ensures.1 in

@@ -5,6 +5,9 @@ use Rattle.dxe_dispatch.specs.Choices.{LetsDrivers, NamesDrivers}
 use Rattle.dxe_dispatch.proofs.FirstRuns.{first_ends, first_few, first_halts}
 use Rattle.dxe_dispatch.proofs.run.run_first.Goals as goal
 
+pub run_dxe-requires-clause-made : goal.run_dxe-requires-clause-made
+run_dxe-requires-clause-made g c = c.requires.made
+
 pub returns-in_err-end-clause-row : goal.returns-in_err-end-clause-row
 returns-in_err-end-clause-row g c s actions fuel made stands =
     let catalog = c.args.catalog.now in

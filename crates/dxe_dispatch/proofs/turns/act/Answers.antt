@@ -7,6 +7,12 @@ use Rattle.dxe_dispatch.proofs.Passing.{busy_starts_none}
 use Rattle.dxe_dispatch.proofs.Turning.{event_owes, event_so, has_event, new_drivers, owes_still, part_acted, told, whole_part, ends_so}
 use Rattle.dxe_dispatch.proofs.turns.act.Goals as goal
 
+pub step-requires-clause-made : goal.step-requires-clause-made
+step-requires-clause-made g c = (c.requires.state.1, c.requires.state.2)
+
+pub step-requires-clause-state : goal.step-requires-clause-state
+step-requires-clause-state g c = (c.requires.state.0, c.requires.state.3.now.machine)
+
 pub returns-in_err-event-clause-row : goal.returns-in_err-event-clause-row
 returns-in_err-event-clause-row g c lets m fuel made ready =
     let p = err_from_is_err_and c.from_residual.result c.from_residual.ensures.1 in

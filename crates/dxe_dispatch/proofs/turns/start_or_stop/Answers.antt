@@ -5,6 +5,9 @@ use Rattle.dxe_dispatch.proofs.Idle.{case_starts}
 use Rattle.dxe_dispatch.proofs.Turning.{none_put, not_ok, part_started, part_stopped, starts_so, stays_so, stops_so}
 use Rattle.dxe_dispatch.proofs.turns.start_or_stop.Goals as goal
 
+pub choose-requires-clause-state : goal.choose-requires-clause-state
+choose-requires-clause-state g c = (c.requires.state.0, c.requires.state.1)
+
 pub returns-in_err-next-clause-row : goal.returns-in_err-next-clause-row
 returns-in_err-next-clause-row g c m fuel are idle =
     let p = err_from_is_err_and c.from_residual.result c.from_residual.ensures.1 in

@@ -2,6 +2,9 @@ use Rattle.std.proofs.Common.{◌∙◌, true≢false, sym}
 use Rattle.dxe_dispatch.proofs.Turning.{on_ok, owes_still, turns_over}
 use Rattle.dxe_dispatch.proofs.turns.turn.Goals as goal
 
+pub act-requires-clause-state : goal.act-requires-clause-state
+act-requires-clause-state g c = c.requires.state
+
 pub start_or_stop-requires-clause-state : goal.start_or_stop-requires-clause-state
 start_or_stop-requires-clause-state g c =
     let ready = c.requires.state.3 in

@@ -4,6 +4,9 @@ use Rattle.pei_dispatch.specs.Choices.{NamesPeims}
 use Rattle.pei_dispatch.proofs.FirstRuns.{first_boot_halts, first_boots}
 use Rattle.pei_dispatch.proofs.boot.boot_first_pei.Goals as goal
 
+pub boot_pei-requires-clause-opening : goal.boot_pei-requires-clause-opening
+boot_pei-requires-clause-opening g c = c.requires.opening
+
 pub returns-clause-row : goal.returns-clause-row
 returns-clause-row g c board stands =
     let text = g.S.Sink.text in

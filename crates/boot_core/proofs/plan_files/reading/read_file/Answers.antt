@@ -1,8 +1,20 @@
-use Rattle.std.proofs.Common.{refl, ap}
+use Rattle.std.proofs.Common.{◌≡◌, ◌∙◌, ◌++◌, ◌≤◌, ℕ, List, length, refl, ap, sym, subst}
 use mathlib.Core.Logic.{inl, inr}
+use Rattle.boot_io.specs.Files.{IsTold}
 use Rattle.boot_model.specs.declared.line.Line.TheVariants as L
 use Rattle.boot_core.proofs.PlanImages.{long_content, missed_is}
 use Rattle.boot_core.proofs.plan_files.reading.read_file.Goals as goal
+
+pub returns-in-Ok-clause-row : goal.returns-in-Ok-clause-row
+returns-in-Ok-clause-row g c =
+    let into = c.in-Ok.ensures.into in
+    let is : c.read_whole.new.into ≡ into.0 = into.1 ∙ ap (λ old. old ++ into.0) c.new-content.ensures in (
+      record {
+        as_told = subst (IsTold (g.F.Files.told c.args.files.now c.args.name.now)) (sym is) into.3;
+        within = subst (λ (content : List ℕ). length content ≤ c.args.limit) (sym is) into.2;
+      },
+      c.in-Ok.ensures.cause,
+    )
 
 pub returns-in-Err-TooLong-clause-row : goal.returns-in-Err-TooLong-clause-row
 returns-in-Err-TooLong-clause-row g c =

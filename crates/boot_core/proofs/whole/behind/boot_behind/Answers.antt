@@ -6,6 +6,21 @@ use Rattle.boot_core.specs.Choices.{choices_of}
 use Rattle.boot_core.proofs.BehindPei.{closes}
 use Rattle.boot_core.proofs.whole.behind.boot_behind.Goals as goal
 
+pub boot_drivers-requires-clause-state : goal.boot_drivers-requires-clause-state
+boot_drivers-requires-clause-state g c = c.requires.state
+
+pub close_pei-requires : goal.close_pei-requires
+close_pei-requires g c = record { state = c.requires.state }
+
+pub close_pei-requires-in-NoIpl : goal.close_pei-requires-in-NoIpl
+close_pei-requires-in-NoIpl g c = record { state = c.requires.state }
+
+pub close_pei-requires-in-Spent : goal.close_pei-requires-in-Spent
+close_pei-requires-in-Spent g c = record { state = c.requires.state }
+
+pub close_pei-requires-in-Deep : goal.close_pei-requires-in-Deep
+close_pei-requires-in-Deep g c = record { state = c.requires.state }
+
 pub returns-in-Handoff-clause-row : goal.returns-in-Handoff-clause-row
 returns-in-Handoff-clause-row g c = λ pei first left has. rw c.in-Handoff.is (c.boot_drivers.ensures.row pei first left has)
 

@@ -9,6 +9,9 @@ use Rattle.boot_core.proofs.FreeBoots.{goes_freely}
 use Rattle.boot_core.proofs.Giving.{freely, given_up_in_pei}
 use Rattle.boot_core.proofs.whole.boot.boot_by_choice.Goals as goal
 
+pub boot_pei-requires-clause-opening : goal.boot_pei-requires-clause-opening
+boot_pei-requires-clause-opening g c = c.requires.opening
+
 pub returns-in-Barred-clause-free : goal.returns-in-Barred-clause-free
 returns-in-Barred-clause-free g c = λ board here.
     let T = g.S.Sink.text in

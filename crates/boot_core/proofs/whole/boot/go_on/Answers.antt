@@ -3,6 +3,9 @@ use Rattle.boot_core.specs.Choices.{choices_of}
 use Rattle.boot_core.proofs.Giving.{given_up_behind, has_come}
 use Rattle.boot_core.proofs.whole.boot.go_on.Goals as goal
 
+pub boot_behind-requires-clause-state : goal.boot_behind-requires-clause-state
+boot_behind-requires-clause-state g c = c.requires.state
+
 pub returns-in-Closed-clause-row : goal.returns-in-Closed-clause-row
 returns-in-Closed-clause-row g c = λ board first pei right.
     let T = g.S.Sink.text in

@@ -5,6 +5,9 @@ use Rattle.boot_core.specs.ByChoice.{HasCome}
 use Rattle.boot_core.proofs.FirstBoots.{NamesNone, first_choices, first_halts, first_ran, first_wants}
 use Rattle.boot_core.proofs.whole.first.boot_store.Goals as goal
 
+pub boot_by_choice-requires-clause-opening : goal.boot_by_choice-requires-clause-opening
+boot_by_choice-requires-clause-opening g c = c.requires.opening
+
 pub returns-clause-row : goal.returns-clause-row
 returns-clause-row g c = λ board here.
     let T = g.S.Sink.text in

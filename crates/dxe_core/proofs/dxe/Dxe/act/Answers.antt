@@ -11,8 +11,8 @@ use Rattle.dxe_core.proofs.Cases.{case_acts, is_busy, leaves_from, part, went}
 use Rattle.dxe_core.proofs.Going.{first_part, part_from, stepped_from, stepped_none, stepped_one, steps_fail, texts}
 use Rattle.dxe_core.proofs.dxe.Dxe.act.Goals as goal
 
-pub returns-in_err-print-in-Prints-clause-row : goal.returns-in_err-print-in-Prints-clause-row
-returns-in_err-print-in-Prints-clause-row g c m fuel for h waits runs =
+pub returns-in_err-put_made-in-Prints-clause-row : goal.returns-in_err-put_made-in-Prints-clause-row
+returns-in_err-put_made-in-Prints-clause-row g c m fuel for h waits runs =
     let T = g.S.Sink.text in
     let catalog = c.args.catalog.now in
     let core : DxeCore = record { frames = c.self.inside.frames; fuel = c.self.inside.fuel; services = c.self.inside.services } in
@@ -22,8 +22,8 @@ returns-in_err-print-in-Prints-clause-row g c m fuel for h waits runs =
     let line = c.in-Prints.line in
     let d = done c.effects_are_alike.ensures.dxe catalog fuel m runs.top runs.below core c.act.new.fuel c.act.new.frames (line ∷ []) stands.core kept.fuelled has.0 has.1 in
     steps_fail _ catalog fuel m _ c.from_residual.result c.from_residual.ensures.0
-    (part catalog fuel m d.later (DxeActs runs.top runs.below) (texts (T c.args.sink.now) (T c.print.new.sink)) (case_acts catalog m runs.top runs.below runs.frames runs.fires) d.is
-    (first_part m d.later line line [] (T c.args.sink.now) (T c.print.new.sink) d.printed refl c.in_err-print-in-Prints.ensures.text))
+    (part catalog fuel m d.later (DxeActs runs.top runs.below) (texts (T c.args.sink.now) (T c.put_made.new.sink)) (case_acts catalog m runs.top runs.below runs.frames runs.fires) d.is
+    (first_part m d.later line line [] (T c.args.sink.now) (T c.put_made.new.sink) d.printed refl c.in_err-put_made-in-Prints.ensures.text))
 
 pub act_own-requires-clause-counted : goal.act_own-requires-clause-counted
 act_own-requires-clause-counted g c =
@@ -93,8 +93,8 @@ returns-in-Silent-clause-made g c fuel for =
     let kept = subst (IsFor catalog fuel) (sym c.self.view_is) for in
     for_counted catalog fuel core c.act.new.fuel c.act.new.frames has.0 kept
 
-pub returns-in_ok-print-in-Prints-clause-row : goal.returns-in_ok-print-in-Prints-clause-row
-returns-in_ok-print-in-Prints-clause-row g c m fuel for h waits runs =
+pub returns-in_ok-put_made-in-Prints-clause-row : goal.returns-in_ok-put_made-in-Prints-clause-row
+returns-in_ok-put_made-in-Prints-clause-row g c m fuel for h waits runs =
     let T = g.S.Sink.text in
     let catalog = c.args.catalog.now in
     let core : DxeCore = record { frames = c.self.inside.frames; fuel = c.self.inside.fuel; services = c.self.inside.services } in
@@ -104,12 +104,12 @@ returns-in_ok-print-in-Prints-clause-row g c m fuel for h waits runs =
     let line = c.in-Prints.line in
     let d = done c.effects_are_alike.ensures.dxe catalog fuel m runs.top runs.below core c.act.new.fuel c.act.new.frames (line ∷ []) stands.core kept.fuelled has.0 has.1 in
     let busy = is_busy m core.frames runs.top runs.below stands.core.frames (sym stands.core.frames ∙ runs.frames) in
-    went _ catalog fuel m d.later (DxeActs runs.top runs.below) quiet (Went c.quiet-in-Prints.result) (texts (T c.args.sink.now) (T c.print.new.sink))
+    went _ catalog fuel m d.later (DxeActs runs.top runs.below) quiet (Went c.quiet-in-Prints.result) (texts (T c.args.sink.now) (T c.put_made.new.sink))
     (case_acts catalog m runs.top runs.below runs.frames runs.fires) d.is busy (sym d.changed) d.left (ap (λ event. Went event) c.quiet-in-Prints.ensures)
-    (stepped_one _ m d.later line line (T c.args.sink.now) (T c.print.new.sink) d.printed refl c.in_ok-print-in-Prints.ensures.text (record { store = subst (g.M.PeiStore.stands_for c.args.store.now) (sym d.store) stands.store; core = d.fields }))
+    (stepped_one _ m d.later line line (T c.args.sink.now) (T c.put_made.new.sink) d.printed refl c.in_ok-put_made-in-Prints.ensures.text (record { store = subst (g.M.PeiStore.stands_for c.args.store.now) (sym d.store) stands.store; core = d.fields }))
 
-pub returns-in_ok-print-in-Prints-clause-made : goal.returns-in_ok-print-in-Prints-clause-made
-returns-in_ok-print-in-Prints-clause-made g c fuel for =
+pub returns-in_ok-put_made-in-Prints-clause-made : goal.returns-in_ok-put_made-in-Prints-clause-made
+returns-in_ok-put_made-in-Prints-clause-made g c fuel for =
     let catalog = c.args.catalog.now in
     let m = c.requires.state.0 in
     let h = c.requires.state.1 in
@@ -166,8 +166,8 @@ invariant_of-self-in-Silent g c =
     let has = c.in-Silent.ensures runs.top runs.below (sym stands.core.frames ∙ runs.frames) in
     limit_fits core.fuel c.act.new.fuel c.self.invariant has.0
 
-pub invariant_of-self-in_err-print-in-Prints : goal.invariant_of-self-in_err-print-in-Prints
-invariant_of-self-in_err-print-in-Prints g c =
+pub invariant_of-self-in_err-put_made-in-Prints : goal.invariant_of-self-in_err-put_made-in-Prints
+invariant_of-self-in_err-put_made-in-Prints g c =
     let catalog = c.args.catalog.now in
     let m = c.requires.state.0 in
     let h = c.requires.state.1 in

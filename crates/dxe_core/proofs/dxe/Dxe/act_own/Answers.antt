@@ -4,13 +4,24 @@ use Rattle.boot_model.specs.Text.{text_of}
 use Rattle.std.specs.Io.KnownBytes.{Appends}
 use Rattle.boot_io.specs.Sink as Sinks
 use Rattle.dxe_core.specs.Order.{Drivers}
-use Rattle.dxe_core.specs.Services.{AreCounted}
+use Rattle.dxe_core.specs.Services.{AreCounted, AreServicesFor, AreServicesOf}
 use Rattle.dxe_core.specs.Parts.{acted_to}
 use Rattle.dxe_core.specs.Standing.{DxeCore, StandsFor}
 use Rattle.dxe_core.proofs.DriverLines.{action_prints}
 use Rattle.dxe_core.proofs.Going.{none_put, part_put, stepped, takes_fail}
 use Rattle.dxe_core.proofs.Owned.{call_line, replied, top_is}
 use Rattle.dxe_core.proofs.dxe.Dxe.act_own.Goals as goal
+
+pub take_own-requires-clause-made : goal.take_own-requires-clause-made
+take_own-requires-clause-made g c = subst (λ (core : DxeCore). AreServicesFor c.args.catalog.now core.services) (sym c.self.view_is) c.requires.made
+
+pub take_own-requires-clause-state : goal.take_own-requires-clause-state
+take_own-requires-clause-state g c = (c.requires.state.0.store, c.requires.state.1.store, tt)
+
+pub take_own-requires-clause-machine : goal.take_own-requires-clause-machine
+take_own-requires-clause-machine g c =
+    let m = c.requires.state.0 in
+    (m, subst (λ (core : DxeCore). AreServicesOf c.args.catalog.now m core.services) (sym c.self.view_is) c.requires.state.1.core.services)
 
 pub take_own-requires-clause-counted : goal.take_own-requires-clause-counted
 take_own-requires-clause-counted g c =

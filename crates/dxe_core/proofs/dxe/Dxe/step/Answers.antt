@@ -5,6 +5,9 @@ use Rattle.dxe_core.proofs.Going.{texts}
 use Rattle.phase_parts.specs.Frames.{top_of}
 use Rattle.dxe_core.proofs.dxe.Dxe.step.Goals as goal
 
+pub act-requires-clause-made : goal.act-requires-clause-made
+act-requires-clause-made g c = c.requires.made
+
 pub returns-in-Some-clause-row : goal.returns-in-Some-clause-row
 returns-in-Some-clause-row g c m fuel for h waits =
     let frames = c.args.self.now.frames in

@@ -11,19 +11,19 @@ use Rattle.pei_core.proofs.Cases.{case_acts, cons_nil, part, went}
 use Rattle.pei_core.proofs.Going.{first_part, goes_on, led_quietly, quiet_goal, same_err, stepped_from, steps_fail, stepped_none, stepped_one, texts}
 use Rattle.pei_core.proofs.pei.Pei.act.Goals as goal
 
-pub returns-in_err-print-in-Prints-clause-row : goal.returns-in_err-print-in-Prints-clause-row
-returns-in_err-print-in-Prints-clause-row g c m fuel for h runs =
+pub returns-in_err-put_made-in-Prints-clause-row : goal.returns-in_err-put_made-in-Prints-clause-row
+returns-in_err-put_made-in-Prints-clause-row g c m fuel for h runs =
     let T = g.S.Sink.text in
     let catalog = c.args.catalog.now in
     let line = c.in-Prints.line in
     let has = c.in-Prints.ensures runs.top runs.below (sym h.has.fields.frames ∙ runs.frames) in
     let d = done c.effects_are_alike.ensures.pei catalog fuel m runs.top runs.below c.args.self.now.core c.act.new.fuel c.act.new.frames (line ∷ []) h.has.fields for.fuelled has.0 has.1 in
     steps_fail _ _ catalog fuel m _ c.from_residual.result c.from_residual.ensures.1 (λ (idle : IsIdle m). cons_nil _ _ _ runs.frames idle.frames)
-    (part catalog fuel m d.later (Acts runs.top runs.below) (texts (T c.args.sink.now) (T c.print.new.sink)) (case_acts catalog m runs.top runs.below runs.quiet runs.frames) d.is
-    (first_part m d.later line line [] (T c.args.sink.now) (T c.print.new.sink) d.printed refl c.in_err-print-in-Prints.ensures.text))
+    (part catalog fuel m d.later (Acts runs.top runs.below) (texts (T c.args.sink.now) (T c.put_made.new.sink)) (case_acts catalog m runs.top runs.below runs.quiet runs.frames) d.is
+    (first_part m d.later line line [] (T c.args.sink.now) (T c.put_made.new.sink) d.printed refl c.in_err-put_made-in-Prints.ensures.text))
 
-pub returns-in_err-print-in-Prints-clause-kept : goal.returns-in_err-print-in-Prints-clause-kept
-returns-in_err-print-in-Prints-clause-kept g c =
+pub returns-in_err-put_made-in-Prints-clause-kept : goal.returns-in_err-put_made-in-Prints-clause-kept
+returns-in_err-put_made-in-Prints-clause-kept g c =
     let runs = c.requires.state.2 in
     let has = c.in-Prints.ensures runs.top runs.below (sym c.requires.state.1.has.fields.frames ∙ runs.frames) in
     record { made = λ fuel for. for_counted c.args.catalog.now fuel c.args.self.now.core c.act.new.fuel c.act.new.frames has.0 for; started = refl }
@@ -80,20 +80,20 @@ returns-in-Silent-clause-kept g c =
     let has = c.in-Silent.ensures runs.top runs.below (sym c.requires.state.1.has.fields.frames ∙ runs.frames) in
     record { made = λ fuel for. for_counted c.args.catalog.now fuel c.args.self.now.core c.act.new.fuel c.act.new.frames has.0 for; started = refl }
 
-pub returns-in_ok-print-in-Prints-clause-row : goal.returns-in_ok-print-in-Prints-clause-row
-returns-in_ok-print-in-Prints-clause-row g c m fuel for h runs =
+pub returns-in_ok-put_made-in-Prints-clause-row : goal.returns-in_ok-put_made-in-Prints-clause-row
+returns-in_ok-put_made-in-Prints-clause-row g c m fuel for h runs =
     let T = g.S.Sink.text in
     let catalog = c.args.catalog.now in
     let line = c.in-Prints.line in
     let has = c.in-Prints.ensures runs.top runs.below (sym h.has.fields.frames ∙ runs.frames) in
     let d = done c.effects_are_alike.ensures.pei catalog fuel m runs.top runs.below c.args.self.now.core c.act.new.fuel c.act.new.frames (line ∷ []) h.has.fields for.fuelled has.0 has.1 in
-    let t = texts (T c.args.sink.now) (T c.print.new.sink) in
+    let t = texts (T c.args.sink.now) (T c.put_made.new.sink) in
     went g.M.PeiStore.TAKES_MEMORY _ catalog fuel m (Acts runs.top runs.below) (quiet_goal d.later) c.quiet-in-Prints.result t (case_acts catalog m runs.top runs.below runs.quiet runs.frames) d.is d.there d.gone (λ (idle : IsIdle m). cons_nil _ _ _ runs.frames idle.frames)
     (led_quietly _ m d.later t Nobody c.quiet-in-Prints.result c.quiet-in-Prints.ensures (d.fields.reported ∙ sym h.has.fields.reported) d.again
-    (stepped_one _ m d.later line line (T c.args.sink.now) (T c.print.new.sink) d.printed refl c.in_ok-print-in-Prints.ensures.text (record { store = subst (g.M.PeiStore.stands_for c.args.self.now.store) (sym d.store) h.has.store; fields = d.fields })))
+    (stepped_one _ m d.later line line (T c.args.sink.now) (T c.put_made.new.sink) d.printed refl c.in_ok-put_made-in-Prints.ensures.text (record { store = subst (g.M.PeiStore.stands_for c.args.self.now.store) (sym d.store) h.has.store; fields = d.fields })))
 
-pub returns-in_ok-print-in-Prints-clause-kept : goal.returns-in_ok-print-in-Prints-clause-kept
-returns-in_ok-print-in-Prints-clause-kept g c =
+pub returns-in_ok-put_made-in-Prints-clause-kept : goal.returns-in_ok-put_made-in-Prints-clause-kept
+returns-in_ok-put_made-in-Prints-clause-kept g c =
     let runs = c.requires.state.2 in
     let has = c.in-Prints.ensures runs.top runs.below (sym c.requires.state.1.has.fields.frames ∙ runs.frames) in
     record { made = λ fuel for. for_counted c.args.catalog.now fuel c.args.self.now.core c.act.new.fuel c.act.new.frames has.0 for; started = refl }

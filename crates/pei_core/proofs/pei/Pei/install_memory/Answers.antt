@@ -11,27 +11,27 @@ use Rattle.pei_core.proofs.Moving.{behind, behind_core, called_quiet, refusal_is
 use Rattle.pei_core.proofs.SecondStarts.{nobody}
 use Rattle.pei_core.proofs.pei.Pei.install_memory.Goals as goal
 
-pub returns-in_err-print-in-Ok-clause-row : goal.returns-in_err-print-in-Ok-clause-row
-returns-in_err-print-in-Ok-clause-row g c m h =
+pub returns-in_err-put_made-in-Ok-clause-row : goal.returns-in_err-put_made-in-Ok-clause-row
+returns-in_err-put_made-in-Ok-clause-row g c m h =
     let T = g.S.Sink.text in
     let a = c.in-Ok.ensures.row m.store h.store in
     let line = L.CoreInstall Success in
     leads_fail _ _ m _ _ c.from_residual.result c.from_residual.ensures.1
-    (part_as m _ _ (texts (T c.args.sink.now) (T c.print.new.sink)) (ap (called_goal m) a.1)
-    (first_part m (behind m c.in-Ok.sweep a.0) line line [] (T c.args.sink.now) (T c.print.new.sink) refl refl c.in_err-print-in-Ok.ensures.text))
+    (part_as m _ _ (texts (T c.args.sink.now) (T c.put_made.new.sink)) (ap (called_goal m) a.1)
+    (first_part m (behind m c.in-Ok.sweep a.0) line line [] (T c.args.sink.now) (T c.put_made.new.sink) refl refl c.in_err-put_made-in-Ok.ensures.text))
 
-pub returns-in_err-print-in-Err-clause-row : goal.returns-in_err-print-in-Err-clause-row
-returns-in_err-print-in-Err-clause-row g c m h =
+pub returns-in_err-put_made-in-Err-clause-row : goal.returns-in_err-put_made-in-Err-clause-row
+returns-in_err-put_made-in-Err-clause-row g c m h =
     let T = g.S.Sink.text in
     let a = c.in-Err.ensures.row m.store h.store in
     let status = c.in_ok-status-in-Err.status in
     let is = refusal_is g.M.PeiStore.TAKES_MEMORY (core_install m.store) m.store a.0 c.in-Err.fault status a.1 (sym c.status.ensures ∙ c.in_ok-status-in-Err.ensures.ok_part) in
-    leads_fail _ _ m _ _ c.from_residual-in_err-print-in-Err.result c.from_residual-in_err-print-in-Err.ensures.1
-    (part_as m _ _ (texts (T c.args.sink.now) (T c.print-in-Err.new.sink)) (ap (called_goal m) is.is)
-    (first_part m (refused m (status_of c.in-Err.fault)) (L.CoreInstall (status_of c.in-Err.fault)) (L.CoreInstall status) [] (T c.args.sink.now) (T c.print-in-Err.new.sink) refl (ap L.CoreInstall (sym is.told)) c.in_err-print-in-Err.ensures.text))
+    leads_fail _ _ m _ _ c.from_residual-in_err-put_made-in-Err.result c.from_residual-in_err-put_made-in-Err.ensures.1
+    (part_as m _ _ (texts (T c.args.sink.now) (T c.put_made-in-Err.new.sink)) (ap (called_goal m) is.is)
+    (first_part m (refused m (status_of c.in-Err.fault)) (L.CoreInstall (status_of c.in-Err.fault)) (L.CoreInstall status) [] (T c.args.sink.now) (T c.put_made-in-Err.new.sink) refl (ap L.CoreInstall (sym is.told)) c.in_err-put_made-in-Err.ensures.text))
 
-pub returns-in_ok-print-in-Ok-clause-row : goal.returns-in_ok-print-in-Ok-clause-row
-returns-in_ok-print-in-Ok-clause-row g c m h =
+pub returns-in_ok-put_made-in-Ok-clause-row : goal.returns-in_ok-put_made-in-Ok-clause-row
+returns-in_ok-put_made-in-Ok-clause-row g c m h =
     let T = g.S.Sink.text in
     let a = c.in-Ok.ensures.row m.store h.store in
     let line = L.CoreInstall Success in
@@ -40,42 +40,42 @@ returns-in_ok-print-in-Ok-clause-row g c m h =
       gone = ap (λ x. x.gone) c.installed.ensures;
       again = called_quiet m (Ok (c.in-Ok.sweep, a.0)) (subst (KeepsMoved m.store) a.1 (core_moved m.store));
       volumes = none_more (length m.reported);
-      stepped = stepped_one _ m (behind m c.in-Ok.sweep a.0) line line (T c.args.sink.now) (T c.print.new.sink) refl refl c.in_ok-print-in-Ok.ensures.text
+      stepped = stepped_one _ m (behind m c.in-Ok.sweep a.0) line line (T c.args.sink.now) (T c.put_made.new.sink) refl refl c.in_ok-put_made-in-Ok.ensures.text
           (record { store = a.2; fields = behind_core m c.in-Ok.sweep a.0 c.args.self.now.core h.fields });
     })
 
-pub returns-in_ok-print-in-Err-clause-row : goal.returns-in_ok-print-in-Err-clause-row
-returns-in_ok-print-in-Err-clause-row g c m h =
+pub returns-in_ok-put_made-in-Err-clause-row : goal.returns-in_ok-put_made-in-Err-clause-row
+returns-in_ok-put_made-in-Err-clause-row g c m h =
     let T = g.S.Sink.text in
     let a = c.in-Err.ensures.row m.store h.store in
     let status = c.in_ok-status-in-Err.status in
     let is = refusal_is g.M.PeiStore.TAKES_MEMORY (core_install m.store) m.store a.0 c.in-Err.fault status a.1 (sym c.status.ensures ∙ c.in_ok-status-in-Err.ensures.ok_part) in
     let later = refused m (status_of c.in-Err.fault) in
     led_as _ m _ _ _ c.quiet.result (ap (called_goal m) is.is)
-    (led_quietly _ m later (texts (T c.args.sink.now) (T c.print-in-Err.new.sink)) Nobody c.quiet.result c.quiet.ensures refl (nobody m later refl refl refl)
-    (stepped_one _ m later (L.CoreInstall (status_of c.in-Err.fault)) (L.CoreInstall status) (T c.args.sink.now) (T c.print-in-Err.new.sink) refl (ap L.CoreInstall (sym is.told)) c.in_ok-print-in-Err.ensures.text
+    (led_quietly _ m later (texts (T c.args.sink.now) (T c.put_made-in-Err.new.sink)) Nobody c.quiet.result c.quiet.ensures refl (nobody m later refl refl refl)
+    (stepped_one _ m later (L.CoreInstall (status_of c.in-Err.fault)) (L.CoreInstall status) (T c.args.sink.now) (T c.put_made-in-Err.new.sink) refl (ap L.CoreInstall (sym is.told)) c.in_ok-put_made-in-Err.ensures.text
     (record { store = subst (g.M.PeiStore.stands_for c.core_install.new.self) is.same a.2; fields = refused_core m (status_of c.in-Err.fault) c.args.self.now.core h.fields })))
 
 pub core_install-requires : goal.core_install-requires
 core_install-requires g c = record { state = c.requires.state }
 
-pub returns-in_err-print-in-Ok-clause-kept : goal.returns-in_err-print-in-Ok-clause-kept
-returns-in_err-print-in-Ok-clause-kept g c catalog = record { made = λ fuel for. record { states = for.states; known = for.known; fuelled = for.fuelled }; started = refl }
+pub returns-in_err-put_made-in-Ok-clause-kept : goal.returns-in_err-put_made-in-Ok-clause-kept
+returns-in_err-put_made-in-Ok-clause-kept g c catalog = record { made = λ fuel for. record { states = for.states; known = for.known; fuelled = for.fuelled }; started = refl }
 
 pub returns-in_err-status-in-Err-clause-kept : goal.returns-in_err-status-in-Err-clause-kept
 returns-in_err-status-in-Err-clause-kept g c catalog = record { made = λ fuel for. record { states = for.states; known = for.known; fuelled = for.fuelled }; started = refl }
 
-pub returns-in_err-print-in-Err-clause-kept : goal.returns-in_err-print-in-Err-clause-kept
-returns-in_err-print-in-Err-clause-kept g c catalog = record { made = λ fuel for. record { states = for.states; known = for.known; fuelled = for.fuelled }; started = refl }
+pub returns-in_err-put_made-in-Err-clause-kept : goal.returns-in_err-put_made-in-Err-clause-kept
+returns-in_err-put_made-in-Err-clause-kept g c catalog = record { made = λ fuel for. record { states = for.states; known = for.known; fuelled = for.fuelled }; started = refl }
 
-pub returns-in_ok-print-in-Ok-clause-kept : goal.returns-in_ok-print-in-Ok-clause-kept
-returns-in_ok-print-in-Ok-clause-kept g c catalog = record { made = λ fuel for. record { states = for.states; known = for.known; fuelled = for.fuelled }; started = refl }
+pub returns-in_ok-put_made-in-Ok-clause-kept : goal.returns-in_ok-put_made-in-Ok-clause-kept
+returns-in_ok-put_made-in-Ok-clause-kept g c catalog = record { made = λ fuel for. record { states = for.states; known = for.known; fuelled = for.fuelled }; started = refl }
 
-pub returns-in_ok-print-in-Err-clause-kept : goal.returns-in_ok-print-in-Err-clause-kept
-returns-in_ok-print-in-Err-clause-kept g c catalog = record { made = λ fuel for. record { states = for.states; known = for.known; fuelled = for.fuelled }; started = refl }
+pub returns-in_ok-put_made-in-Err-clause-kept : goal.returns-in_ok-put_made-in-Err-clause-kept
+returns-in_ok-put_made-in-Err-clause-kept g c catalog = record { made = λ fuel for. record { states = for.states; known = for.known; fuelled = for.fuelled }; started = refl }
 
-pub returns-in_ok-print-in-Ok-clause-faults : goal.returns-in_ok-print-in-Ok-clause-faults
-returns-in_ok-print-in-Ok-clause-faults g c = c.in_ok-print-in-Ok.ensures.cause
+pub returns-in_ok-put_made-in-Ok-clause-faults : goal.returns-in_ok-put_made-in-Ok-clause-faults
+returns-in_ok-put_made-in-Ok-clause-faults g c = c.in_ok-put_made-in-Ok.ensures.cause
 
-pub returns-in_ok-print-in-Err-clause-faults : goal.returns-in_ok-print-in-Err-clause-faults
-returns-in_ok-print-in-Err-clause-faults g c = c.in_ok-print-in-Err.ensures.cause
+pub returns-in_ok-put_made-in-Err-clause-faults : goal.returns-in_ok-put_made-in-Err-clause-faults
+returns-in_ok-put_made-in-Err-clause-faults g c = c.in_ok-put_made-in-Err.ensures.cause

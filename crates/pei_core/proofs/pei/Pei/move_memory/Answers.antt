@@ -14,8 +14,8 @@ use Rattle.pei_core.proofs.Going.{first_part, goes_on, none_more, one_text, same
 use Rattle.pei_core.proofs.Moving.{call_prints, called_reported, migrate_line, moved, moved_core, moved_lets}
 use Rattle.pei_core.proofs.pei.Pei.move_memory.Goals as goal
 
-pub returns-in_err-print-clause-row : goal.returns-in_err-print-clause-row
-returns-in_err-print-clause-row g c catalog m fuel for h moves =
+pub returns-in_err-put_made-clause-row : goal.returns-in_err-put_made-clause-row
+returns-in_err-put_made-clause-row g c catalog m fuel for h moves =
     let T = g.S.Sink.text in
     let a = c.migrate-from.ensures.row m.store (h.has.store, moves.1) in
     let is = case_moves catalog m a.0 moves.0.quiet moves.0.frames a.1.0 in
@@ -23,8 +23,8 @@ returns-in_err-print-clause-row g c catalog m fuel for h moves =
     let told = call_prints mid (core_install a.0) in
     let line = L.Migrate m.store.base a.0.base in
     steps_fail _ _ catalog fuel m _ c.from_residual.result c.from_residual.ensures.1 (λ (idle : IsIdle m). some_none _ _ a.1.0 idle.moves)
-    (part catalog fuel m (moved_to m a.0) (Moves a.0) (texts (T c.args.sink.now) (T c.print.new.sink)) is refl
-    (first_part m (moved_to m a.0) line _ told.0 (T c.args.sink.now) (T c.print.new.sink) (told.1 ∙ append_assoc m.lines (line ∷ []) told.0) (migrate_line c.migrate-from.result m.store a.0 a.1.1) c.in_err-print.ensures.text))
+    (part catalog fuel m (moved_to m a.0) (Moves a.0) (texts (T c.args.sink.now) (T c.put_made.new.sink)) is refl
+    (first_part m (moved_to m a.0) line _ told.0 (T c.args.sink.now) (T c.put_made.new.sink) (told.1 ∙ append_assoc m.lines (line ∷ []) told.0) (migrate_line c.migrate-from.result m.store a.0 a.1.1) c.in_err-put_made.ensures.text))
 
 pub returns-in_err-installed-clause-row : goal.returns-in_err-installed-clause-row
 returns-in_err-installed-clause-row g c catalog m fuel for h moves =
@@ -33,8 +33,8 @@ returns-in_err-installed-clause-row g c catalog m fuel for h moves =
     let is = case_moves catalog m a.0 moves.0.quiet moves.0.frames a.1.0 in
     let mid = moved m a.0 in
     let line = L.Migrate m.store.base a.0.base in
-    let first = subst (λ l. Appends (T c.args.sink.now) (T c.print.new.sink) l) (ap line_text (migrate_line c.migrate-from.result m.store a.0 a.1.1) ∙ sym (one_text line)) c.in_ok-print.ensures.text in
-    goes_on c.in_err-installed.field-0.0 g.M.PeiStore.TAKES_MEMORY (Has g.M.PeiStore.stands_for c.install_memory.new.self) _ catalog fuel m mid (called_goal mid (core_install a.0)) (line ∷ []) (T c.args.sink.now) (T c.print.new.sink) (T c.install_memory.new.sink) c.from_residual-in_err-installed.result
+    let first = subst (λ l. Appends (T c.args.sink.now) (T c.put_made.new.sink) l) (ap line_text (migrate_line c.migrate-from.result m.store a.0 a.1.1) ∙ sym (one_text line)) c.in_ok-put_made.ensures.text in
+    goes_on c.in_err-installed.field-0.0 g.M.PeiStore.TAKES_MEMORY (Has g.M.PeiStore.stands_for c.install_memory.new.self) _ catalog fuel m mid (called_goal mid (core_install a.0)) (line ∷ []) (T c.args.sink.now) (T c.put_made.new.sink) (T c.install_memory.new.sink) c.from_residual-in_err-installed.result
     (same_err _ c.from_residual-in_err-installed.result c.from_residual-in_err-installed.ensures.1) (λ (idle : IsIdle m). some_none _ _ a.1.0 idle.moves) (ap (in_case catalog fuel m) is) refl first
     (c.in_err-installed.ensures.row mid (record { store = a.2; fields = moved_core m a.0 c.args.self.now.core h.has.fields }))
 
@@ -51,7 +51,7 @@ returns-clause-row g c catalog m fuel for h moves =
     let is = case_moves catalog m a.0 moves.0.quiet moves.0.frames a.1.0 in
     let mid = moved m a.0 in
     let line = L.Migrate m.store.base a.0.base in
-    let first = subst (λ l. Appends (T c.args.sink.now) (T c.print.new.sink) l) (ap line_text (migrate_line c.migrate-from.result m.store a.0 a.1.1) ∙ sym (one_text line)) c.in_ok-print.ensures.text in
+    let first = subst (λ l. Appends (T c.args.sink.now) (T c.put_made.new.sink) l) (ap line_text (migrate_line c.migrate-from.result m.store a.0 a.1.1) ∙ sym (one_text line)) c.in_ok-put_made.ensures.text in
     let led = c.in_ok-installed.ensures.row mid (record { store = a.2; fields = moved_core m a.0 c.args.self.now.core h.has.fields }) in
     let goal = called_goal mid (core_install a.0) in
     let t = texts (T c.args.sink.now) (T c.install_memory.new.sink) in
@@ -62,5 +62,5 @@ returns-clause-row g c catalog m fuel for h moves =
       gone = led.gone;
       again = moved_lets m a.0 a.1.0;
       volumes = ap length (called_reported mid (core_install a.0)) ∙ none_more (length m.reported);
-      stepped = stepped_after _ m mid (moved_to m a.0) (line ∷ []) (T c.args.sink.now) (T c.print.new.sink) (T c.install_memory.new.sink) refl first led.stepped;
+      stepped = stepped_after _ m mid (moved_to m a.0) (line ∷ []) (T c.args.sink.now) (T c.put_made.new.sink) (T c.install_memory.new.sink) refl first led.stepped;
     })

@@ -3,6 +3,12 @@ use Rattle.pei_core.proofs.Sounded.{names_are, steps_sound}
 use Rattle.pei_core.proofs.StartedSteps.{steps_run_started}
 use Rattle.pei_core.proofs.pei.Pei.step.Goals as goal
 
+pub step_by_case-requires-clause-made : goal.step_by_case-requires-clause-made
+step_by_case-requires-clause-made g c = c.requires.made
+
+pub step_by_case-requires-clause-state : goal.step_by_case-requires-clause-state
+step_by_case-requires-clause-state g c = c.requires.state
+
 pub returns-clause-row : goal.returns-clause-row
 returns-clause-row g c m fuel for h =
     let T = g.S.Sink.text in

@@ -3,6 +3,9 @@ use Rattle.recorded_boot.specs.Drivers.{let_by, named_by}
 use Rattle.recorded_boot.proofs.Calls.{has_run, is_counted}
 use Rattle.recorded_boot.proofs.follow.drivers.run_drivers.Goals as goal
 
+pub dxe_at_opening-requires-clause-state : goal.dxe_at_opening-requires-clause-state
+dxe_at_opening-requires-clause-state g c = c.requires.state
+
 pub left_by-requires : goal.left_by-requires
 left_by-requires g c =
     let T = g.S.Sink.text in

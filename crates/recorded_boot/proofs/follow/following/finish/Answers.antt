@@ -1,6 +1,12 @@
 use Rattle.recorded_boot.proofs.Calls.{finishes}
 use Rattle.recorded_boot.proofs.follow.following.finish.Goals as goal
 
+pub put_last-requires-clause-state : goal.put_last-requires-clause-state
+put_last-requires-clause-state g c = c.requires.state
+
+pub come_to-requires-clause-state : goal.come_to-requires-clause-state
+come_to-requires-clause-state g c = c.requires.state
+
 pub returns-in-Ok-come_to-clause-row : goal.returns-in-Ok-come_to-clause-row
 returns-in-Ok-come_to-clause-row g c s stands any =
     let T = g.S.Sink.text in

@@ -6,6 +6,12 @@ use Rattle.recorded_boot.proofs.PeiOrder.{OrderBoot}
 use Rattle.recorded_boot.proofs.Calls.{handed_off, pei_closes}
 use Rattle.recorded_boot.proofs.follow.following.follow_behind.Goals as goal
 
+pub follow_drivers-requires-clause-state : goal.follow_drivers-requires-clause-state
+follow_drivers-requires-clause-state g c = c.requires.state
+
+pub finish-followed-requires-clause-state : goal.finish-followed-requires-clause-state
+finish-followed-requires-clause-state g c = c.requires.state
+
 pub returns-in-None-clause-row : goal.returns-in-None-clause-row
 returns-in-None-clause-row g c =
     let from = c.args.pei.now in

@@ -7,6 +7,9 @@ use Rattle.recorded_boot.proofs.Calls.{pei_stays}
 use Rattle.recorded_boot.proofs.OrderRuns.{due_of, run_of}
 use Rattle.recorded_boot.proofs.follow.following.follow_boot.Goals as goal
 
+pub boot_pei-requires-clause-opening : goal.boot_pei-requires-clause-opening
+boot_pei-requires-clause-opening g c = c.requires.opening
+
 pub returns-in-Ok-Ended-clause-row : goal.returns-in-Ok-Ended-clause-row
 returns-in-Ok-Ended-clause-row g c = λ board here.
     let T = g.S.Sink.text in

@@ -7,6 +7,12 @@ use Rattle.recorded_boot.proofs.DxeOrder.{Handed}
 use Rattle.recorded_boot.proofs.Calls.{counts, dxe_finishes}
 use Rattle.recorded_boot.proofs.follow.following.follow_drivers.Goals as goal
 
+pub run_drivers-requires-clause-state : goal.run_drivers-requires-clause-state
+run_drivers-requires-clause-state g c = c.requires.state
+
+pub finish-followed-requires-clause-state : goal.finish-followed-requires-clause-state
+finish-followed-requires-clause-state g c = c.requires.state
+
 pub returns-in-Ok-clause-row : goal.returns-in-Ok-clause-row
 returns-in-Ok-clause-row g c = λ board earlier m first over_pei over left text.
     let T = g.S.Sink.text in

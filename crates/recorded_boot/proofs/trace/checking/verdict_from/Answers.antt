@@ -13,6 +13,9 @@ short Lines text s (Ok u) le h = subst (λ t. length t < 2 ^ 32 - 1) (sym h.held
 short Lines text s (Err Off) le h = subst (λ t. length t < 2 ^ 32 - 1) (sym h.whole_is) (omega (arith, le))
 short Lines text s (Err Memory) le h = tt
 
+pub follow_boot-followed-requires-clause-opening : goal.follow_boot-followed-requires-clause-opening
+follow_boot-followed-requires-clause-opening g c = c.requires.opening
+
 pub verdict_of-requires : goal.verdict_of-requires
 verdict_of-requires g c =
     let few = subst (λ t. length t ≤ 0x4000000) (sym c.new-spelled.ensures.whole) c.requires.text in

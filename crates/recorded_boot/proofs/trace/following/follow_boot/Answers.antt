@@ -4,6 +4,9 @@ use Rattle.recorded_boot.proofs.TextRuns.{TextRun}
 use Rattle.recorded_boot.proofs.WholeTexts.{TextBoot, text_follows}
 use Rattle.recorded_boot.proofs.trace.following.follow_boot.Goals as goal
 
+pub boot_by_choice-booted-requires-clause-opening : goal.boot_by_choice-booted-requires-clause-opening
+boot_by_choice-booted-requires-clause-opening g c = c.requires.opening
+
 pub returns : goal.returns
 returns g c = record {
   row = λ board stands.

@@ -1,0 +1,13 @@
+-- The numbers of a line of three words.
+use Rattle.std.proofs.Common.{◌≡◌, ℕ, List, [], ◌∷◌, Some, arith, refl, sym}
+use Rattle.line_words.specs.Number.{number_of}
+use Rattle.line_words.specs.Words.{words}
+use Rattle.program_edge.specs.declared.rule.Rule.{Rule}
+use Rattle.program_edge.specs.Mistake.{BreaksNumber, HasNumber}
+
+-- the second word is one that breaks a rule, and the last word
+pub base_breaks : (line first base last : List ℕ) (number : ℕ) (rule : Rule) → words line ≡ first ∷ base ∷ last ∷ [] → Some number ≡ number_of base → BreaksNumber number rule → HasNumber line base rule
+base_breaks line first base last number rule all is broken = ((first, base ∷ last ∷ [], all, (0, omega arith, refl)), (number, sym is, broken))
+
+pub last_breaks : (line first base last : List ℕ) (number : ℕ) (rule : Rule) → words line ≡ first ∷ base ∷ last ∷ [] → Some number ≡ number_of last → BreaksNumber number rule → HasNumber line last rule
+last_breaks line first base last number rule all is broken = ((first, base ∷ last ∷ [], all, (1, omega arith, refl)), (number, sym is, broken))
