@@ -1,3 +1,4 @@
 mod LineLemmas
 mod ReadLemmas
 pub mod PutsLaws
+mod Failing

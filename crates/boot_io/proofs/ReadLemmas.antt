@@ -4,7 +4,7 @@ use Rattle.std.proofs.lemmas.List.{take-append-drop, append-nil, length-append, 
 use Rattle.std.specs.Prelude.{option_map}
 use Rattle.std.specs.Io.{StartsWith, appended_bytes}
 use Rattle.std.specs.declared.io.traits.Take.{Take}
-use Rattle.std.specs.Io.Take.{take_inner, take_limit, take_remaining}
+use Rattle.std.specs.Io.Take.{take_inner, take_remaining}
 use Rattle.std.specs.Io.KnownBytes.{Consumes, IsAtEnd}
 use Rattle.boot_io.specs.declared.files.FileFault.{FileFault}
 use Rattle.boot_io.specs.declared.files.FileFault.TheVariants.{Failed, TooLong, Memory}
@@ -63,11 +63,3 @@ failed Memory told limit old new other text = text
 pub begins_taken : {R : Type 0} (left : R → Option (List ℕ)) (taken : Take R) (reader : R) (after : Option (List ℕ)) (more : List ℕ)
     → take_inner taken ≡ reader → Consumes (take_remaining left taken) after more → BeginsTold (left reader) more
 begins_taken left taken reader after more is f = subst (λ r. BeginsTold (left r) more) is (begins (left taken.inner) after taken.limit more f)
-
-pub longer_taken : {R : Type 0} (left : R → Option (List ℕ)) (taken : Take R) (reader : R) (after : Option (List ℕ)) (more : List ℕ) (limit : ℕ)
-    → take_inner taken ≡ reader → Consumes (take_remaining left taken) after more → limit < length more → IfSome (left reader) (λ content. limit < length content)
-longer_taken left taken reader after more limit is f over = longer (left reader) limit more (begins_taken left taken reader after more is f) over
-
-pub at_end_taken : {R : Type 0} (left : R → Option (List ℕ)) (taken : Take R) (reader : R) (after : Option (List ℕ)) (more : List ℕ)
-    → take_inner taken ≡ reader → Consumes (take_remaining left taken) after more → IsAtEnd after → length more < take_limit taken → IsTold (left reader) more
-at_end_taken left taken reader after more is f end within = subst (λ r. IsTold (left r) more) is (at_end (left taken.inner) after taken.limit more f end within)

@@ -88,9 +88,6 @@ pub differ_pushed : (xs : List ℕ) (n : ℕ) → has_number xs n ≡ false → 
 differ_pushed xs n new d =
     all_differ (xs ++ n ∷ []) (distinct_append xs (n ∷ []) (all_distinct xs d) (tt, tt) (each_more (λ x. n ≢ x) (λ x. Apart x (n ∷ [])) xs (λ x h. ((λ e. h (sym e)), tt)) (absent xs n new)))
 
-pub differ_filter : (test : ℕ → Bool) (xs : List ℕ) → AllDiffer xs → AllDiffer (filter test xs)
-differ_filter test xs d = all_differ (filter test xs) (distinct_filter test xs (all_distinct xs d))
-
 -- the same as std says it
 pub turned : (x y : ℕ) → (x == y) ≡ (y == x)
 turned x y = grind (arith, nat_tests)

@@ -29,11 +29,6 @@ differ_append xs ys state ends other d e =
     let Q : List GcdRange → Type 0 = λ l. Differ (l ++ ys) in
     subst Q (sym ends.2) (joined ends.0 ends.1 ys (subst Differ ends.2 d) (subst P (sym ends.3) other) e)
 
-pub differ_front : (xs ys : List GcdRange) → Differ (xs ++ ys) → Differ xs
-differ_front [] ys d = tt
-differ_front (x ∷ []) ys d = (tt, tt)
-differ_front (x ∷ y ∷ xs) ys d = (d.0, differ_front (y ∷ xs) ys d.1)
-
 pub differ_back : (xs ys : List GcdRange) → Differ (xs ++ ys) → Differ ys
 differ_back [] ys d = d
 differ_back (x ∷ xs) ys d = differ_back xs ys d.1

@@ -5,7 +5,7 @@ use Rattle.gcd_map.specs.declared.state.SpaceState.{SpaceState}
 use Rattle.gcd_map.specs.declared.need.Need.{Need}
 use Rattle.gcd_map.specs.declared.range.GcdRange.{GcdRange}
 use Rattle.gcd_map.specs.Stretch.{AllIn, SomeIn}
-use Rattle.gcd_map.specs.Ranges.{Cover, state_of, DoesFit}
+use Rattle.gcd_map.specs.Ranges.{Cover, DoesFit}
 use Rattle.gcd_map.specs.Tests.{Meets, Misses, EachMeets, SomeMisses, IsRangeOf}
 use Rattle.gcd_map.proofs.Covers.{below_or, cover_order, IsBelowFirst, below_first}
 use Rattle.gcd_map.proofs.Changes.{Parts, parts}
@@ -13,10 +13,6 @@ use Rattle.gcd_map.proofs.Changes.{Parts, parts}
 -- an answer for the rest is one for all
 abbrev pub Carries : Need → ℕ → List GcdRange → List GcdRange → Type 0
 Carries need end ranges rest = (EachMeets need end rest → EachMeets need end ranges) × (SomeMisses need end rest → SomeMisses need end ranges)
-
-pub carries_more : (need : Need) (end : ℕ) (ranges : List GcdRange) (range : GcdRange) (rest : List GcdRange) → range.base < end → Meets need (state_of range)
-    → Carries need end ranges (range ∷ rest) → Carries need end ranges rest
-carries_more need end ranges range rest less meets carries = ((λ e. carries.0 (λ _. (meets, e))), λ s. carries.1 (less, inr s))
 
 -- ranges that cover addresses below 2 ^ 64 fit
 pub covers_fit : (space : ℕ → SpaceState) (from to : ℕ) (xs : List GcdRange) → Cover space from xs to → to < 2 ^ 64 → Each DoesFit xs

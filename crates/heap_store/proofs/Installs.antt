@@ -85,21 +85,6 @@ reinstall_row m s old new by pairs sweep after ends h is there room count swept 
     let same : IsSame s first = record { board = refl; planned = refl; moved = refl; taken = refl } in
     (t, row ∙ ap (λ x. Ok (x, t)) (sym swept), stands_linked m s t after ends h linked (then_same s first t same (queue_same by (reinstall_pairs s new) first)))
 
-pub reinstall_missing : (s : StoreState) (old new : Desc) (by : ℕ) → is_ppi (kind_at s new.offset) ≡ true → is_installed s old ≡ false → reinstall s old new by ≡ Err Missing
-reinstall_missing s old new by is none =
-    let need = node_need (length (reinstall_pairs s new)) in
-    let answer : Service Sweep = Ok (reinstall_sweep s old, reinstalled s old new by) in
-    ap (λ b. unless_bad (not b) (cond (not (is_installed s old)) (Err Missing) (in_room s need answer))) is ∙ ap (λ b. cond (not b) (Err Missing) (in_room s need answer)) none
-
-pub reinstall_full : (s : StoreState) (old new : Desc) (by pairs : ℕ) → is_ppi (kind_at s new.offset) ≡ true → is_installed s old ≡ true → nat_lt (free s) (node_need 0 + node_need pairs) ≡ true
-    → pairs ≡ length (install_pairs s (new ∷ [])) → reinstall s old new by ≡ Err Full
-reinstall_full s old new by pairs is there room count =
-    let need = node_need (length (reinstall_pairs s new)) in
-    let answer : Service Sweep = Ok (reinstall_sweep s old, reinstalled s old new by) in
-    let full : nat_lt (free s) need ≡ true = grind (arith, nat_tests, room, count) in
-    ap (λ b. unless_bad (not b) (cond (not (is_installed s old)) (Err Missing) (in_room s need answer))) is ∙ ap (λ b. cond (not b) (Err Missing) (in_room s need answer)) there
-    ∙ ap (λ b. cond b (Err Full) answer) full
-
 -- notifications
 pub can_note : (s : StoreState) (list : List Desc) (pairs : ℕ) → Each (IsDesc s) list → list_any (λ d. is_ppi (kind_at s d.offset)) list ≡ false
     → nat_lt (free s) (node_need (length list) + node_need pairs) ≡ false → CanMakeNotes s list

@@ -9,10 +9,6 @@ use Rattle.std.proofs.lemmas.Bool.Decides.{nat_tests}
 use Rattle.line_words.specs.Words.{words}
 use Rattle.line_words.proofs.LineLemmas.{is_byte, no_cut}
 
--- a space at the front is no part of a word
-pub words_space : (rest : List ℕ) → words (32 ∷ rest) ≡ words rest
-words_space rest = refl
-
 abbrev some : List ℕ → Bool
 some word = ltb 0 (length word)
 

@@ -1,8 +1,8 @@
 -- What fires at a PPI and a callback that meet.
 use Rattle.std.proofs.Common.{◌≡◌, ℕ, zero, suc, ◌+◌, Bool, true, false, cond, List, [], ◌∷◌, ap, refl, sym, subst, ◌∙◌, Option, Some, None}
-use Rattle.std.specs.Prelude.{filter, is_some, option_map, slice_get, unwrap_or}
+use Rattle.std.specs.Prelude.{filter, is_some, option_map, slice_get}
 use Rattle.mem_store.specs.declared.guid_index.index.Indexed.{Indexed}
-use Rattle.mem_store.specs.Entries.{entries_of, has_at, has_guid}
+use Rattle.mem_store.specs.Entries.{entries_of, has_guid}
 use Rattle.pi_base.specs.declared.guid.Guid.{Guid}
 use Rattle.store_model.specs.declared.store_handle.DescKind.{DescKind}
 use Rattle.store_model.specs.declared.store_handle.DescKind.TheVariants.{Ppi}
@@ -49,18 +49,6 @@ row_entry s (e ∷ es) zero row is =
 row_entry s (e ∷ es) (suc place) row is =
     let rest = row_entry s es place row is in
     record { entry = rest.entry; there = rest.there; row_is = rest.row_is }
-
--- one of two places without a row meets nothing
-pub no_ppi : (rows : Rows) (ppi note : ℕ) (found : Option Indexed) → found ≡ slice_get rows.ppis ppi → found ≡ None → meets rows ppi note ≡ false
-no_ppi rows ppi note found is none = ap (λ o. unwrap_or (option_map (λ (row : Indexed). has_at rows.callbacks row.guid note) o) false) (sym is ∙ none)
-
-no_note_on : (rows : Rows) (note : ℕ) (o : Option Indexed) → slice_get rows.callbacks note ≡ None
-    → unwrap_or (option_map (λ (row : Indexed). has_at rows.callbacks row.guid note) o) false ≡ false
-no_note_on rows note None none = refl
-no_note_on rows note (Some row) none = rw none refl
-
-pub no_note : (rows : Rows) (ppi note : ℕ) (found : Option Indexed) → found ≡ slice_get rows.callbacks note → found ≡ None → meets rows ppi note ≡ false
-no_note rows ppi note found is none = no_note_on rows note (slice_get rows.ppis ppi) (sym is ∙ none)
 
 -- an item that passes a test is one of all
 filtered_on : (f : Indexed → Bool) (b : Bool) (y : Indexed) (ys : List Indexed) (n : ℕ) (x : Indexed)

@@ -19,11 +19,6 @@ turns-starts p [] q job = same (eqb q p) 0
 turns-starts p (Turns on ∷ later) q job = ap (λ n. cond (eqb on p) (suc n) n) (turns-starts p later q job)
 turns-starts p (Starts on j ∷ later) q job = ap (λ n. cond (eqb on p) 0 n) (turns-starts p later q job)
 
-pub jobs-starts : (s : List Step) (q : ℕ) (job : List Op) → jobs (s ++ Starts q job ∷ []) ≡ jobs s ++ record { on = q; ops = job } ∷ []
-jobs-starts [] q job = refl
-jobs-starts (Turns on ∷ later) q job = jobs-starts later q job
-jobs-starts (Starts on j ∷ later) q job = ap (λ parts. record { on = on; ops = j } ∷ parts) (jobs-starts later q job)
-
 pub done-starts : (s : List Step) (q : ℕ) (job : List Op) → done (s ++ Starts q job ∷ []) ≡ done s ++ record { on = q; ops = [] } ∷ []
 done-starts [] q job = refl
 done-starts (Turns on ∷ later) q job = done-starts later q job

@@ -122,17 +122,25 @@ fn put_numbers<S: Sink>(sink: &mut S, numbers: &[u64]) -> Result<(), SinkFault>
     Ok(())
 }
 
-// Puts the line of a processor's record, number by number, since there can be many.
+// Puts the line of a processor whose record has no numbers.
 #[tactic(auto, unfolding(crate::specs::OutcomeText::no_numbers))]
+fn put_empty_record<S: Sink>(sink: &mut S, processor: u64) -> Result<(), SinkFault>
+    ensures text { Puts result (S.text sink.old) (S.text sink.new) (record_line (processor, [])) }
+    ensures cause { SinkFaultsAfter result (S.faults sink.old) (S.faults sink.new) }
+{
+    let mut digits = [0u8; DECIMAL_LEN];
+    let len = decimal(processor, &mut digits);
+    let (processor, _) = digits.split_at(len);
+    put_line(sink, record_keyword(), &[processor, NO_NUMBERS.as_slice()])
+}
+
+// Puts the line of a processor's record, number by number, since there can be many.
 fn put_record<S: Sink>(sink: &mut S, processor: u64, numbers: &[u64]) -> Result<(), SinkFault>
     ensures text { Puts result (S.text sink.old) (S.text sink.new) (record_line (processor, numbers.now)) }
     ensures cause { SinkFaultsAfter result (S.faults sink.old) (S.faults sink.new) }
 {
     if numbers.is_empty() {
-        let mut digits = [0u8; DECIMAL_LEN];
-        let len = decimal(processor, &mut digits);
-        let (processor, _) = digits.split_at(len);
-        return put_line(sink, record_keyword(), &[processor, NO_NUMBERS.as_slice()]);
+        return put_empty_record(sink, processor);
     }
     sink.put(record_keyword())?;
     put_number(sink, processor)?;

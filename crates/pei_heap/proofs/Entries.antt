@@ -17,7 +17,7 @@ use Rattle.store_laws.specs.Keeping.{IsWord}
 use Rattle.store_laws.specs.Steps.{StepsKeepFacts}
 use Rattle.store_laws.proofs.Facts.{has_room, heaps_are_low}
 use Rattle.pei_heap.specs.declared.links.entry.NewEntry.{NewEntry}
-use Rattle.pei_heap.specs.NewEntry.{IsOf, IsReady, second_of, with_entry}
+use Rattle.pei_heap.specs.NewEntry.{IsReady, with_entry}
 
 low : (s : StoreState) (kind : DescKind) (place : ℕ) → BodiesAreInside → IsStoreState s → IsDescriptorAt s kind place → s.base + place < 2 ^ 64
 low s kind place law h d =
@@ -25,18 +25,6 @@ low s kind place law h d =
     let room = has_room s h in
     let end : s.base + s.len ≤ 0x10000000000 = heaps_are_low s h in
     omega (arith, inside, room, end)
-
-pub descriptor_low : (list : EntryList) (entry : NewEntry) (s : StoreState) → BodiesAreInside → IsStoreState s → IsOf list entry s → s.base + entry.descriptor < 2 ^ 64
-descriptor_low Ppis entry s law h names = low s Ppi entry.descriptor law h names
-descriptor_low Callbacks entry s law h names = low s Callback entry.descriptor law h names
-descriptor_low Dispatches entry s law h names = low s Dispatch entry.descriptor law h names
-descriptor_low Pendings entry s law h names = low s Dispatch entry.descriptor law h names.1
-
-pub second_low : (list : EntryList) (entry : NewEntry) (s : StoreState) → BodiesAreInside → IsStoreState s → IsOf list entry s → second_of list s.base entry < 2 ^ 64
-second_low Ppis entry s law h names = omega arith
-second_low Callbacks entry s law h names = omega arith
-second_low Dispatches entry s law h names = omega arith
-second_low Pendings entry s law h names = low s Ppi entry.ppi law h names.0
 
 kind_is : (s : StoreState) (kind : DescKind) (place : ℕ) → IsDescriptorAt s kind place → kind_at s place ≡ kind
 kind_is s kind place d = ap (λ (body : Option Body). unwrap_or (option_map (λ (x : DescriptorBody). x.kind) (descriptor_in body)) Dispatch) d.1 ∙ d.2

@@ -88,9 +88,6 @@ pub record IsLeft (heap : Heap) (memory : PhysMem) (heads : Heads) (s : StoreSta
   pub same : queued by now left ≡ queued by s all
   pub room : node_need (length left) ≤ free now
 
-pub all_left : (heap : Heap) (memory : PhysMem) (heads : Heads) (s : StoreState) (by : ℕ) (all : List (ℕ × ℕ)) → IsLinked heap memory heads s → node_need (length all) ≤ free s → IsLeft heap memory heads s by all all
-all_left heap memory heads s by all h room = record { now = s; count = 0; from = not_queued s; linked = h; same = refl; room = room }
-
 pub less_left : (heap : Heap) (old new : PhysMem) (before after : Heads) (s : StoreState) (by : ℕ) (all whole piece left : List (ℕ × ℕ)) (l : IsLeft heap old before s by all whole) → whole ≡ piece ++ left
     → IsLinked heap new after (queued by l.now piece) → IsLeft heap new after s by all left
 less_left heap old new before after s by all whole piece left l e h =

@@ -130,13 +130,6 @@ end_told s law h =
     let t : (short_in (heap_image s) (end_place s) == END) ≡ true = ap (λ n. n == END) both.0 in
     rw t refl
 
--- no HOB stands at the end
-past_end : (hobs : List HobEntry) (at place : ℕ) → at + sum_by hob_len hobs ≤ place → span_from at hobs place ≡ None
-past_end [] at place le = refl
-past_end (hob ∷ hobs) at place le =
-    let c : sum_by hob_len (hob ∷ hobs) ≡ hob_len hob + sum_by hob_len hobs = sum_by-cons hob_len hob hobs in
-    rw (other_is at place (λ e. absurd (omega (arith, e, le, c)))) (past_end hobs (at + hob_len hob) place (omega (arith, le, c)))
-
 by_span : (s : StoreState) (place : ℕ) (found : Option HobSpan) → span_from 56 s.hobs place ≡ found → ReadsWhatItSpells → IsStoreState s → (is_some found ≡ true) ⊎ (place ≡ end_place s) → found ≡ span_told (heap_image s) place
 by_span s place (Some span) e law h at = sym (span_is s place span law h e)
 by_span s place None e law h (◌⊎◌.inl some) = cc

@@ -11,7 +11,6 @@ use Rattle.phys_mem.specs.declared.rom.Rom.{Rom}
 use Rattle.pi_base.specs.Lists.{numbers}
 use Rattle.store_model.specs.StoreState.{StoreState}
 use Rattle.store_model.specs.HeapImage.{hob_list, heap_image}
-use Rattle.store_model.specs.HeapImage as H
 use Rattle.store_model.specs.MemoryReading.{rom_bytes, heap_byte, region_bytes}
 use Rattle.store_laws.specs.Mapped.{layout_of, regions_by, IsPlacedBy}
 use Rattle.store_model.specs.StateFacts.{AreApart, IsHeap}
@@ -21,12 +20,6 @@ pub roms_same : (roms : List Rom) (at n : ℕ) → R.bytes_at (map rom_region ro
 roms_same [] at n = refl
 roms_same (rom ∷ roms) at n =
     ap (option_or (part_of rom.base rom.bytes at n)) (roms_same roms at n)
-
-byte_is : (xs : List ℕ) (i : ℕ) → get_or xs i 0 ≡ unwrap_or (slice_get xs i) 0
-byte_is [] zero = refl
-byte_is [] (suc i) = refl
-byte_is (x ∷ xs) zero = refl
-byte_is (x ∷ xs) (suc i) = byte_is xs i
 
 -- bytes that are a function of their addresses
 drop_get : (bytes : List ℕ) (k : ℕ) → k < length bytes → drop k bytes ≡ get_or bytes k 0 ∷ drop (k + 1) bytes

@@ -24,7 +24,7 @@ use Rattle.store_model.specs.declared.state.HobEntry.{HobEntry}
 use Rattle.pi_base.specs.declared.known_guid.TheConstants.{MEMORY_PPI}
 use Rattle.store_model.specs.declared.state.TheConstants.{CORE}
 use Rattle.store_model.specs.MemoryReading.{rom_bytes}
-use Rattle.store_model.specs.StoreState.{Board, Range, StoreState, appended, descriptor_len, empty_store, end_place, free, handoff_len, hob_len, next_body, page_bytes, pool_of, rounded}
+use Rattle.store_model.specs.StoreState.{Board, Range, StoreState, appended, empty_store, end_place, free, handoff_len, hob_len, next_body, page_bytes, pool_of, rounded}
 use Rattle.store_model.specs.StateFacts.{ArePages, IsBoard, IsBodyOf, IsDesc, IsHeap, IsHobEntry, IsPending, IsPlanned, IsPool, IsStoreState}
 use Rattle.store_model.specs.Migration.{migrated_to}
 use Rattle.store_model.specs.Service.{Service, in_room}
@@ -84,14 +84,6 @@ keeps_pool s size h =
     let is = pool_entry s.board s.taken size le in
     let hob : HobEntry = pool_of (Bytes (zeros size)) in
     keeps_hob s hob (rounded size + 8) _ h (zeros_need size) is)
-
--- a descriptor
-keeps_found : (s : StoreState) (kind : DescKind) (number : ℕ) (found : Option (Guid × Option ℕ)) → IsStoreState s
-    → ((guid : Guid) (stands : Option ℕ) → found ≡ Some (guid, stands) → IsHobEntry s.board s.taken (pool_of (Descriptor (record { kind = kind; guid = guid; stands = stands; number = number }))))
-    → Keeps (desc_of s kind number found)
-keeps_found s kind number None h is = tt
-keeps_found s kind number (Some (guid, stands)) h is =
-    keeps_hob s (pool_of (Descriptor (record { kind = kind; guid = guid; stands = stands; number = number }))) (descriptor_len stands + 8) _ h (omega arith) (is guid stands refl)
 
 address_keeps : (s : StoreState) (kind : DescKind) (number address : ℕ) (bytes : Option (List ℕ)) → IsStoreState s → IsMade kind (At address) number → rom_bytes s.board.roms address 16 ≡ bytes
     → Keeps (desc_of s kind number (option_map (λ xs. (record { 0 = xs }, Some address)) bytes))

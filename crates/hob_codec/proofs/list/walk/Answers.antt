@@ -1,4 +1,4 @@
-use Rattle.std.proofs.Common.{arith, ap, ◌∙◌}
+use Rattle.std.proofs.Common.{arith, ap, sym, ◌∙◌}
 use Rattle.hob_codec.specs.declared.list.HobPlace.{HobPlace}
 use Rattle.hob_codec.proofs.ListLemmas.{leads_more}
 use Rattle.hob_codec.proofs.list.walk.Goals as goal
@@ -11,3 +11,11 @@ walk-preserved c =
       leads = rw (c.in_ok-push.ensures.ok, place.1) (leads_more bytes 0 c.walk.places at c.walk.invariant.leads place.0 (λ e. c.if-place.false (ap (λ (p : HobPlace). p.kind) place.1 ∙ e)));
       within = omega (arith, place.3);
     }
+
+pub returns-then-place-clause-found : goal.returns-then-place-clause-found
+returns-then-place-clause-found c =
+    let place = c.in_ok-place.ensures in
+    (c.walk.at, c.walk.invariant.leads, place.0, sym (ap (λ (p : HobPlace). p.kind) place.1) ∙ c.if-place.true)
+
+pub walk-smaller : goal.walk-smaller
+walk-smaller c = let place = c.in_ok-place.ensures in omega (arith, place.2, place.3)

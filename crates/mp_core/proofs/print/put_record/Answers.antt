@@ -13,7 +13,7 @@ returns-in_err-put-clause-text g c =
     let line = record_line (c.args.processor, c.args.numbers.now) in
     let whole = line_whole (T c.args.sink.now) c.args.processor c.args.numbers.now (search rules) in
     puts_err c.from_residual.result (T c.args.sink.now) (T c.put.new.self) line c.from_residual.ensures.0
-    (left_fails (T c.args.sink.now) (T c.args.sink.now) (T c.put.new.self) record_keyword behind line whole (rw c.record_keyword-2.ensures at c.in_err-put.ensures.text))
+    (left_fails (T c.args.sink.now) (T c.args.sink.now) (T c.put.new.self) record_keyword behind line whole (rw c.record_keyword.ensures at c.in_err-put.ensures.text))
 
 pub returns-in_err-put_number-clause-text : goal.returns-in_err-put_number-clause-text
 returns-in_err-put_number-clause-text g c =
@@ -22,7 +22,7 @@ returns-in_err-put_number-clause-text g c =
     let behind = spaced (decimal c.args.processor) ++ (numbers ++ 10 ∷ []) in
     let line = record_line (c.args.processor, c.args.numbers.now) in
     let whole = line_whole (T c.args.sink.now) c.args.processor c.args.numbers.now (search rules) in
-    let one = left_more (T c.args.sink.now) (T c.args.sink.now) (T c.put.new.self) record_keyword behind line whole (rw c.record_keyword-2.ensures at c.in_ok-put.ensures.text) in
+    let one = left_more (T c.args.sink.now) (T c.args.sink.now) (T c.put.new.self) record_keyword behind line whole (rw c.record_keyword.ensures at c.in_ok-put.ensures.text) in
     puts_err c.from_residual-in_err-put_number.result (T c.args.sink.now) (T c.put_number.new.sink) line c.from_residual-in_err-put_number.ensures.0
     (left_fails (T c.args.sink.now) (T c.put.new.self) (T c.put_number.new.sink) (spaced (decimal c.args.processor)) (numbers ++ 10 ∷ []) line one c.in_err-put_number.ensures.text)
 
@@ -33,7 +33,7 @@ returns-in_err-put_numbers-clause-text g c =
     let behind = spaced (decimal c.args.processor) ++ (numbers ++ 10 ∷ []) in
     let line = record_line (c.args.processor, c.args.numbers.now) in
     let whole = line_whole (T c.args.sink.now) c.args.processor c.args.numbers.now (search rules) in
-    let one = left_more (T c.args.sink.now) (T c.args.sink.now) (T c.put.new.self) record_keyword behind line whole (rw c.record_keyword-2.ensures at c.in_ok-put.ensures.text) in
+    let one = left_more (T c.args.sink.now) (T c.args.sink.now) (T c.put.new.self) record_keyword behind line whole (rw c.record_keyword.ensures at c.in_ok-put.ensures.text) in
     let two = left_more (T c.args.sink.now) (T c.put.new.self) (T c.put_number.new.sink) (spaced (decimal c.args.processor)) (numbers ++ 10 ∷ []) line one c.in_ok-put_number.ensures.text in
     puts_err c.from_residual-in_err-put_numbers.result (T c.args.sink.now) (T c.put_numbers.new.sink) line c.from_residual-in_err-put_numbers.ensures.0
     (left_fails (T c.args.sink.now) (T c.put_number.new.sink) (T c.put_numbers.new.sink) numbers (10 ∷ []) line two c.in_err-put_numbers.ensures.text)
@@ -45,7 +45,7 @@ returns-clause-text g c =
     let behind = spaced (decimal c.args.processor) ++ (numbers ++ 10 ∷ []) in
     let line = record_line (c.args.processor, c.args.numbers.now) in
     let whole = line_whole (T c.args.sink.now) c.args.processor c.args.numbers.now (search rules) in
-    let one = left_more (T c.args.sink.now) (T c.args.sink.now) (T c.put.new.self) record_keyword behind line whole (rw c.record_keyword-2.ensures at c.in_ok-put.ensures.text) in
+    let one = left_more (T c.args.sink.now) (T c.args.sink.now) (T c.put.new.self) record_keyword behind line whole (rw c.record_keyword.ensures at c.in_ok-put.ensures.text) in
     let two = left_more (T c.args.sink.now) (T c.put.new.self) (T c.put_number.new.sink) (spaced (decimal c.args.processor)) (numbers ++ 10 ∷ []) line one c.in_ok-put_number.ensures.text in
     let three = left_more (T c.args.sink.now) (T c.put_number.new.sink) (T c.put_numbers.new.sink) numbers (10 ∷ []) line two c.in_ok-put_numbers.ensures.text in
     left_put c.put-2.result (T c.args.sink.now) (T c.put_numbers.new.sink) (T c.put-2.new.self) (10 ∷ []) line three c.put-2.ensures.text

@@ -4,6 +4,15 @@ use Rattle.store_model.specs.Service.Install.{with_ppi}
 use Rattle.heap_store.proofs.Installs.{can_make, can_queue, install_row}
 use Rattle.heap_store.proofs.store.HeapStore.install_counted.Goals as goal
 
+pub are_ppis-requires : goal.are_ppis-requires
+are_ppis-requires c = (c.requires.state.0, c.requires.state.1, c.requires.state.2.0)
+
+pub is_full-requires : goal.is_full-requires
+is_full-requires c = (c.requires.state.0, c.requires.state.1, tt)
+
+pub sweep_behind-sweep-requires-clause-state : goal.sweep_behind-sweep-requires-clause-state
+sweep_behind-sweep-requires-clause-state c = (c.requires.state.0, c.requires.state.1, tt)
+
 pub push_ppis-requires : goal.push_ppis-requires
 push_ppis-requires c =
     let s = c.requires.state.0 in

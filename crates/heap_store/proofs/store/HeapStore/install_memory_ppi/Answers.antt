@@ -6,6 +6,15 @@ use Rattle.store_model.specs.Service.Install.{install}
 use Rattle.heap_store.proofs.CoreInstalls.{core_descs, core_enough, core_full, core_row, core_second, no_fault}
 use Rattle.heap_store.proofs.store.HeapStore.install_memory_ppi.Goals as goal
 
+pub dispatches_of-pairs-requires : goal.dispatches_of-pairs-requires
+dispatches_of-pairs-requires c = (c.requires.0, c.requires.1, tt)
+
+pub is_full_for_core-requires : goal.is_full_for_core-requires
+is_full_for_core-requires c = (c.requires.0, c.requires.1, tt)
+
+pub make_desc-requires-clause-state : goal.make_desc-requires-clause-state
+make_desc-requires-clause-state c = (c.requires.0, c.requires.1, tt)
+
 pub returns-then-is_full_for_core : goal.returns-then-is_full_for_core
 returns-then-is_full_for_core c s h =
     let room = sym (c.is_full_for_core.ensures s h tt) ∙ c.if-is_full_for_core.true in

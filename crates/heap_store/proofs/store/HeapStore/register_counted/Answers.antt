@@ -4,6 +4,24 @@ use Rattle.store_model.specs.Service.Notify.{with_note}
 use Rattle.heap_store.proofs.Installs.{can_note, can_queue_new, notify_row}
 use Rattle.heap_store.proofs.store.HeapStore.register_counted.Goals as goal
 
+pub any_ppi-requires : goal.any_ppi-requires
+any_ppi-requires c = (c.requires.state.0, c.requires.state.1, c.requires.state.2.0)
+
+pub is_full-requires : goal.is_full-requires
+is_full-requires c = (c.requires.state.0, c.requires.state.1, tt)
+
+pub sweep_over-sweep-requires-clause-state : goal.sweep_over-sweep-requires-clause-state
+sweep_over-sweep-requires-clause-state c = (c.requires.state.0, c.requires.state.1, c.requires.state.2.0)
+
+pub push_notes-requires : goal.push_notes-requires
+push_notes-requires c =
+    let s = c.requires.state.0 in
+    let h = c.requires.state.1 in
+    let descs = c.requires.state.2.0 in
+    let none = sym (c.any_ppi.ensures s h descs) ∙ c.if-any_ppi.false in
+    let room = sym (c.is_full.ensures s h tt) ∙ c.if-is_full.false in
+    (s, h.linked, can_note s c.args.list.now c.args.pairs descs none room)
+
 pub push_new_pairs-requires : goal.push_new_pairs-requires
 push_new_pairs-requires c =
     let s = c.requires.state.0 in

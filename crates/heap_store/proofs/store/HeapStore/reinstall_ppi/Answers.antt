@@ -10,6 +10,21 @@ use Rattle.heap_store.proofs.HandedIn.{new_ppi}
 use Rattle.heap_store.proofs.Installs.{can_requeue, reinstall_row}
 use Rattle.heap_store.proofs.store.HeapStore.reinstall_ppi.Goals as goal
 
+pub is_ppi-requires : goal.is_ppi-requires
+is_ppi-requires c = (c.requires.0, c.requires.1, c.requires.2.1)
+
+pub find_ppi-requires : goal.find_ppi-requires
+find_ppi-requires c = (c.requires.0, c.requires.1.linked)
+
+pub count_pairs-pairs-requires-clause-state : goal.count_pairs-pairs-requires-clause-state
+count_pairs-pairs-requires-clause-state c =
+    let s = c.requires.0 in
+    let one : c.as_slice-list.result.now ≡ c.args.new ∷ [] = c.as_slice-list.ensures in
+    (s, c.requires.1.linked, subst (Each (IsDesc s)) (sym one) (c.requires.2.1, tt))
+
+pub is_full-requires : goal.is_full-requires
+is_full-requires c = (c.requires.0, c.requires.1, tt)
+
 pub sweep_at-sweep-requires : goal.sweep_at-sweep-requires
 sweep_at-sweep-requires c =
     let s = c.requires.0 in

@@ -1,4 +1,4 @@
-use Rattle.std.proofs.Common.{◌+◌, drop, ap, ◌∙◌}
+use Rattle.std.proofs.Common.{◌+◌, drop, refl, arith, ap, ◌∙◌}
 use Rattle.std.specs.Prelude.{filter, slice_get}
 use Rattle.pi_base.specs.Guids.{same_guid}
 use Rattle.store_model.specs.declared.state.Entry.{Entry}
@@ -6,11 +6,20 @@ use Rattle.store_model.specs.declared.store_handle.DescKind.TheVariants.{Ppi}
 use Rattle.store_model.specs.declared.store_handle.EntryList.TheVariants.{Ppis}
 use Rattle.store_model.specs.Service.Descriptor.{guid_at}
 use Rattle.store_model.specs.Service.Reading.{ppis_of}
-use Rattle.pei_heap.proofs.Finding.{nth_end, nth_here, nth_on, nth_past}
+use Rattle.pei_heap.proofs.Finding.{drop_all, nth_end, nth_here, nth_on, nth_past}
 use Rattle.pei_heap.proofs.Tellings.{nth_none, nth_some}
 use Rattle.pei_heap.proofs.Walking.{desc_of}
 use Rattle.pei_heap.proofs.links.reading.nth_ppi.Goals as goal
 use Rattle.pei_heap.proofs.links.reading.nth_ppi.Goals.{then-has_guid+else-left-eq0, else-has_guid}
+
+pub ppis-init : goal.ppis-init
+ppis-init c = record { at = λ s h. record { entries = tt; here = h.heads_are.ppi_ends.first }; left = λ s h. refl }
+
+pub entry_from-requires : goal.entry_from-requires
+entry_from-requires c =
+    let s = c.requires.0 in
+    let h = c.requires.1 in
+    (s, Ppis, c.ppis._place, h.heap_is, c.ppis.invariant.at s h)
 
 pub returns-in-None : goal.returns-in-None
 returns-in-None c s h =
@@ -58,3 +67,11 @@ ppis-preserved c = record {
             (w.if-has_guid.ensures s h.heap_is desc)
       ];
 }
+
+pub returns : goal.returns
+returns c s h =
+    let all = h.heads_are.ppis_are in
+    let past = c.ppis-test.false in
+    nth_none s c.args.guid.now c.args.n
+    (nth_end (λ (x : Entry). same_guid (guid_at s x.descriptor) c.args.guid.now) (drop c.ppis._place s.ppis) c.ppis.left (slice_get (ppis_of s c.args.guid.now) c.args.n)
+    (drop_all s.ppis c.ppis._place (omega (arith, all, past))) (c.ppis.invariant.left s h))
