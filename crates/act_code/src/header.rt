@@ -1,5 +1,5 @@
 // The header of a script.
-ghost use Rattle.std.specs.Prelude.{◌≡◌, length};
+ghost use Rattle.std.specs.Prelude.{◌≡◌};
 ghost use Rattle.act_code.specs.Header.{header_at, fields_of, phase_of, is_magic};
 
 use crate::fault::{ActCause, ActFault};

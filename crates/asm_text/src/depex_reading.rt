@@ -14,7 +14,7 @@ use crate::front::{behind, guid_word};
 use crate::tree_reading::tree_of;
 use depex_code::{Depex, MOST_OPCODES};
 use line_words::printed::first_line;
-use pi_base::{OutOfMemory, Seq};
+use pi_base::OutOfMemory;
 use std::alloc::Global;
 
 // The driver's name behind `before`.

@@ -71,7 +71,8 @@ fn add_action(
     last: &mut Seq<Action>,
     line: &[u8],
 ) -> Result<(), Unread>
-    ensures { (others : List (List Action)) → Gives (λ _. record { phase = phase; blocks = others ++ last.new ∷ [] }) result (with_action phase line.now (others, last.old)) }
+    ensures { (others : List (List Action)) → Gives (λ _. record { phase = phase; blocks = others ++ last.new ∷ [] }) result
+        (with_action phase line.now (others, last.old)) }
 {
     let action = action_of(alloc, phase, line)?;
     if last.len() >= MOST_ACTIONS || !may_stand(&action, MOST_ACTIONS - last.len()) {

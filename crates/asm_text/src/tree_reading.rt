@@ -1,5 +1,5 @@
 // Reading the text of a tree, with a stack of what waits for an operand.
-ghost use Rattle.std.specs.Prelude.{◌≡◌, ◌≤◌, ◌<◌, ◌+◌, ◌*◌, ◌++◌, [], List, Some, true, false, codes, length, IfOk, IfSome, MatchBool};
+ghost use Rattle.std.specs.Prelude.{◌≡◌, ◌≤◌, ◌<◌, ◌+◌, ◌*◌, [], List, Some, true, false, codes, length, IfOk, IfSome, MatchBool};
 ghost use Rattle.depex_code.specs.declared.opcode.Opcode.{Opcode};
 ghost use Rattle.depex_code.specs.declared.opcode.Opcode.TheVariants as opcode;
 ghost use Rattle.depex_code.specs.Tree.{DepexTree};

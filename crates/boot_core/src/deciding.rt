@@ -1,5 +1,5 @@
 // What the words and the files come to, before anything is put.
-ghost use Rattle.std.specs.Prelude.{◌≡◌, IfOk};
+ghost use Rattle.std.specs.Prelude.{IfOk};
 ghost use Rattle.boot_io.specs.Words.{words_of};
 ghost use Rattle.boot_core.specs.Deciding.{CanBeDone, IsAsked, IsRefused, Names};
 ghost use Rattle.boot_core.specs.Reading.{Reads};

@@ -1,5 +1,5 @@
 // What opens files by name.
-ghost use Rattle.std.specs.Prelude.{◌≡◌, ℕ, List, Option, None, IfOk};
+ghost use Rattle.std.specs.Prelude.{ℕ, List, Option, None, IfOk};
 ghost use Rattle.boot_io.specs.Files.{HasLeft};
 
 use std::fs::{self, OpenFile};

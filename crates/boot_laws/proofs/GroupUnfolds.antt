@@ -9,7 +9,7 @@ use Rattle.boot_model.specs.Licence.{AllDiffer}
 use Rattle.boot_model.specs.DxeMachine.{DxeMachine}
 use Rattle.boot_model.specs.DxeChoice.{waiting, befores, afters, group_within, companion_group}
 use Rattle.boot_model.specs.DriverLicence.{target_of, Leads}
-use Rattle.boot_laws.specs.GroupUnfolds.{StandsOver, IsOver, Unfolds, GroupsUnfold, GroupsAreSmall}
+use Rattle.boot_laws.specs.GroupUnfolds.{StandsOver, IsOver, GroupsUnfold, GroupsAreSmall}
 use Rattle.boot_model.proofs.ListFacts.{each_more, each_both, each_filter, each_has}
 use Rattle.boot_model.proofs.Distinct.{Distinct, all_differ, all_distinct, distinct_filter}
 use Rattle.boot_laws.proofs.PartLists.{distinct_of, drivers_are}

@@ -1,5 +1,5 @@
 //! The boot of a plan, explained.
-ghost use Rattle.std.specs.Prelude.{◌≡◌, ◌≤◌, [], IfOk, length};
+ghost use Rattle.std.specs.Prelude.{◌≤◌, [], IfOk, length};
 ghost use Rattle.boot_model.specs.PlanBoard.{board_of};
 ghost use Rattle.mod_catalog.specs.WellFormed.{IsWellFormed};
 ghost use Rattle.store_model.specs.StateFacts.{IsBoard};

@@ -1,6 +1,5 @@
 // The parts of a tree while its opcodes are taken in order.
 ghost use Rattle.std.specs.Prelude.{◌≡◌, ◌≢◌, Some, IsSome, OnOk, IfOk, [], ◌∷◌};
-ghost use Rattle.depex_code.specs.Tree.{postfix};
 ghost use Rattle.boot_reasons.specs.Sides.{side_of, sides_after};
 
 use crate::side::Side;

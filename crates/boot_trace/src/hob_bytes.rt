@@ -1,5 +1,5 @@
 //! The HOB list of a store, byte by byte.
-ghost use Rattle.std.specs.Prelude.{◌≡◌, IfOk, length, replicate};
+ghost use Rattle.std.specs.Prelude.{◌≡◌, IfOk, replicate};
 ghost use Rattle.store_model.specs.HeapImage.{hob_list};
 ghost use Rattle.store_model.specs.Service.{Present, OfEach};
 ghost use Rattle.store_model.specs.StoreCall.{Anything};

@@ -1,6 +1,5 @@
 // What the calls of a driver answer. What reads memory needs a whole store, and is tested over whole boots.
-ghost use Rattle.std.specs.Prelude.{◌≡◌, ℕ, None, IfSome, IsTrue};
-ghost use Rattle.pi_base.specs.declared.phase.Phase.TheVariants.{Dxe as InDxe};
+ghost use Rattle.std.specs.Prelude.{None, IfSome, IsTrue};
 ghost use Rattle.mod_catalog.specs.WellFormed.{IsWellFormed};
 ghost use Rattle.store_model.specs.Service.{Present};
 ghost use Rattle.store_model.specs.StoreCall.{Anything};

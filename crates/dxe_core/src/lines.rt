@@ -3,7 +3,7 @@ ghost use Rattle.std.specs.Prelude.{◌≡◌, ◌∷◌};
 ghost use Rattle.boot_io.specs.Sink.{Puts, SinkFaultsAfter};
 ghost use Rattle.boot_model.specs.Discovery.{discovery_lines};
 ghost use Rattle.boot_model.specs.DxeStep.{dxe_start_line, protocol_line};
-ghost use Rattle.boot_model.specs.Text.{line_text, text_of};
+ghost use Rattle.boot_model.specs.Text.{text_of};
 
 use boot_io::{Sink, SinkFault};
 use boot_model::{Line, ProtocolNote, ProtocolSweep, Scheduled};

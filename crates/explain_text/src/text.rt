@@ -1,14 +1,13 @@
 // The text of an explained boot.
-ghost use Rattle.std.specs.Prelude.{◌≡◌, ◌≤◌, ◌++◌, List, flat_map, length, IfOk, OnOk};
+ghost use Rattle.std.specs.Prelude.{◌≡◌, ◌≤◌, ◌++◌, flat_map, length, IfOk, OnOk};
 ghost use Rattle.pi_base.specs.declared.phase.Phase.TheVariants.{Pei};
 ghost use Rattle.mod_catalog.specs.declared.limits.TheConstants.{MOST_MODULES};
-ghost use Rattle.explain_text.specs.Context.{IsContext};
 ghost use Rattle.explain_text.specs.HeldLines.{held_lines};
 ghost use Rattle.explain_text.specs.LeftLines.{left_lines};
 ghost use Rattle.explain_text.specs.Text.{explained_text, is_told};
 ghost use Rattle.explain_text.specs.Told.{AreTold, known_in};
 
-use crate::context::{Context, context_of};
+use crate::context::context_of;
 use crate::end_lines::put_end;
 use crate::flags::{add_held, started};
 use crate::held_lines::put_all_held;

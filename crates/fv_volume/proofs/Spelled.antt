@@ -1,5 +1,5 @@
 -- Files that are spelled out are read as themselves. Callers who write volumes cite this.
-use Rattle.std.proofs.Common.{◌≡◌, ◌≢◌, ℕ, zero, suc, ◌+◌, ◌-◌, ◌*◌, ◌%◌, ◌<◌, ◌≤◌, ◌^◌, Bool, true, false, cond, List, [], ◌∷◌, ◌++◌, length, take, drop, sum, replicate, Some, None, Result, Ok, Err, refl, sym, ap, ◌∙◌, arith, subst, get_or-drop, length-drop, length-append}
+use Rattle.std.proofs.Common.{◌≡◌, ℕ, zero, suc, ◌+◌, ◌-◌, ◌%◌, ◌<◌, ◌≤◌, ◌^◌, Bool, true, false, cond, List, [], ◌∷◌, ◌++◌, length, take, drop, sum, replicate, Some, None, Result, Ok, Err, refl, sym, ap, ◌∙◌, arith, subst, get_or-drop, length-drop, length-append}
 use Rattle.std.proofs.lemmas.Bool.Decides.{nat_tests}
 use Rattle.std.proofs.lemmas.List.{drop-drop, append-nil, get_or-append-add, length-replicate, drop-replicate, take-replicate}
 use Rattle.std.proofs.lemmas.List.Concat.{flat_map-cons}
@@ -12,10 +12,8 @@ use Rattle.pi_base.specs.Field.{little_number, little_bytes}
 use Rattle.pi_base.proofs.FieldLaws.{little_number-little_bytes}
 use Rattle.fv_volume.specs.declared.file.FfsFile.{FfsFile}
 use Rattle.fv_volume.specs.declared.item.Item.{Item}
-use Rattle.fv_volume.specs.declared.item.ItemKind.{ItemKind}
 use Rattle.fv_volume.specs.declared.item.ItemKind.TheVariants.{Dead, Pad, Listed}
 use Rattle.fv_volume.specs.declared.file_header.FileHeader.{FileHeader}
-use Rattle.fv_volume.specs.declared.file_state.FileState.{FileState}
 use Rattle.fv_volume.specs.declared.file_state.FileState.TheVariants.{DataValid}
 use Rattle.fv_volume.specs.declared.volume_header.Format.{Format}
 use Rattle.fv_volume.specs.declared.fault.VolCause.{VolCause}

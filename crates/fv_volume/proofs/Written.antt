@@ -1,5 +1,5 @@
 -- A volume that is written from front to back.
-use Rattle.std.proofs.Common.{◌≡◌, ℕ, ◌+◌, ◌-◌, ◌<◌, ◌≤◌, ◌^◌, true, List, [], ◌++◌, length, replicate, Option, None, ap, ◌∙◌, arith, append_assoc, length-append}
+use Rattle.std.proofs.Common.{◌≡◌, ℕ, ◌+◌, ◌-◌, ◌≤◌, true, List, [], ◌++◌, length, replicate, Option, None, ap, ◌∙◌, arith, append_assoc, length-append}
 use Rattle.fv_volume.specs.declared.build.new_file.NewFile.{NewFile}
 use Rattle.fv_volume.specs.declared.build.volume_header.VolumeForm.{VolumeForm}
 use Rattle.fv_volume.specs.declared.build.volume_name.VolumeName.{VolumeName}

@@ -1,5 +1,5 @@
 // The memory space map.
-ghost use Rattle.std.specs.Prelude.{◌≡◌, ◌<◌, ◌≤◌, ◌+◌, ◌^◌, ℕ, IfOk, SomeIff, MatchBool, MatchResult};
+ghost use Rattle.std.specs.Prelude.{◌≡◌, ◌<◌, ◌≤◌, ◌+◌, ◌^◌, IfOk, SomeIff, MatchBool, MatchResult};
 ghost use Rattle.gcd_map.specs.declared.word.GcdWord.TheVariants.{Memory};
 ghost use Rattle.gcd_map.specs.AddressSpace.{MemorySpace, empty_space, state_at, with_change};
 ghost use Rattle.gcd_map.specs.Stretch.{AllIn, SomeIn};

@@ -1,5 +1,5 @@
 // Look-ups and tests of ranges.
-ghost use Rattle.std.specs.Prelude.{◌≡◌, ◌⊎◌, ◌<◌, ◌≤◌, ◌+◌, ◌^◌, ℕ, List, length, drop, MatchBool};
+ghost use Rattle.std.specs.Prelude.{◌≡◌, ◌⊎◌, ◌<◌, ◌≤◌, ◌+◌, ℕ, length, drop, MatchBool};
 ghost use Rattle.gcd_map.specs.declared.state.SpaceState.{SpaceState};
 ghost use Rattle.gcd_map.specs.Ranges.{Cover, DoesFit};
 ghost use Rattle.gcd_map.specs.Stretch.{AllIn, SomeIn};

@@ -11,7 +11,6 @@ use Rattle.store_model.specs.declared.store_handle.DescKind.TheVariants.{Dispatc
 use Rattle.store_model.specs.StoreState.{StoreState}
 use Rattle.store_model.specs.StateFacts.{IsDesc}
 use Rattle.store_model.specs.Service.Descriptor.{descriptor_in, is_callback, kind_at, offsets}
-use Rattle.store_model.specs.Service.Notify.{new_callbacks, new_dispatches}
 use Rattle.store_laws.specs.Bodies.{IsGrown}
 use Rattle.mem_store.specs.Rows.{row_at}
 use Rattle.mem_store.specs.Serving.{DescsStay}

@@ -1,5 +1,5 @@
 -- What an index says of the state behind a call that puts entries.
-use Rattle.std.proofs.Common.{◌≡◌, ℕ, zero, suc, ◌+◌, Bool, true, false, not, cond, List, [], ◌∷◌, ◌++◌, length, ap, refl, sym, subst, ◌∙◌, Option, Some, None, Result, Ok, Err}
+use Rattle.std.proofs.Common.{◌≡◌, ℕ, ◌+◌, Bool, true, false, not, cond, List, [], ◌∷◌, ◌++◌, length, ap, refl, sym, ◌∙◌, Option, Some, Ok, Err}
 use Rattle.std.specs.Prelude.{filter, map, nat_lt, option_map, slice_get, slice_set, unwrap_or}
 use Rattle.std.proofs.lemmas.Slice.Eq.{bytes_eq-Decides}
 use Rattle.pi_base.specs.declared.guid.Guid.{Guid}
@@ -21,7 +21,7 @@ use Rattle.mem_store.specs.Answering.{RowsAnswer}
 use Rattle.mem_store.specs.Rows.{row_at, rows_of, told_row}
 use Rattle.mem_store.specs.Serving.{RowsInstalled, RowsNotified, RowsOfCore, RowsReplaced}
 use Rattle.mem_store.specs.declared.index.Index.{Index}
-use Rattle.mem_store.specs.Indexed.{Becomes, BecomesCore, HasCore, Rows, Says, all_rows, held}
+use Rattle.mem_store.specs.Indexed.{Becomes, BecomesCore, HasCore, Says, all_rows, held}
 use Rattle.mem_store.proofs.Saying.{becomes_says, three}
 
 pub installed_says : (old new : Index) (s t : StoreState) (list : List Desc) → RowsInstalled s t list

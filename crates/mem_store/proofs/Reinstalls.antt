@@ -1,8 +1,7 @@
 -- A PPI in the place of another.
-use Rattle.std.proofs.Common.{◌≡◌, ℕ, suc, ◌+◌, Bool, true, false, not, cond, List, [], ◌∷◌, length, ap, refl, sym, ◌∙◌, arith, Option, Ok, Err}
-use Rattle.std.specs.Prelude.{fold, option_map, slice_set, unwrap_or}
+use Rattle.std.proofs.Common.{◌≡◌, ℕ, suc, ◌+◌, Bool, true, false, not, cond, List, [], ◌∷◌, length, ap, refl, sym, ◌∙◌, arith, Ok, Err}
+use Rattle.std.specs.Prelude.{fold, slice_set}
 use Rattle.std.proofs.Common.{◌==◌}
-use Rattle.store_model.specs.declared.state.Body.{Body}
 use Rattle.store_model.specs.declared.state.Body.TheVariants.{Node}
 use Rattle.store_model.specs.declared.state.Entry.{Entry}
 use Rattle.store_model.specs.declared.store_handle.Desc.{Desc}
@@ -12,7 +11,7 @@ use Rattle.store_model.specs.declared.store_handle.StoreFault.TheVariants as F
 use Rattle.store_model.specs.StoreState.{StoreState, pool_of}
 use Rattle.store_model.specs.StateFacts.{IsDesc, IsDescOf, IsStoreState}
 use Rattle.store_model.specs.Service.{in_room}
-use Rattle.store_model.specs.Service.Descriptor.{descriptor_in, is_ppi, kind_at}
+use Rattle.store_model.specs.Service.Descriptor.{is_ppi, kind_at}
 use Rattle.store_model.specs.Service.Install as I
 use Rattle.store_model.specs.Service.Install.{renamed, place_of, reinstall_pairs, with_pending}
 use Rattle.store_laws.specs.Bodies.{BodiesStay, IsGrown}

@@ -1,6 +1,6 @@
 -- What the index says of a state: the rows of its lists, or nothing any more; and what a call makes of it.
 -- Own.
-use Rattle.std.specs.Prelude.{◌≡◌, ℕ, ◌∷◌, ◌++◌, [], true, List, length, option_map, Some}
+use Rattle.std.specs.Prelude.{◌≡◌, ◌∷◌, ◌++◌, [], true, List, length, option_map, Some}
 use Rattle.pi_base.specs.declared.known_guid.TheConstants.{MEMORY_PPI}
 use Rattle.mem_store.specs.declared.guid_index.index.Indexed.{Indexed}
 use Rattle.mem_store.specs.Entries.{entries_of}

@@ -4,7 +4,6 @@ use Rattle.std.specs.Prelude.{◌≡◌, ℕ, ◌+◌, ◌<◌, ◌≤◌, Bool,
 use Rattle.store_model.specs.declared.store_handle.Firing.{Firing}
 use Rattle.store_model.specs.declared.store_handle.Sweep.{Sweep}
 use Rattle.store_model.specs.StoreState.{StoreState}
-use Rattle.store_model.specs.StateFacts.{IsSweepOf}
 use Rattle.store_model.specs.Service.Sweep.{firing_at, next_match}
 use Rattle.mem_store.specs.Entries.{has_at}
 use Rattle.mem_store.specs.declared.index.Index.{Index}

@@ -1,6 +1,5 @@
 // What is installed and registered, by GUID.
 ghost use Rattle.std.specs.Prelude.{◌≡◌, ◌++◌, ◌∷◌, [], true, if◌then◌else◌, IfOk, map, slice_set};
-ghost use Rattle.mem_store.specs.declared.guid_index.index.Indexed.{Indexed as OfIndexed};
 ghost use Rattle.store_model.specs.Service.{OfEach, Present};
 ghost use Rattle.store_model.specs.Service.Descriptor.{offsets};
 ghost use Rattle.store_model.specs.Service.Notify.{new_callbacks, new_dispatches};

@@ -1,6 +1,6 @@
 -- The files of a volume that are read: those that have a module, those that hold a volume, and the two a priori files.
 -- Each has its sections, and its scripts (PI 1.8, volume 3, firmware file sections; the scripts are own).
-use Rattle.std.specs.Prelude.{◌≡◌, ℕ, ◌+◌, Bool, false, ◌&&◌, ◌||◌, ◌==◌, List, [], ◌∷◌, take, drop, map, filter, find, Option, Some, None, option_map, nat_eq}
+use Rattle.std.specs.Prelude.{◌≡◌, ℕ, ◌+◌, Bool, false, ◌&&◌, ◌||◌, ◌==◌, List, take, drop, map, filter, find, Option, Some, None, option_map, nat_eq}
 use Rattle.std.specs.List.{starts_with}
 use Rattle.pi_base.specs.Guids.{same_guid}
 use Rattle.pi_base.specs.Lists.{Each, EachPair}

@@ -1,5 +1,5 @@
 // The text of an MP file.
-ghost use Rattle.std.specs.Prelude.{◌≡◌, ◌+◌, ◌-◌, ◌<◌, ◌^◌, ◌∷◌, length, IfOk, IfErr};
+ghost use Rattle.std.specs.Prelude.{◌+◌, ◌-◌, ◌<◌, ◌^◌, ◌∷◌, length, IfOk, IfErr};
 ghost use Rattle.line_words.specs.Line.{lines};
 ghost use Rattle.mp_core.specs.declared.limits.TheConstants.{MOST_CELLS, MOST_PROCESSORS};
 ghost use Rattle.mp_core.specs.Calls.{AreEvents, IsCount};

@@ -1,5 +1,5 @@
 // Operations and jobs.
-ghost use Rattle.std.specs.Prelude.{◌≡◌, ◌≢◌, ◌≤◌, ◌==◌, length, slice_index, IfSome, IfOk};
+ghost use Rattle.std.specs.Prelude.{◌≡◌, ◌≢◌, ◌==◌, slice_index, IfSome, IfOk};
 ghost use Rattle.std.specs.List.{before_first, after_first};
 ghost use Rattle.line_words.specs.Words.{words};
 ghost use Rattle.mp_core.specs.Calls.{IsOp, IsJob};

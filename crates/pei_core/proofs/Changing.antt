@@ -15,7 +15,7 @@ use Rattle.store_model.specs.StoreState.{StoreState}
 use Rattle.store_model.specs.Service.Descriptor.{guid_at, offsets}
 use Rattle.boot_model.specs.declared.line.CallName.{CallName}
 use Rattle.boot_model.specs.EvaluationBound.{is_called}
-use Rattle.boot_model.specs.EventGuids.{placed, placed_guids, taken_guid, taken_place}
+use Rattle.boot_model.specs.EventGuids.{placed, taken_place}
 use Rattle.boot_model.specs.PeiAction.{effect}
 use Rattle.boot_model.specs.PeiMachine.{Frame}
 use Rattle.boot_model.specs.Registers.{both, descriptor_in, descriptors_in, is_success}

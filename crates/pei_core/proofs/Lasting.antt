@@ -1,8 +1,7 @@
 -- Installing leaves descriptors as they are, so their GUIDs are read behind it as before it.
-use Rattle.std.proofs.Common.{◌≡◌, ℕ, Bool, true, false, cond, List, [], ◌∷◌, map, refl, ap, sym, subst, ◌∙◌, Option, Some, None, Result, Ok, Err}
+use Rattle.std.proofs.Common.{◌≡◌, ℕ, Bool, true, false, cond, List, [], ◌∷◌, map, refl, ap, sym, subst, ◌∙◌, Ok, Err}
 use Rattle.std.specs.Option.{option_map}
-use Rattle.std.specs.Prelude.{fold, unwrap_or, not, nat_lt}
-use Rattle.std.specs.List.{list_all}
+use Rattle.std.specs.Prelude.{fold, unwrap_or}
 use Rattle.pi_base.specs.Lists.{Each}
 use Rattle.store_model.specs.declared.state.Body.TheVariants.{Descriptor, Node}
 use Rattle.store_model.specs.declared.store_handle.Desc.{Desc}

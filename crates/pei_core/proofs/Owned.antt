@@ -1,6 +1,5 @@
 -- What an action of PEI's own, of the top frame, leaves.
-use Rattle.std.proofs.Common.{◌≡◌, ℕ, zero, suc, Bool, true, false, List, [], ◌∷◌, ◌++◌, map, take, drop, refl, sym, ap, ◌∙◌, subst, Option, Some, None}
-use Rattle.std.specs.Prelude.{option_map, if◌then◌else◌}
+use Rattle.std.proofs.Common.{◌≡◌, ℕ, zero, suc, Bool, true, false, List, [], ◌∷◌, ◌++◌, take, drop, refl, sym, ap, ◌∙◌, subst, Option, Some, None}
 use Rattle.std.proofs.lemmas.List.{append-nil}
 use Rattle.pi_base.specs.Lists.{Each}
 use Rattle.pi_base.specs.declared.word.Word.{Word}
@@ -15,10 +14,8 @@ use Rattle.store_model.specs.declared.state.Body.TheVariants.{Descriptor}
 use Rattle.store_model.specs.declared.state.DescriptorBody.{DescriptorBody}
 use Rattle.store_model.specs.declared.state.Entry.{Entry}
 use Rattle.store_model.specs.StoreState.{StoreState, body_at}
-use Rattle.store_model.specs.Service.Descriptor.{descriptors, guid_at, offsets}
+use Rattle.store_model.specs.Service.Descriptor.{descriptors, offsets}
 use Rattle.boot_laws.specs.Stay.{RepliesAreSound, Visits, swept_ppis}
-use Rattle.boot_model.specs.EvaluationBound.{is_called}
-use Rattle.boot_model.specs.EventGuids.{placed, taken_place}
 use Rattle.boot_model.specs.MachineFacts.{HoldRegisters}
 use Rattle.boot_model.specs.PeiAction.{Effect, Wrote, Called, Own, Shadowed, Logged, Skipped, Returned, effect}
 use Rattle.boot_model.specs.declared.frame.Register.{Register}

@@ -29,7 +29,7 @@ use Rattle.phase_parts.specs.Writes.{written}
 use Rattle.pei_core.specs.Guids.{no_changes}
 use Rattle.pei_core.specs.declared.guids.Changes.{Changes}
 use Rattle.pei_core.specs.declared.taken.Taken.{Taken}
-use Rattle.pei_core.specs.Taken.{Does, IsTaken, answered, refused, swept, told}
+use Rattle.pei_core.specs.Taken.{Does, IsTaken, refused, swept, told}
 use Rattle.pei_core.specs.Taken as T
 use Rattle.pei_core.proofs.Made.{Stands}
 

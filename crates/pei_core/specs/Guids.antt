@@ -1,6 +1,6 @@
 -- The GUIDs of the PPIs that an action of PEI changed.
 -- PI 1.8, volume 1, `InstallPpi()` and `ReInstallPpi()`.
-use Rattle.std.specs.Prelude.{◌≡◌, List, [], ◌∷◌, map, Option, Some, None}
+use Rattle.std.specs.Prelude.{◌≡◌, List, [], ◌∷◌, map, Some, None}
 use Rattle.pi_base.specs.declared.guid.Guid.{Guid}
 use Rattle.act_code.specs.declared.action.Action.{Action}
 use Rattle.store_model.specs.declared.store_handle.Desc.{Desc}

@@ -143,7 +143,8 @@ impl<M: PeiStore + Drop> Pei<M> {
 
     /// The module whose script runs. None where none does.
     pub fn running(&self) -> Option<u32>
-        ensures { (m : PeiMachine) → StandsFor M.stands_for self.now m → result ≡ option_map (λ frame. frame.module_number) (top_of m.frames) }
+        ensures { (m : PeiMachine) → StandsFor M.stands_for self.now m
+            → result ≡ option_map (λ frame. frame.module_number) (top_of m.frames) }
     {
         match self.core.frames.top() {
             Some(frame) => Some(frame.module_number),

@@ -5,7 +5,7 @@ ghost use Rattle.store_model.specs.Service.{Present, OfEach};
 ghost use Rattle.phase_parts.specs.Known.{AreKnown};
 ghost use Rattle.phase_parts.specs.Reported.{AreDescs, IsWithReports};
 ghost use Rattle.pei_core.specs.CoreCall.{last_volumes};
-ghost use Rattle.boot_model.specs.Text.{line_text, text_of};
+ghost use Rattle.boot_model.specs.Text.{text_of};
 ghost use Rattle.boot_model.specs.PeiStep.{report_lines};
 ghost use Rattle.boot_io.specs.Sink.{Puts, SinkFaultsAfter};
 

@@ -1,6 +1,5 @@
 // How far each module has come.
-ghost use Rattle.std.specs.Prelude.{◌≡◌, ◌<◌, length, if◌then◌else◌, IfOk, replicate};
-ghost use Rattle.pi_base.specs.declared.word.Word.{Word as OfWord};
+ghost use Rattle.std.specs.Prelude.{◌≡◌, ◌<◌, length, IfOk, replicate};
 ghost use Rattle.boot_model.specs.PeimState.{state_at};
 ghost use Rattle.boot_model.specs.declared.peim_state.PeimState.TheVariants.{NotDispatched};
 ghost use Rattle.pei_core.specs.Cores as C;

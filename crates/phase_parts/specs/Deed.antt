@@ -57,7 +57,3 @@ lines_of (Wrote registers status) = []
 lines_of (Logged text) = L.Log (record { items = text }) ∷ []
 lines_of (Skipped n) = []
 lines_of (Returned status) = L.End status ∷ []
-
--- an action is taken in the way of both phases, or in its phase's own
-abbrev pub taken_by : {W M : Type 0} → (Deed → M) → (Action → M) → Frame W → Action → M
-taken_by common own frame action = elim (deed frame action) [ None ↦ own action | Some does ↦ common does ]

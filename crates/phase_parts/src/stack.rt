@@ -1,6 +1,5 @@
 //! The scripts that run, one on the other.
 ghost use Rattle.std.specs.Prelude.{◌≡◌, ◌<◌, List, [], ◌∷◌, length, nat_le, option_copied};
-ghost use Rattle.pi_base.specs.declared.word.Word.{Word as OfWord};
 ghost use Rattle.boot_model.specs.Registers as R;
 ghost use Rattle.phase_parts.specs.Writes.{written};
 ghost use Rattle.phase_parts.specs.Frames.{top_of, below_top, past, answered, swept, top_sweep};

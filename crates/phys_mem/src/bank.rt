@@ -71,7 +71,8 @@ impl Bank {
 
     // Whether both ranges lie here.
     pub(crate) fn has_both(&self, from: u64, to: u64, n: usize) -> bool
-        ensures { result ≡ (is_inside self.now.base (length self.now.bytes) from n && is_inside self.now.base (length self.now.bytes) to n) }
+        ensures { result ≡ (is_inside self.now.base (length self.now.bytes) from n
+            && is_inside self.now.base (length self.now.bytes) to n) }
     {
         is_inside(self.base, self.len, from, n) && is_inside(self.base, self.len, to, n)
     }

@@ -19,7 +19,6 @@ pub struct PhysMem {
 }
 
 impl PhysMem {
-    ghost use Rattle.phys_mem.specs.Region.{Region};
     ghost use Rattle.phys_mem.specs.Regions.{regions, fixed_regions, rom_regions, temps, ram_region, rom_region, bytes_at, written, share, copy_of, copied, Becomes};
 
     /// Memory whose temporary RAM and RAM are zero.

@@ -1,5 +1,5 @@
 // Files that are kept as they are read.
-ghost use Rattle.std.specs.Prelude.{◌≡◌, ℕ, List};
+ghost use Rattle.std.specs.Prelude.{◌≡◌};
 
 use boot_io::{FileFault, Files, NamedFile};
 use pi_base::{OutOfMemory, Seq};

@@ -4,7 +4,7 @@ ghost use Rattle.line_words.specs.Number.{number_of};
 ghost use Rattle.program_edge.specs.Mistake.{IsMistake};
 ghost use Rattle.program_edge.specs.Shape.{HasShape};
 
-use crate::kind::{Kind, kind_of};
+use crate::kind::kind_of;
 use crate::mistake::Mistake;
 use crate::rule::Rule;
 use crate::shape::{Shape, shape_of};

@@ -1,5 +1,4 @@
 // Who reads standard error, and so what is kept of a run to be told of there.
-ghost use Rattle.std.specs.Prelude.{◌≡◌, IsTrue};
 
 use crate::kept_files::Keeping;
 use std::io::IsTerminal;

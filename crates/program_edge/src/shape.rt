@@ -1,5 +1,5 @@
 // The words of a line, as far as a plan's line may have any.
-ghost use Rattle.std.specs.Prelude.{◌≡◌, ◌≢◌, ◌<◌, ◌∷◌, [], slice_index, length, MatchOption, IfSome};
+ghost use Rattle.std.specs.Prelude.{◌≡◌, ◌≢◌, ◌<◌, ◌∷◌, [], slice_index, MatchOption, IfSome};
 ghost use Rattle.line_words.specs.Words.{words};
 ghost use Rattle.program_edge.specs.Shape.{HasShape};
 

@@ -1,5 +1,5 @@
 // GUIDs as people write them.
-ghost use Rattle.std.specs.Prelude.{◌≡◌, option_map};
+ghost use Rattle.std.specs.Prelude.{◌≡◌};
 ghost use Rattle.source_words.specs.GuidWord.{unbraced, guid_spelled, guid_of};
 
 use fv_volume::volume_header::{FFS2, FFS3};

@@ -5,7 +5,6 @@ use Rattle.std.specs.List.{list_all, list_any}
 use Rattle.std.proofs.lemmas.Bool.Decides.{nat_tests}
 use Rattle.hob_codec.specs.HobValue.{HobValue}
 use Rattle.hob_codec.specs.HobBytes.{length_of}
-use Rattle.pi_base.specs.declared.guid.Guid.{Guid}
 use Rattle.pi_base.specs.Lists.{Each}
 use Rattle.pi_base.proofs.ListFacts.{each_more}
 use Rattle.store_model.specs.declared.store_handle.StoreFault.TheVariants as F

@@ -8,9 +8,6 @@ use Rattle.store_model.specs.declared.state.HobEntry.{HobEntry}
 use Rattle.store_model.specs.StoreState.{header_len, hob_len, body_len, body_from, with_body}
 use Rattle.store_model.specs.HeapImage.{header_bytes}
 
-abbrev pub Spell : Type 0
-Spell = ℕ → Body → List ℕ
-
 -- the HOBs, of which the first stands at `at`
 abbrev pub spelled : (ℕ → Body → List ℕ) → ℕ → List HobEntry → List ℕ
 spelled spell at [] = []

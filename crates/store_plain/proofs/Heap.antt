@@ -1,5 +1,5 @@
 -- A byte of two lists, and the lengths of what stands in the heap.
-use Rattle.std.proofs.Common.{◌≡◌, ℕ, zero, suc, ◌+◌, ◌≤◌, ◌<◌, ◌^◌, List, [], ◌∷◌, ◌++◌, length, take, drop, get_or, arith, ap, refl, sym, ◌∙◌, Option, Some, None, append_assoc}
+use Rattle.std.proofs.Common.{◌≡◌, ℕ, zero, suc, ◌+◌, ◌<◌, ◌^◌, List, [], ◌∷◌, ◌++◌, length, take, drop, get_or, arith, ap, refl, sym, ◌∙◌, Some, None, append_assoc}
 use Rattle.std.specs.Prelude.{map, sum_by, slice_set}
 use Rattle.std.proofs.lemmas.List.{map-append}
 use Rattle.store_plain.specs.Words.{words_bytes, descriptor_words}
@@ -9,7 +9,6 @@ use Rattle.store_model.specs.declared.state.Entry.{Entry}
 use Rattle.store_model.specs.declared.state.Pending.{Pending}
 use Rattle.store_model.specs.declared.state.DescriptorBody.{DescriptorBody}
 use Rattle.store_model.specs.declared.state.Body.{Body}
-use Rattle.store_model.specs.declared.state.Body.TheVariants.{Bytes, Descriptor, Node, Allocation}
 use Rattle.store_model.specs.declared.state.HobEntry.{HobEntry}
 use Rattle.pi_base.specs.Lists.{Each, numbers}
 use Rattle.store_model.specs.StoreState.{StoreState, body_at, handoff_len, hob_len}

@@ -1,6 +1,6 @@
 -- What a body of a plain store stands for: its bytes, wherever they lie, or a descriptor, a node or pages.
 -- Own.
-use Rattle.std.specs.Prelude.{◌≡◌, ℕ, length, ⊤}
+use Rattle.std.specs.Prelude.{ℕ, ⊤}
 use Rattle.store_model.specs.HeapImage.{descriptor_bytes}
 use Rattle.store_model.specs.declared.state.Body.{Body}
 use Rattle.store_model.specs.declared.state.Body.TheVariants as S

@@ -1,5 +1,5 @@
 -- What `volume` answers to a text that `text` printed.
-use Rattle.std.proofs.Common.{◌≡◌, inl, inr, ℕ, ◌≤◌, List, length, refl, sym, subst, arith}
+use Rattle.std.proofs.Common.{◌≡◌, inl, inr, ℕ, ◌≤◌, List, length, sym, subst, arith}
 use Rattle.pi_base.specs.Field.{AreBytes}
 use Rattle.fv_volume.proofs.Standing.{volume_len}
 use Rattle.volume_text.specs.declared.fault.Fault.{Fault}

@@ -1,6 +1,5 @@
 // The HOB list of a plan's boot.
 ghost use Rattle.std.specs.Prelude.{◌≡◌, IfOk, length};
-ghost use Rattle.boot_core.specs.Examining.{IsImageRefusal};
 ghost use Rattle.boot_plan.specs.Range.{IsPlanInRange};
 ghost use Rattle.mod_catalog.specs.declared.image_fault.ImageFault.{ImageFault as OfImage};
 ghost use Rattle.boot_model.specs.declared.line.Line.TheVariants as L;

@@ -27,7 +27,8 @@ fn is_logged(text: &[u8]) -> bool
 
 // What follows a keyword and a space.
 fn word_after<'a>(line: &'a [u8], keyword: &[u8]) -> Option<&'a [u8]>
-    ensures { MatchOption result ((rest : List ℕ) → line.now ≡ keyword.now ++ 32 ∷ rest → ⊥) (λ rest. line.now ≡ keyword.now ++ 32 ∷ rest.now) }
+    ensures { MatchOption result ((rest : List ℕ) → line.now ≡ keyword.now ++ 32 ∷ rest → ⊥)
+        (λ rest. line.now ≡ keyword.now ++ 32 ∷ rest.now) }
 {
     match behind(line, keyword) {
         Some(rest) => behind(rest, b" "),

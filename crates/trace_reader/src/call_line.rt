@@ -15,7 +15,7 @@ use crate::field::fields_after;
 use crate::fixed_word::Fixed;
 use crate::number::Hexadecimal;
 use arrayvec::ArrayVec;
-use boot_model::{CallName, Extra, Line, SHOWN_LEN};
+use boot_model::{CallName, Extra, Line};
 use boot_trace::keywords::CALL;
 use pi_base::Word;
 

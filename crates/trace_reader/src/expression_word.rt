@@ -9,7 +9,6 @@ use crate::field::Field;
 use boot_model::ExpressionWord;
 use boot_trace::marks::{ABSENT, AFTER, BEFORE, DASH, MALFORMED_AT, SOR, TREE};
 use line_words::printed::behind;
-use pi_base::Guid;
 
 // What a field shows behind a front.
 fn read_behind<F: Field>(word: &[u8], front: &[u8]) -> Option<F>

@@ -1,6 +1,5 @@
 // A volume's text, with the texts of the volumes nested in it.
-ghost use Rattle.std.specs.Prelude.{◌≡◌, ◌≤◌, ◌<◌, ◌+◌, ℕ, length, map, IfOk, OnOk};
-ghost use Rattle.fv_volume.specs.Volume.{IsVolume};
+ghost use Rattle.std.specs.Prelude.{◌≤◌, ◌<◌, ◌+◌, ℕ, length, map, IfOk, OnOk};
 ghost use Rattle.fv_volume.specs.Places.{AreInside as AreFilesInside};
 ghost use Rattle.fv_volume.specs.Stream.{AreInside};
 ghost use Rattle.volume_print.specs.Description.{section_in, IsTextBy, IsInner};

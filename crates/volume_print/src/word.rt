@@ -1,5 +1,5 @@
 // Words of lines.
-ghost use Rattle.std.specs.Prelude.{◌≡◌, ◌++◌, ◌∷◌, decimal, OnOk};
+ghost use Rattle.std.specs.Prelude.{◌≡◌, ◌++◌, decimal, OnOk};
 ghost use Rattle.hex.specs.Hex.{encode_lower};
 ghost use Rattle.pi_base.specs.WordText.{guid_text, hexadecimal};
 ghost use Rattle.volume_print.specs.Spelling.{phase_word, system_word, type_word};

@@ -1,8 +1,8 @@
 // What a line says.
-ghost use Rattle.std.specs.Prelude.{◌≡◌, Ok};
+ghost use Rattle.std.specs.Prelude.{Ok};
 ghost use Rattle.source_words.specs.Words.{words};
 ghost use Rattle.volume_text.specs.Reading.{Gives, Meets};
-ghost use Rattle.volume_text.specs.Line.{volume_at, name_at, file_at, pad_at, script_at, guids_at, raw_at, section_at, body_at, alone, Reads, ReadsBy, ReadsDepex, ReadsExpression, IsBody};
+ghost use Rattle.volume_text.specs.Line.{volume_at, name_at, file_at, pad_at, script_at, guids_at, raw_at, section_at, body_at, alone, Reads, ReadsBy, ReadsDepex, IsBody};
 
 use crate::bytes::{bytes, guids};
 use crate::fault::{Cause, Stop};
@@ -15,7 +15,7 @@ use crate::word::{
 use depex_code::write_depex;
 use fv_volume::build::{VolumeForm, VolumeName};
 use fv_volume::sections::section_type::RAW;
-use pi_base::{OutOfMemory, Phase, Seq};
+use pi_base::{Phase, Seq};
 use source_words::depex::{ExpressionFault, read_expression};
 use std::alloc::Global;
 

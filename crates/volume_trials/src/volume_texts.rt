@@ -1,5 +1,4 @@
 // Texts of volumes: the bytes of those that the examples have, and each mistake with its line and its cause.
-use pi_base::Seq;
 use source_words::depex::ExpressionFault;
 use source_words::script::{LineFault, ScriptCause};
 use std::alloc::Global;

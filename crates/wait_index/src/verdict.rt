@@ -1,7 +1,5 @@
 // What the expression of a part says over the GUIDs that are installed.
-ghost use Rattle.std.specs.Prelude.{◌≡◌, ◌≤◌, ◌+◌, if◌then◌else◌};
-ghost use Rattle.pi_base.specs.declared.phase.Phase.{Phase as OfPhase};
-ghost use Rattle.mod_catalog.specs.declared.catalogue.Part.{Part as OfPart};
+ghost use Rattle.std.specs.Prelude.{◌≡◌, ◌≤◌, ◌+◌};
 ghost use Rattle.boot_model.specs.Eligible.{depex_holds};
 ghost use Rattle.wait_index.specs.Verdict.{expression_verdict, verdict_of};
 ghost use Rattle.wait_index.specs.Installed.{is_there};

@@ -1,6 +1,5 @@
 // The GUIDs that expressions push: first each has its slot, then each slot has the modules that push its GUID.
 ghost use Rattle.std.specs.Prelude.{◌≡◌, ◌≤◌, ◌<◌, [], false, Some, length, slice_set, if◌then◌else◌, IfOk, OnOk};
-ghost use Rattle.pi_base.specs.declared.guid.Guid.{Guid as OfGuid};
 ghost use Rattle.pi_base.specs.GuidMap.{value_of};
 ghost use Rattle.mod_catalog.specs.declared.limits.TheConstants.{MOST_MODULES};
 ghost use Rattle.pi_base.specs.Guids.{same_guid};

@@ -1,8 +1,6 @@
 //! A plan with the images of its volumes.
 ghost use Rattle.std.specs.Prelude.{◌≡◌, ◌≤◌, ℕ, List, All, IfOk, length};
-ghost use Rattle.boot_plan.specs.PlanText.{IsPlan, IsPlanFault};
 ghost use Rattle.boot_plan.specs.Range.{IsName, IsPlanInRange, IsVolumeInRange};
-ghost use Rattle.boot_plan.specs.declared.fault.PlanFault.{PlanFault as OfPlanFault};
 ghost use Rattle.boot_core.specs.Job.{IsJob, IsJobOf, IsNamed, IsNamedIn, IsRefusal, IsTextRefusal};
 ghost use Rattle.boot_core.specs.Parsing.{Parses};
 ghost use Rattle.boot_core.specs.Reading.{AreImages, IsLongVolume, IsReached, Reads};
@@ -87,7 +85,8 @@ fn read_volumes<F: Files>(
 pub fn job_of<F: Files>(alloc: Global, text: &[u8], files: &mut F) -> Result<Job, NoJob>
     requires { length text.now ≤ 0x10000 }
     ensures same { (other : List ℕ) → F.told files.new other ≡ F.told files.old other }
-    ensures row { Reads (IsJobOf (F.told files.old) text.now) (IsTextRefusal (F.told files.old) text.now) (IsNamedIn (F.told files.old) text.now)
+    ensures row { Reads (IsJobOf (F.told files.old) text.now) (IsTextRefusal (F.told files.old) text.now)
+        (IsNamedIn (F.told files.old) text.now)
         (record { before = F.faults files.old; now = F.faults files.new; missed = F.missed files.new }) result }
     ensures range { IfOk result (λ job. IsPlanInRange job.plan) }
     ensures as_many { IfOk result (λ job. length job.images ≡ length job.plan.volumes) }

@@ -4,8 +4,6 @@ ghost use Rattle.boot_io.specs.Sink.{Puts, SinkFaultsAfter};
 ghost use Rattle.store_model.specs.Service.{Present, OfEach};
 ghost use Rattle.store_model.specs.StoreCall.{Anything};
 ghost use Rattle.boot_model.specs.BootRun.{dxe_result};
-ghost use Rattle.boot_model.specs.Listing.{store_lines};
-ghost use Rattle.boot_model.specs.Text.{text_of};
 ghost use Rattle.boot_core.specs.Closing.{interface_text, result_text, closing_text};
 
 use boot_io::{Sink, SinkFault};

@@ -2,7 +2,6 @@
 ghost use Rattle.std.specs.Prelude.{◌≡◌, ◌≤◌, ◌+◌, ◌==◌, IfOk, drop, find, length, option_map, take};
 ghost use Rattle.fv_volume.specs.Stream.{AreInside};
 ghost use Rattle.pi_base.specs.Field.{words_of};
-ghost use Rattle.boot_model.specs.PlanBoard.{roms_of};
 ghost use Rattle.explain_text.specs.Title.{IsTitle, IsTitleIn, first_body, file_of};
 
 use crate::catalog::file::file_body;

@@ -1,5 +1,5 @@
 // The entries of a GUID are counted and found.
-ghost use Rattle.std.specs.Prelude.{◌≡◌, ◌<◌, ◌≤◌, ℕ, true, length, slice_get};
+ghost use Rattle.std.specs.Prelude.{◌≡◌, ◌<◌, ◌≤◌, true, length, slice_get};
 ghost use Rattle.std.specs.List.{list_any};
 ghost use Rattle.mem_store.specs.Entries.{count_below, entries_of, has_at, has_guid, IsNext};
 ghost use Rattle.mem_store.specs.Links.{IsLink};

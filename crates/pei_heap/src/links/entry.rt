@@ -2,7 +2,6 @@
 ghost use Rattle.std.specs.Prelude.{◌≡◌, ◌<◌, ◌+◌, ◌^◌, Some};
 ghost use Rattle.store_model.specs.HeapImage.{links_bytes};
 ghost use Rattle.pei_heap.specs.NewEntry.{second_of};
-ghost use Rattle.pei_heap.specs.declared.links.entry.NewEntry.{NewEntry as OfEntry};
 
 use pi_base::put_u64;
 use store_model::EntryList;

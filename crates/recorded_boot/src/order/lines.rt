@@ -1,5 +1,5 @@
 // The lines of an order.
-ghost use Rattle.std.specs.Prelude.{◌≡◌, ◌-◌, ◌<◌, ◌^◌, length, IfOk, IfErr};
+ghost use Rattle.std.specs.Prelude.{◌-◌, ◌<◌, ◌^◌, length, IfOk, IfErr};
 ghost use Rattle.recorded_boot.specs.OrderText.{IsOrder, IsOrderFault, TakesLine};
 
 use crate::order::fault::OrderFault;

@@ -115,7 +115,8 @@ pub fn read_expression(alloc: Global, phase: Phase, text: &[u8]) -> Result<Depex
     ensures read { IfOk result (Says phase text.now) }
     ensures few { IfOk result (λ expression. length (instructions expression) ≤ 1024) }
     // Words that say such an expression are read as it, unless memory ran out.
-    ensures again { (expression : Depex) → Says phase text.now expression → length (instructions expression) ≤ 1024 → GivesBack expression result }
+    ensures again { (expression : Depex) → Says phase text.now expression → length (instructions expression) ≤ 1024
+        → GivesBack expression result }
     // Where nothing is read, this is wrong with the words, or they say a longer expression, or memory ran out.
     ensures refused { IfErr result (IsRefused phase text.now) }
 {

@@ -15,8 +15,10 @@ pub fn one_expression()
 
 /// A text says an expression exactly where nothing is wrong with its words.
 pub fn no_cause()
-    ensures some { (phase : Phase) (text : List ℕ) → expression_cause phase (tokens text) ≡ None → (expression : Depex) × Says phase text expression }
-    ensures none { (phase : Phase) (text : List ℕ) (expression : Depex) → Says phase text expression → expression_cause phase (tokens text) ≡ None }
+    ensures some { (phase : Phase) (text : List ℕ) → expression_cause phase (tokens text) ≡ None
+        → (expression : Depex) × Says phase text expression }
+    ensures none { (phase : Phase) (text : List ℕ) (expression : Depex) → Says phase text expression
+        → expression_cause phase (tokens text) ≡ None }
 {}
 
 /// The words that `asm_text` prints of an expression are its.

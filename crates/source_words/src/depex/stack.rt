@@ -28,7 +28,6 @@ pub(crate) struct Stack {
 
 impl Model for Stack {
     ghost use Rattle.std.specs.Prelude.{List, reverse};
-    ghost use Rattle.std.specs.Coded.{coded_list};
     ghost use Rattle.source_words.specs.declared.depex.stack.Waiting.{Waiting};
 
     ghost Value = { List Waiting };

@@ -1,5 +1,4 @@
 // The tree of a text's words.
-ghost use Rattle.std.specs.Prelude.{◌≡◌, [], ℕ, None};
 ghost use Rattle.source_words.specs.Tokens.{tokens};
 ghost use Rattle.source_words.specs.Expression.{FindsCode, FindsTree};
 

@@ -1,5 +1,5 @@
 // Going through the words of a tree from left to right.
-ghost use Rattle.std.specs.Prelude.{◌≡◌, ◌+◌, ◌≤◌, ◌<◌, ◌^◌, [], Some, None, IfOk};
+ghost use Rattle.std.specs.Prelude.{◌≡◌, ◌+◌, ◌<◌, ◌^◌, []};
 ghost use Rattle.source_words.specs.declared.depex.walk.Stage.TheVariants.{Due, Ended};
 ghost use Rattle.source_words.specs.declared.depex.fault.ExpressionFault.TheVariants.{Extra};
 ghost use Rattle.source_words.specs.Emission.{Steps, Finishes, leaf_opcode};

@@ -1,5 +1,5 @@
 // The operands of actions. A reader gives a value and the words behind it.
-ghost use Rattle.std.specs.Prelude.{◌≡◌, ◌==◌, length, codes};
+ghost use Rattle.std.specs.Prelude.{◌≡◌, ◌==◌, length};
 ghost use Rattle.act_code.specs.Format.{is_within};
 ghost use Rattle.source_words.specs.Words.{words};
 ghost use Rattle.source_words.specs.Reading.{Gives, only_if};

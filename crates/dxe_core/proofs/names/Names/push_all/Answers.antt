@@ -1,4 +1,4 @@
-use Rattle.std.proofs.Common.{[], ◌∷◌, ◌++◌, take, ap, append_assoc, sym, subst, ◌∙◌}
+use Rattle.std.proofs.Common.{◌++◌, take, ap, append_assoc, sym, subst, ◌∙◌}
 use Rattle.std.proofs.lemmas.List.{take_more}
 use Rattle.dxe_core.specs.Names.{AreDriverNames}
 use Rattle.dxe_core.proofs.names.Names.push_all.Goals as goal

@@ -1,4 +1,4 @@
-use Rattle.std.proofs.Common.{ap, sym, ◌∙◌, Some}
+use Rattle.std.proofs.Common.{ap, ◌∙◌, Some}
 use Rattle.std.specs.Prelude.{option_map, slice_get}
 use Rattle.mem_store.specs.Entries.{entries_of}
 use Rattle.mem_store.specs.Rows.{told_row}

@@ -1,4 +1,4 @@
-use Rattle.std.proofs.Common.{cond, refl, ap, sym, subst, ◌∙◌, length, []}
+use Rattle.std.proofs.Common.{cond, refl, ap, sym, subst, ◌∙◌, []}
 use Rattle.boot_model.specs.PeiStep.{Fires, callback_line, callback_begun}
 use Rattle.pei_core.specs.Cores.{with_callback}
 use Rattle.pei_core.specs.declared.event.Again.TheVariants.{Nobody}

@@ -1,4 +1,4 @@
-use Rattle.std.proofs.Common.{refl, ap, sym, subst, ◌∙◌, [], ◌∷◌, Ok}
+use Rattle.std.proofs.Common.{refl, ap, sym, subst, ◌∙◌, [], Ok}
 use Rattle.mod_catalog.specs.Parts.{has_number}
 use Rattle.boot_model.specs.declared.line.Line.TheVariants as L
 use Rattle.boot_model.specs.declared.line.CallName.TheVariants as C

@@ -1,4 +1,4 @@
-use Rattle.std.proofs.Common.{refl, ap, sym, subst, ◌∙◌, length, []}
+use Rattle.std.proofs.Common.{refl, sym, subst, []}
 use Rattle.boot_laws.proofs.PeiCases.{Popped, popped_is}
 use Rattle.boot_model.specs.PeiStep.{Pops, dispatch_line, popped_to}
 use Rattle.pei_core.specs.declared.event.Again.TheVariants.{Nobody}
