@@ -1,6 +1,6 @@
 //! The printed lines of a boot, put to a sink.
 //!
-//! Tried in `text_trials`: `traces`.
+//! Tried in `boot_trials`: `traces`.
 #![tactic(auto)]
 
 mod entry_list;

@@ -8,6 +8,8 @@ mod board;
 #[cfg(test)]
 mod calls;
 #[cfg(test)]
+mod guid_indexes;
+#[cfg(test)]
 mod hobs;
 #[cfg(test)]
 mod readings;

@@ -1,4 +1,4 @@
-//! What all other crates stand on, GUIDs, maps by GUID, real files and sinks; the texts and codes that people and files write; and what is printed: tried row by row.
+//! What all other crates stand on, GUIDs, maps by GUID, real files and sinks; the texts and codes that people and files write; and what the tools of their own answer: tried row by row.
 #![tactic(auto)]
 
 #[cfg(test)]
@@ -12,11 +12,7 @@ mod expressions;
 #[cfg(test)]
 mod expressions_as_text;
 #[cfg(test)]
-mod guid_indexes;
-#[cfg(test)]
 mod guid_maps;
-#[cfg(test)]
-mod held_text;
 #[cfg(test)]
 mod hob_rows;
 #[cfg(test)]
@@ -33,5 +29,3 @@ mod processors;
 mod scripts;
 #[cfg(test)]
 mod scripts_as_text;
-#[cfg(test)]
-mod traces;

@@ -1,10 +1,14 @@
 // The texts of traces: each form, both ways, and the first line of no form.
-use crate::board::{MOST_TEXT, empty_sink};
+use boot_io::MemSink;
 use boot_model::Line;
 use boot_trace::put_all;
+use pi_base::Seq;
 use std::alloc::Global;
 use std::test::*;
 use trace_reader::{TraceFault, read_trace};
+
+/// The texts are shorter.
+const MOST_TEXT: usize = 10_000;
 
 /// Texts, and the first line of no form; 0 where there is none.
 static TEXTS: [(&[u8], u32); 61] = [
@@ -104,9 +108,9 @@ static TEXTS: [(&[u8], u32); 61] = [
 
 // Whether lines are printed as a text.
 fn are_printed(alloc: Global, lines: &[Line], text: &[u8]) -> bool {
-    match empty_sink(alloc) {
-        Some(mut sink) => put_all(&mut sink, lines).is_ok() && sink.text() == text,
-        None => false,
+    match MemSink::new(alloc, 4096, Seq::new(alloc)) {
+        Ok(mut sink) => put_all(&mut sink, lines).is_ok() && sink.text() == text,
+        Err(_) => false,
     }
 }
 

@@ -1,5 +1,5 @@
 // A text that pieces are put into.
-ghost use Rattle.std.specs.Prelude.{◌≡◌, ◌<◌, ◌-◌, ◌^◌, length};
+ghost use Rattle.std.specs.Prelude.{◌<◌, ◌-◌, ◌^◌, length};
 
 use boot_io::Sink;
 use recorded_boot::trace::Spelled;
