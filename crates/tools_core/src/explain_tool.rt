@@ -1,7 +1,10 @@
 // The boot of a plan, explained.
-ghost use Rattle.std.specs.Prelude.{◌≡◌, IfOk, length};
+ghost use Rattle.std.specs.Prelude.{◌≡◌, ◌≤◌, ◌++◌, IfOk, length};
 ghost use Rattle.boot_plan.specs.Range.{IsPlanInRange};
 ghost use Rattle.boot_core.specs.Examining.{IsExamined};
+ghost use Rattle.explain_text.specs.Lines.{IsCatalogText};
+ghost use Rattle.explain_text.specs.Text.{explained_text};
+ghost use Rattle.mod_catalog.specs.declared.limits.TheConstants.{MOST_MODULES};
 ghost use Rattle.tools_core.specs.Ends.{Tells};
 ghost use Rattle.tools_core.specs.ExplainReport.{ExplainReport, IsExplanation, RunsItself};
 
@@ -12,10 +15,39 @@ use boot_core::plan_files::{Job, NoJob};
 use boot_plan::Plan;
 use boot_reasons::explain_plan;
 use explain_text::catalog::put_catalog;
-use explain_text::put_explained;
+use explain_text::{Explained, put_explained};
 use mod_catalog::Catalog;
 use pi_base::{OutOfMemory, Seq};
 use std::alloc::Global;
+
+/// The text of a catalogue: what is in the images.
+pub(crate) fn catalog_text(
+    alloc: Global,
+    catalog: &Catalog,
+    images: &[Seq<u8>],
+) -> Result<Seq<u8>, OutOfMemory>
+    requires { length catalog.now.modules ≤ MOST_MODULES }
+    ensures { IfOk result (IsCatalogText catalog.now.volumes images.now catalog.now.modules) }
+{
+    let mut text = Seq::new(alloc);
+    put_catalog(alloc, &mut text, catalog, images)?;
+    Ok(text)
+}
+
+/// A catalogue's text, and behind it the run.
+pub(crate) fn with_run(
+    alloc: Global,
+    front: Seq<u8>,
+    catalog: &Catalog,
+    explained: &Explained,
+) -> Result<Seq<u8>, OutOfMemory>
+    requires { length catalog.now.modules ≤ MOST_MODULES }
+    ensures { IfOk result (λ text. text ≡ front ++ explained_text catalog.now.modules explained.now) }
+{
+    let mut text = front;
+    put_explained(alloc, &mut text, catalog, explained)?;
+    Ok(text)
+}
 
 // The text of a boot, explained: what is in the images, and then the run.
 fn explanation(
@@ -27,11 +59,9 @@ fn explanation(
     requires { IsExamined plan.now images catalog.now }
     ensures { IfOk result (IsExplanation (RunsItself plan.now images catalog.now) images catalog.now) }
 {
-    let mut text = Seq::new(alloc);
-    put_catalog(alloc, &mut text, catalog, images.as_slice())?;
+    let front = catalog_text(alloc, catalog, images.as_slice())?;
     let explained = explain_plan(alloc, plan, catalog, images)?;
-    put_explained(alloc, &mut text, catalog, &explained)?;
-    Ok(text)
+    with_run(alloc, front, catalog, &explained)
 }
 
 /// What a plan and the images of its volumes lead to.

@@ -13,6 +13,7 @@ ghost use Rattle.tools_core.specs.ToldReport.{RunsInOrder};
 ghost use Rattle.tools_core.specs.TraceReport.{TraceReport};
 
 use crate::by_starts::ByStarts;
+use crate::explain_tool::{catalog_text, with_run};
 use crate::hobs_tool::image_report;
 use crate::report::Report;
 use boot_core::examine;
@@ -21,9 +22,8 @@ use boot_laws::Reached;
 use boot_model::Line;
 use boot_plan::Plan;
 use boot_reasons::explain_plan_by;
-use explain_text::catalog::put_catalog;
-use explain_text::put_explained;
-use mod_catalog::one_catalogue;
+use explain_text::Explained;
+use mod_catalog::{Catalog, one_catalogue};
 use pi_base::{OutOfMemory, Seq};
 use recorded_boot::follow::ByOrder;
 use recorded_boot::order::{Names, NamesFault, order_of};
@@ -51,6 +51,24 @@ fn copied(alloc: Global, images: &[Seq<u8>]) -> Result<Seq<Seq<u8>>, OutOfMemory
     Ok(copies)
 }
 
+// The boot in an order of starts, explained.
+fn run_explained(
+    alloc: Global,
+    plan: &Plan,
+    by: ByOrder<'_>,
+    images: Seq<Seq<u8>>,
+) -> Result<Explained, OutOfMemory>
+    requires examined { IsExamined plan.now images by.catalog.now }
+    requires names { AreNames by.catalog.now (length by.catalog.now.modules) by.names.now.volumes.items }
+    ensures { IfOk result (RunsInOrder plan.now images by.entry.catalog.now by.entry.order.now) }
+{
+    match explain_plan_by(alloc, plan, by.catalog, images, &ByStarts::new(by))? {
+        Reached::End(explained) => Ok(explained),
+        // Each start is let.
+        Reached::Barred(_) => unreachable!(),
+    }
+}
+
 // The text of a boot in an order of starts, explained: what is in the images, and then the run.
 fn explanation(
     alloc: Global,
@@ -63,14 +81,37 @@ fn explanation(
     ensures { IfOk result
         (IsExplanation (RunsInOrder plan.now images by.entry.catalog.now by.entry.order.now) images by.entry.catalog.now) }
 {
-    let mut text = Seq::new(alloc);
-    put_catalog(alloc, &mut text, by.catalog, images.as_slice())?;
-    match explain_plan_by(alloc, plan, by.catalog, images, &ByStarts::new(by))? {
-        Reached::End(explained) => put_explained(alloc, &mut text, by.catalog, &explained)?,
-        // Each start is let.
-        Reached::Barred(_) => unreachable!(),
-    }
-    Ok(text)
+    let front = catalog_text(alloc, by.catalog, images.as_slice())?;
+    let explained = run_explained(alloc, plan, by, images)?;
+    with_run(alloc, front, by.catalog, &explained)
+}
+
+// What the lines of a trace lead to that was checked, over the catalogue of the images: the boot in the order of their starts.
+fn order_report(
+    alloc: Global,
+    plan: &Plan,
+    images: Seq<Seq<u8>>,
+    catalog: &Catalog,
+    lines: &[Line],
+) -> Result<Report, OutOfMemory>
+    requires examined { IsExamined plan.now images catalog.now }
+    requires few { length lines.now < 2 ^ 32 - 1 }
+    ensures { (text : List ℕ) → IsChecked plan.now images text Yes → IsTrace text lines.now
+        → IfOk result (Tells (TraceReport Explain plan.now images text)) }
+{
+    one_catalogue();
+    let names = match Names::build(alloc, catalog) {
+        Ok(names) => names,
+        Err(NamesFault::Twins { volume }) => return Ok(Report::Twins(volume)),
+        Err(NamesFault::Memory) => return Err(OutOfMemory),
+    };
+    let order = order_of(alloc, lines)?;
+    let by = ByOrder {
+        order: &order,
+        catalog,
+        names: &names,
+    };
+    Ok(Report::Answer(explanation(alloc, plan, by, images)?))
 }
 
 // What the lines of a trace lead to that was checked: the boot in the order of their starts.
@@ -86,24 +127,11 @@ fn lines_report(
     ensures { (text : List ℕ) → IsChecked plan.now images text Yes → IsTrace text lines.now
         → IfOk result (Tells (TraceReport Explain plan.now images text)) }
 {
-    one_catalogue();
-    let catalog = match examine(alloc, plan, images.as_slice()) {
-        Ok(catalog) => catalog,
-        Err(NoJob::Refused(line)) => return Ok(image_report(line)),
-        Err(NoJob::Memory) => return Err(OutOfMemory),
-    };
-    let names = match Names::build(alloc, &catalog) {
-        Ok(names) => names,
-        Err(NamesFault::Twins { volume }) => return Ok(Report::Twins(volume)),
-        Err(NamesFault::Memory) => return Err(OutOfMemory),
-    };
-    let order = order_of(alloc, lines)?;
-    let by = ByOrder {
-        order: &order,
-        catalog: &catalog,
-        names: &names,
-    };
-    Ok(Report::Answer(explanation(alloc, plan, by, images)?))
+    match examine(alloc, plan, images.as_slice()) {
+        Ok(catalog) => order_report(alloc, plan, images, &catalog, lines),
+        Err(NoJob::Refused(line)) => Ok(image_report(line)),
+        Err(NoJob::Memory) => Err(OutOfMemory),
+    }
 }
 
 // What a text leads to that is a free boot's.
