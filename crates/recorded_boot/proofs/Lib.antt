@@ -1,4 +1,5 @@
 mod Building
+mod Keeping
 mod OneMore
 mod OneOrder
 pub mod Fronts

@@ -6,12 +6,15 @@ use Rattle.mod_catalog.specs.declared.catalogue.Module.{Module}
 use Rattle.recorded_boot.specs.declared.order.names.NamesFault.{NamesFault}
 use Rattle.recorded_boot.specs.Named.{AreNames, IsFirstWithTwins}
 use Rattle.recorded_boot.specs.Taking.{Fails, IsKept}
-use Rattle.recorded_boot.proofs.Building.{no_twins, refused, one_more_named}
+use Rattle.recorded_boot.proofs.Building.{no_twins, none_named, refused, one_more_named}
 use Rattle.recorded_boot.proofs.order.names.keep_all.Goals as goal
 
 -- the module at hand
 at_hand : (catalog : Catalog) (items : List Module) (k : ℕ) (m : Module) → items ≡ catalog.modules → k < length items → m ≡ get_or items k m → (slice_get catalog.modules k ≡ Some m) × (k < length catalog.modules)
 at_hand catalog items k m same below is = (subst (λ xs. slice_get xs k ≡ Some m) same (slice_get_read items (length items) k m refl below is), subst (λ xs. k < length xs) same below)
+
+pub modules-init : goal.modules-init
+modules-init c = record { names = none_named c.args.catalog.now c.args.maps.now.items c.requires.none; number = refl }
 
 pub modules-preserved : goal.modules-preserved
 modules-preserved c =
@@ -23,6 +26,12 @@ modules-preserved c =
           (subst (λ n. IsKept c.member-item.result.volume c.member-item.result.name n c.modules.maps.items c.keep.new.maps.items) c.modules.invariant.number kept);
       number = ap (λ n. n + 1) c.modules.invariant.number;
     }
+
+pub returns-in_err-keep-clause-names : goal.returns-in_err-keep-clause-names
+returns-in_err-keep-clause-names c = rw (err_from_is_err_and c.from_residual.result c.from_residual.ensures.1).1 tt
+
+pub returns-in_err-keep-clause-apart : goal.returns-in_err-keep-clause-apart
+returns-in_err-keep-clause-apart c = rw (err_from_is_err_and c.from_residual.result c.from_residual.ensures.1).1 tt
 
 pub returns-in_err-keep-clause-twins : goal.returns-in_err-keep-clause-twins
 returns-in_err-keep-clause-twins c =
