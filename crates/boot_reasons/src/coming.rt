@@ -1,5 +1,5 @@
 //! The GUIDs whose coming would make an expression hold.
-ghost use Rattle.std.specs.Prelude.{◌≡◌, [], IfOk, not, filter};
+ghost use Rattle.std.specs.Prelude.{◌≡◌, [], IfOk, IsOkAnd, Some, None, if◌then◌else◌, not, filter};
 ghost use Rattle.depex_code.specs.Tree.{truth};
 ghost use Rattle.boot_reasons.specs.NotedOnce.{AreSeen, noted_all};
 ghost use Rattle.boot_reasons.specs.Would.{with_these, would, would_make};
@@ -65,8 +65,27 @@ fn noted_of(alloc: Global, guids: Seq<Guid>) -> Result<Noted, OutOfMemory>
     }
 }
 
+// These GUIDs, where a tree holds with them.
+fn where_holds(
+    noted: Noted,
+    holds: Result<bool, OutOfMemory>,
+) -> Result<Option<Seq<Guid>>, OutOfMemory>
+    ensures { IfOk result (λ guids. IsOkAnd holds (λ holds. guids ≡ (if holds then Some noted.guids else None))) }
+{
+    match holds {
+        Ok(true) => Ok(Some(noted.guids)),
+        Ok(_) => {
+            drop(noted);
+            Ok(None)
+        }
+        Err(OutOfMemory) => {
+            drop(noted);
+            Err(OutOfMemory)
+        }
+    }
+}
+
 // The GUIDs whose coming would make a tree hold.
-#[tactic(auto, using(crate::proofs::OnceEach::noted_once, crate::proofs::OnceEach::truth_once))]
 fn would_make<G: GuidSet>(
     alloc: Global,
     set: &G,
@@ -83,17 +102,8 @@ fn would_make<G: GuidSet>(
     let Ok(noted) = noted_of(alloc, guids) else {
         return Err(OutOfMemory);
     };
-    match holds_with(alloc, set, &noted, tree) {
-        Ok(true) => Ok(Some(noted.guids)),
-        Ok(_) => {
-            drop(noted);
-            Ok(None)
-        }
-        Err(OutOfMemory) => {
-            drop(noted);
-            Err(OutOfMemory)
-        }
-    }
+    let holds = holds_with(alloc, set, &noted, tree);
+    where_holds(noted, holds)
 }
 
 // Notes those of these GUIDs that are not in a set.
@@ -114,7 +124,6 @@ fn lacking<G: GuidSet>(alloc: Global, set: &G, guids: &[Guid]) -> Result<Seq<Gui
 
 /// The GUIDs whose coming would make the expression of a part hold over a set, each once: none where it holds.
 /// None where no GUIDs would do: a NOT would need one to go, it is FALSE, it cannot be read, or it names another driver in BEFORE or AFTER. A driver without an expression needs the architectural protocols.
-#[tactic(auto, using(crate::proofs::OnceEach::noted_once))]
 pub fn would<G: GuidSet>(
     alloc: Global,
     set: &G,

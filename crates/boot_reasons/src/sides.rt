@@ -74,7 +74,6 @@ impl Sides {
 }
 
 /// What a tree is over a set of GUIDs.
-#[tactic(auto, using(crate::proofs::Parts::tree_alone, crate::proofs::Parts::has_operands))]
 pub(crate) fn side_of<G: GuidSet>(alloc: Global, set: &G, tree: &Tree) -> Result<Side, OutOfMemory>
     requires order { G.in_order set.now }
     ensures { IfOk result (λ side. side ≡ side_of (G.has_guid set.now) tree.now) }

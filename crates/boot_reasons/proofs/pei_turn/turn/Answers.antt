@@ -61,3 +61,21 @@ returns-in-Ok-Ended-clause-row g c board fuel earlier m made at =
     let lets = g.C.Choice.lets_in_pei c.args.choice.now in
     let row = rw c.in-Ok-Ended.field-0-is at (c.in-Ok-Ended.ensures.row m fuel made at.now) in
     cut_on (NamesUnseen names) (LetsPeims lets) g.M.PeiStore.stands_for board catalog fuel earlier m c.args.pei.now c.go_on.new.pei c.args.queue.now c.go_on.new.queue c.args.told.now c.in-Ok-Ended.end _ at row.0 row.1 row.2
+
+pub unmoved_base-from-requires : goal.unmoved_base-from-requires
+unmoved_base-from-requires g c = record { state = (c.requires.state.0.store, c.store.ensures c.requires.state.0 c.requires.state.1.machine, tt) }
+
+pub returns-in-Ok-clause-made : goal.returns-in-Ok-clause-made
+returns-in-Ok-clause-made g c = c.in-Ok-Went.ensures.made
+
+pub returns-in-Err-tell_step-clause-made : goal.returns-in-Err-tell_step-clause-made
+returns-in-Err-tell_step-clause-made g c = c.in-Ok-Went.ensures.made
+
+pub returns-in-Ok-Idle-clause-made : goal.returns-in-Ok-Idle-clause-made
+returns-in-Ok-Idle-clause-made g c fuel made = c.start_or_stop.ensures.made fuel (c.in-Ok-Idle.ensures.made fuel made)
+
+pub returns-in-Ok-Ended-clause-made : goal.returns-in-Ok-Ended-clause-made
+returns-in-Ok-Ended-clause-made g c = c.in-Ok-Ended.ensures.made
+
+pub returns-in-Err-clause-made : goal.returns-in-Err-clause-made
+returns-in-Err-clause-made g c = c.in-Err.ensures.made
