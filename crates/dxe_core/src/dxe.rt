@@ -29,11 +29,21 @@ use std::marker::Model;
 use store_model::PeiStore;
 
 /// The DXE core, and the machine of DXE that it stands for beside its store, whatever is scheduled and has started.
-#[derive(Drop)]
 pub struct Dxe {
     pub(crate) frames: Frames<ProtocolSweep>,
     pub(crate) fuel: Fuel,
     pub(crate) services: DxeServices,
+}
+
+// What it is made of is dropped by one proof, which all that own one call.
+impl Drop for Dxe {
+    fn drop(self) {
+        let Dxe {
+            frames: _,
+            fuel: _,
+            services: _,
+        } = self;
+    }
 }
 
 impl Model for Dxe {
@@ -129,7 +139,12 @@ impl Dxe {
     pub fn into_handles(self) -> Handles
         ensures { result ≡ self.services.handles }
     {
-        self.services.into_handles()
+        let Dxe {
+            frames: _,
+            fuel: _,
+            services,
+        } = self;
+        services.into_handles()
     }
 
     /// The discovered volumes and their drivers.

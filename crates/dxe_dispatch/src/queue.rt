@@ -28,7 +28,6 @@ use std::sync::ledger::Ledger;
 use wait_index::{WaitIndex, asked_are_those_of_the_bound_in_dxe};
 
 /// The scheduled queue, and which drivers wait.
-#[derive(Drop)]
 pub struct DriverQueue {
     // All that were ever scheduled.
     items: Seq<Scheduled>,
@@ -38,6 +37,18 @@ pub struct DriverQueue {
     waits: Seq<bool>,
     // The drivers of the discovered volumes, with what they wait for.
     index: WaitIndex,
+}
+
+// What it is made of is dropped by one proof, which all that own one call.
+impl Drop for DriverQueue {
+    fn drop(self) {
+        let DriverQueue {
+            items: _,
+            head: _,
+            waits: _,
+            index: _,
+        } = self;
+    }
 }
 
 impl Model for DriverQueue {

@@ -4,12 +4,21 @@ use depex_code::Depex;
 use pi_base::{Guid, Seq};
 
 /// What is in a set of images.
-#[derive(Drop)]
 pub struct Catalog {
     /// A plan volume, then the volumes nested in it by place, each followed by its own; then the next plan volume.
     pub volumes: Seq<VolumeEntry>,
     /// Volume by volume, and in a volume by place.
     pub modules: Seq<Module>,
+}
+
+// What it is made of is dropped by one proof, which all that own one call.
+impl Drop for Catalog {
+    fn drop(self) {
+        let Catalog {
+            volumes: _,
+            modules: _,
+        } = self;
+    }
 }
 
 /// A volume, where it is mapped.

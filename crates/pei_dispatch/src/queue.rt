@@ -19,10 +19,19 @@ use std::sync::ledger::Ledger;
 use wait_index::{WaitIndex, next_is_the_next_peim};
 
 /// The PEI parts of the reported volumes, in the order in which they are tried, with the index of those that wait; and the cursor: how many of them stand before the place from which the next PEIM is looked for.
-#[derive(Drop)]
 pub struct PeiQueue {
     pub(crate) index: WaitIndex,
     pub(crate) cursor: usize,
+}
+
+// What it is made of is dropped by one proof, which all that own one call.
+impl Drop for PeiQueue {
+    fn drop(self) {
+        let PeiQueue {
+            index: _,
+            cursor: _,
+        } = self;
+    }
 }
 
 // Whether a module that has come so far awaits its second start.

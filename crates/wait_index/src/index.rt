@@ -12,7 +12,6 @@ use pi_base::{Guid, Phase, Seq};
 use std::sync::ledger::Ledger;
 
 /// The parts of the known volumes, by place, and which of them may start.
-#[derive(Drop)]
 pub struct WaitIndex {
     pub(crate) phase: Phase,
     pub(crate) installed: Installed,
@@ -21,6 +20,18 @@ pub struct WaitIndex {
     pub(crate) places: Places,
     ghost in_order: { IsInOrder places } by { Prim.hlevel props },
     ghost room: { HasRoom installed } by { Prim.hlevel props },
+}
+
+// What it is made of is dropped by one proof, which all that own one call.
+impl Drop for WaitIndex {
+    fn drop(self) {
+        let WaitIndex {
+            phase: _,
+            installed: _,
+            watchers: _,
+            places: _,
+        } = self;
+    }
 }
 
 impl WaitIndex {
