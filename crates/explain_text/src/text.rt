@@ -2,12 +2,13 @@
 ghost use Rattle.std.specs.Prelude.{◌≡◌, ◌≤◌, ◌++◌, flat_map, length, IfOk, OnOk};
 ghost use Rattle.pi_base.specs.declared.phase.Phase.TheVariants.{Pei};
 ghost use Rattle.mod_catalog.specs.declared.limits.TheConstants.{MOST_MODULES};
+ghost use Rattle.explain_text.specs.Context.{IsContext};
 ghost use Rattle.explain_text.specs.HeldLines.{held_lines};
 ghost use Rattle.explain_text.specs.LeftLines.{left_lines};
 ghost use Rattle.explain_text.specs.Text.{explained_text, is_told};
 ghost use Rattle.explain_text.specs.Told.{AreTold, known_in};
 
-use crate::context::context_of;
+use crate::context::{Context, context_of};
 use crate::end_lines::put_end;
 use crate::flags::{add_held, started};
 use crate::held_lines::put_all_held;
@@ -17,6 +18,22 @@ use crate::start_lines::put_starts;
 use mod_catalog::{Catalog, Module};
 use pi_base::{OutOfMemory, Phase, Seq};
 use std::alloc::Global;
+
+// The lines of the modules that wait, beside what may be given in PEI.
+fn put_waiting_beside(
+    alloc: Global,
+    out: &mut Seq<u8>,
+    modules: &[Module],
+    explained: &Explained,
+    pei: &Context,
+) -> Result<(), OutOfMemory>
+    requires short { length modules.now ≤ MOST_MODULES }
+    requires given { IsContext explained.now.begun modules.now Pei pei.now }
+    ensures { OnOk result (out.new ≡ out.old ++ flat_map (held_lines explained.now.begun modules.now) explained.now.held) }
+{
+    let dxe = context_of(alloc, explained.begun.as_slice(), modules, Phase::Dxe)?;
+    put_all_held(out, pei, &dxe, explained.held.as_slice())
+}
 
 // The lines of the modules that wait.
 fn put_waiting(
@@ -29,8 +46,7 @@ fn put_waiting(
     ensures { OnOk result (out.new ≡ out.old ++ flat_map (held_lines explained.now.begun modules.now) explained.now.held) }
 {
     let pei = context_of(alloc, explained.begun.as_slice(), modules, Phase::Pei)?;
-    let dxe = context_of(alloc, explained.begun.as_slice(), modules, Phase::Dxe)?;
-    put_all_held(out, &pei, &dxe, explained.held.as_slice())
+    put_waiting_beside(alloc, out, modules, explained, &pei)
 }
 
 // The modules that started in a phase or wait at its end.
