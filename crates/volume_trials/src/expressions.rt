@@ -1,6 +1,6 @@
 // Expressions in the words of an INF file: what they are read as, and each refusal.
 use crate::board::{Text, whole};
-use crate::gendepex::{FIFTH, FIRST, FOURTH, SECOND, THIRD};
+use crate::gendepex::SPELLINGS;
 use depex_code::{Depex, Opcode};
 use pi_base::{Guid, OutOfMemory, Phase, Seq};
 use source_words::depex::{ExpressionFault, read_expression};
@@ -77,31 +77,34 @@ fn is_read_as(alloc: Global, phase: Phase, words: &str, opcodes: &str) -> bool {
     }
 }
 
-// Whether the expressions of all rows are read as their opcodes.
-fn are_read_as(alloc: Global, rows: &[(bool, &str, &str)]) -> bool {
-    for (of_driver, words, opcodes) in rows {
-        let phase = if *of_driver { Phase::Dxe } else { Phase::Pei };
-        if !is_read_as(alloc, phase, words, opcodes) {
-            return false;
-        }
+// Whether the words of a line are read as its opcodes, in its phase. Behind the last line nothing is left.
+fn is_read_so(alloc: Global, line: &str) -> bool {
+    let Some((phase, line)) = line.split_once(' ') else {
+        return line.is_empty();
+    };
+    let Some((words, opcodes)) = line.split_once(": ") else {
+        return false;
+    };
+    match phase {
+        "pei" => is_read_as(alloc, Phase::Pei, words, opcodes),
+        "dxe" => is_read_as(alloc, Phase::Dxe, words, opcodes),
+        _ => false,
     }
-    true
 }
 
 /// The same of other spellings of words: blanks and brackets may stand anywhere.
-static SPELLINGS: [(bool, &str, &str); 4] = [
-    (false, "\t 1   and\t2 ", "12&."),
-    (false, "((1)AND(2))OR(3)end", "12&3|."),
-    (false, "not(not(TRUE))", "T!!."),
-    (false, "1 AND 2 OR 3", "123|&."),
-];
+static OTHER_SPELLINGS: &str = "\
+pei \t 1   and\t2 : 12&.\n\
+pei ((1)AND(2))OR(3)end: 12&3|.\n\
+pei not(not(TRUE)): T!!.\n\
+pei 1 AND 2 OR 3: 123|&.\n\
+";
 
 #[test]
 fn two_hundred_and_other_spellings_are_read_as_gendepex_reads_them(rt: HostRuntime) {
-    let alloc = rt.alloc();
-    assert!(rt; are_read_as(alloc, &FIRST) && are_read_as(alloc, &SECOND));
-    assert!(rt; are_read_as(alloc, &THIRD) && are_read_as(alloc, &FOURTH));
-    assert!(rt; are_read_as(alloc, &FIFTH) && are_read_as(alloc, &SPELLINGS));
+    for line in SPELLINGS.split('\n').chain(OTHER_SPELLINGS.split('\n')) {
+        assert!(rt; is_read_so(rt.alloc(), line));
+    }
 }
 
 /// Words that are no expression, and why.
