@@ -2,7 +2,7 @@
 use Rattle.std.proofs.Common.{◌≡◌, ℕ, suc, ◌-◌, ◌/◌, ◌<◌, ◌≤◌, false, cond, List, [], ◌∷◌, ◌++◌, length, map, take, drop, flat_map, sym, ap, ◌∙◌, append_assoc, arith}
 use Rattle.std.proofs.lemmas.Bool.Decides.{nat_tests}
 use Rattle.std.proofs.lemmas.List.{append-nil, length-drop}
-use Rattle.std.specs.Prelude.{nat_lt, ◌&&◌}
+use Rattle.std.specs.Prelude.{nat_lt, true, ◌&&◌}
 use Rattle.pi_base.specs.declared.guid.Guid.{Guid}
 use Rattle.pi_base.specs.Guids.{guid_at}
 use Rattle.fv_volume.specs.declared.build.attributes.FileAttributes.{FileAttributes}
@@ -61,4 +61,15 @@ pad_put piece body old mid new name attributes name_is body_is plain other head 
     grown ∙ ap (λ x. x ++ body_line body) head ∙ append_assoc old (head_line 240 name attributes) (body_line body)
     ∙ ap (λ (g : Guid). old ++ (head_line 240 g attributes ++ body_line body)) name_is ∙ ap (λ a. old ++ (head_line 240 there a ++ body_line body)) plain
     ∙ ap (λ xs. old ++ (head_line 240 there plain_attributes ++ body_line xs)) body_is
+    ∙ ap (λ t. old ++ cond t (pad_line (length rest)) (head_line 240 there plain_attributes ++ body_line rest)) (sym test)
+
+-- a pad that looks erased was told by its length
+pub erased_put : (piece body old new : List ℕ) (name : Guid) → name ≡ guid_at piece 0 → body ≡ drop 24 piece
+    → (are_erased name.0 && are_erased body) ≡ true → new ≡ old ++ pad_line (length body) → new ≡ old ++ pad_text (pad_of piece)
+erased_put piece body old new name name_is body_is erased grown =
+    let there = guid_at piece 0 in
+    let rest = drop 24 piece in
+    let test : (are_erased there.0 && are_erased rest) ≡ true =
+    sym (ap (λ (g : Guid). are_erased g.0 && are_erased body) name_is ∙ ap (λ xs. are_erased there.0 && are_erased xs) body_is) ∙ erased in
+    grown ∙ ap (λ xs. old ++ pad_line (length xs)) body_is
     ∙ ap (λ t. old ++ cond t (pad_line (length rest)) (head_line 240 there plain_attributes ++ body_line rest)) (sym test)
