@@ -5,18 +5,18 @@ use Rattle.std.specs.List.{list_any}
 use Rattle.pi_base.specs.declared.guid.Guid.{Guid}
 use Rattle.pi_base.specs.Guids.{same_guid}
 use Rattle.store_model.specs.declared.interface.Interface.{Interface}
-use Rattle.store_model.specs.HandleState.{HandleState, HandleService, is_live, is_on, is_on_with, placed, with_value, without, install_on, reinstall_interface, uninstall_interface, locate_handle}
+use Rattle.store_model.specs.HandleState.{HandleState, HandleService, change_of, is_live, is_on, is_on_with, placed, with_value, without, install_on, reinstall_interface, uninstall_interface, locate_handle}
 use Rattle.store_model.specs.HandleFacts.{IsHandleState, Keeps}
 use Rattle.store_model.proofs.HandleFacts.{facts_are_kept}
 use Rattle.dxe_core.specs.declared.database.fault.HandleFault.{HandleFault}
 use Rattle.dxe_core.specs.declared.database.fault.HandleFault.TheVariants as F
 use Rattle.dxe_core.specs.Index.{handles_with}
-use Rattle.dxe_core.specs.Places.{IsStretch, IsFirst, IsPlaceOn}
+use Rattle.dxe_core.specs.Places.{IsStretch, IsFirst, IsPlaceOn, IsPlaceWith}
 use Rattle.dxe_core.specs.Rows.{IsRow}
 use Rattle.dxe_core.proofs.Stretches.{live, less_by}
 use Rattle.dxe_core.proofs.Firsts.{both_of, is_handle, first_any, first_at, first_found, none_found, valued}
 use Rattle.dxe_core.proofs.HandlesWith.{found_by_head, none_there}
-use Rattle.dxe_core.proofs.HandleRows.{install_done, change_done}
+use Rattle.dxe_core.proofs.HandleRows.{install_done, change_dead, change_done, change_missing}
 
 -- what a place tells
 pub any_of_place : (is : List Interface) (handle : ℕ) (guid : Guid) (o : Option ℕ) → IsPlaceOn is handle guid o → is_some o ≡ true → list_any (is_on handle guid) is ≡ true
@@ -62,6 +62,13 @@ pub record Found (h : HandleState) (handle : ℕ) (guid : Guid) (value place : �
 
 there : (h : HandleState) (handle : ℕ) (guid : Guid) (value place : ℕ) → Found h handle guid value place → list_any (is_on_with handle guid value) h.interfaces ≡ true
 there h handle guid value place f = first_any (is_on_with handle guid value) h.interfaces place f.first
+
+-- where it is not there, nothing is changed
+pub unchanged : (h : HandleState) (handle : ℕ) (guid : Guid) (value : ℕ) (changed : List Interface) (fault : HandleFault) → IsPlaceWith h.interfaces handle guid value (Err fault)
+    → IsRow (change_of h handle guid value changed) h (Err fault) h
+unchanged h handle guid value changed F.InvalidParameter place = (change_dead h handle guid value changed place, refl)
+unchanged h handle guid value changed F.NotFound place = (change_missing h handle guid value changed place.0 place.1, refl)
+unchanged h handle guid value changed F.Memory place = absurd place
 
 abbrev pub with_new : HandleState → ℕ → Guid → ℕ → ℕ → HandleState
 with_new h handle guid old new = record h { interfaces = with_value (is_on_with handle guid old) new h.interfaces }

@@ -10,7 +10,7 @@ use Rattle.wait_index.specs.declared.index.WaitIndex.{WaitIndex}
 use Rattle.wait_index.specs.declared.places.Places.{Places}
 use Rattle.wait_index.specs.declared.standing.Standing.{Standing}
 use Rattle.wait_index.specs.Change.{IsChanged, started}
-use Rattle.wait_index.specs.Index.{is_open_in, order_in, owed, waits_in}
+use Rattle.wait_index.specs.Index.{is_open_in, order_in, waits_in}
 use Rattle.wait_index.specs.Places.{order_of, standing_of}
 use Rattle.dxe_dispatch.specs.Index.{IsRequested, WaitsNoMore, WaitNoMore, is_scheduled_in}
 

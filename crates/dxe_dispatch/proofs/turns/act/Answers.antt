@@ -4,7 +4,7 @@ use Rattle.boot_model.specs.DxeStep.{dxe_step}
 use Rattle.dxe_core.specs.Order.{Drivers, IsOrderOf}
 use Rattle.dxe_dispatch.specs.Queue.{owed}
 use Rattle.dxe_dispatch.proofs.Passing.{busy_starts_none}
-use Rattle.dxe_dispatch.proofs.Turning.{event_owes, event_so, has_event, new_drivers, owes_still, part_acted, told, whole_part, ends_so}
+use Rattle.dxe_dispatch.proofs.Turning.{event_owes, event_so, has_event, new_drivers, not_ok, owes_still, part_acted, told, whole_part, ends_so}
 use Rattle.dxe_dispatch.proofs.turns.act.Goals as goal
 
 pub step-requires-clause-made : goal.step-requires-clause-made
@@ -71,3 +71,39 @@ returns-in-Ended-clause-row g c lets m fuel made ready =
 
 pub returns-in-Ended-clause-owes : goal.returns-in-Ended-clause-owes
 returns-in-Ended-clause-owes g c before m fuel made ready = owes_still c.args.catalog.now fuel m _ _ (omega arith)
+
+pub returns-in_err-event-clause-made : goal.returns-in_err-event-clause-made
+returns-in_err-event-clause-made g c = not_ok _ c.from_residual.result c.from_residual.ensures.0
+
+pub returns-in_err-event-clause-queue : goal.returns-in_err-event-clause-queue
+returns-in_err-event-clause-queue g c = not_ok _ c.from_residual.result c.from_residual.ensures.0
+
+pub returns-in_err-event-clause-owes : goal.returns-in_err-event-clause-owes
+returns-in_err-event-clause-owes g c = not_ok _ c.from_residual.result c.from_residual.ensures.0
+
+pub returns-in_err-discover-in-Went-clause-made : goal.returns-in_err-discover-in-Went-clause-made
+returns-in_err-discover-in-Went-clause-made g c = not_ok _ c.from_residual-in_err-discover-in-Went.result c.from_residual-in_err-discover-in-Went.ensures.0
+
+pub returns-in_err-discover-in-Went-clause-queue : goal.returns-in_err-discover-in-Went-clause-queue
+returns-in_err-discover-in-Went-clause-queue g c = not_ok _ c.from_residual-in_err-discover-in-Went.result c.from_residual-in_err-discover-in-Went.ensures.0
+
+pub returns-in_err-discover-in-Went-clause-owes : goal.returns-in_err-discover-in-Went-clause-owes
+returns-in_err-discover-in-Went-clause-owes g c = not_ok _ c.from_residual-in_err-discover-in-Went.result c.from_residual-in_err-discover-in-Went.ensures.0
+
+pub returns-in_ok-discover-in-Went-clause-made : goal.returns-in_ok-discover-in-Went-clause-made
+returns-in_ok-discover-in-Went-clause-made g c = c.in_ok-event.ensures.made
+
+pub returns-in_ok-discover-in-Went-clause-queue : goal.returns-in_ok-discover-in-Went-clause-queue
+returns-in_ok-discover-in-Went-clause-queue g c = c.in_ok-discover-in-Went.ensures.made
+
+pub returns-in_ok-discover-in-Went-clause-faults : goal.returns-in_ok-discover-in-Went-clause-faults
+returns-in_ok-discover-in-Went-clause-faults g c = c.in_ok-event.ensures.faults
+
+pub returns-in-Ended-clause-made : goal.returns-in-Ended-clause-made
+returns-in-Ended-clause-made g c = c.in_ok-event.ensures.made
+
+pub returns-in-Ended-clause-queue : goal.returns-in-Ended-clause-queue
+returns-in-Ended-clause-queue g c = c.requires.queue
+
+pub returns-in-Ended-clause-faults : goal.returns-in-Ended-clause-faults
+returns-in-Ended-clause-faults g c = c.in_ok-event.ensures.faults

@@ -100,3 +100,27 @@ returns-in_err-put_stop-in-None-clause-row g c m fuel are idle =
     let none = rw c.in-None.is at (c.in_ok-next.ensures.row m are) in
     let p = err_from_is_err_and c.from_residual-in_err-put_stop-in-None.result c.from_residual-in_err-put_stop-in-None.ensures.1 in
     rw p.1 (part_stopped (g.C.Choice.lets_in_dxe c.args.choice.now c.args.starts) c.args.catalog.now fuel m c.choose.new.queue _ idle none (c.in_err-put_stop-in-None.ensures.row m (record { core = are.core; queue = none.1 })))
+
+pub returns-then-not-lets_driver-clause-made : goal.returns-then-not-lets_driver-clause-made
+returns-then-not-lets_driver-clause-made g c fuel for = for
+
+pub returns-in_ok-put_stop-in-None-clause-made : goal.returns-in_ok-put_stop-in-None-clause-made
+returns-in_ok-put_stop-in-None-clause-made g c fuel for = for
+
+pub returns-then-not-lets_driver-clause-queue : goal.returns-then-not-lets_driver-clause-queue
+returns-then-not-lets_driver-clause-queue g c = c.in_ok-next.ensures.made
+
+pub returns-then-not-lets_driver-clause-few_steps : goal.returns-then-not-lets_driver-clause-few_steps
+returns-then-not-lets_driver-clause-few_steps g c = c.in_ok-next.ensures.few_steps
+
+pub returns-then-not-lets_driver-clause-owes : goal.returns-then-not-lets_driver-clause-owes
+returns-then-not-lets_driver-clause-owes g c = c.in_ok-next.ensures.owes
+
+pub returns-in_ok-put_stop-in-None-clause-queue : goal.returns-in_ok-put_stop-in-None-clause-queue
+returns-in_ok-put_stop-in-None-clause-queue g c = c.in_ok-next.ensures.made
+
+pub returns-in_ok-put_stop-in-None-clause-few_steps : goal.returns-in_ok-put_stop-in-None-clause-few_steps
+returns-in_ok-put_stop-in-None-clause-few_steps g c = c.in_ok-next.ensures.few_steps
+
+pub returns-in_ok-put_stop-in-None-clause-owes : goal.returns-in_ok-put_stop-in-None-clause-owes
+returns-in_ok-put_stop-in-None-clause-owes g c = c.in_ok-next.ensures.owes

@@ -26,3 +26,24 @@ returns-else-is_idle-clause-row g c = c.act.ensures.row (g.C.Choice.lets_in_dxe 
 
 pub returns-else-is_idle-clause-owes : goal.returns-else-is_idle-clause-owes
 returns-else-is_idle-clause-owes g c = on_ok c.act.result (λ owes. owes c.args.steps.now) c.act.ensures.owes
+
+pub returns-then-is_idle-clause-made : goal.returns-then-is_idle-clause-made
+returns-then-is_idle-clause-made g c = c.start_or_stop.ensures.made
+
+pub returns-then-is_idle-clause-queue : goal.returns-then-is_idle-clause-queue
+returns-then-is_idle-clause-queue g c = c.start_or_stop.ensures.queue
+
+pub returns-then-is_idle-clause-faults : goal.returns-then-is_idle-clause-faults
+returns-then-is_idle-clause-faults g c = c.start_or_stop.ensures.faults
+
+pub returns-then-is_idle-clause-few_steps : goal.returns-then-is_idle-clause-few_steps
+returns-then-is_idle-clause-few_steps g c = c.start_or_stop.ensures.few_steps
+
+pub returns-else-is_idle-clause-made : goal.returns-else-is_idle-clause-made
+returns-else-is_idle-clause-made g c = c.act.ensures.made
+
+pub returns-else-is_idle-clause-queue : goal.returns-else-is_idle-clause-queue
+returns-else-is_idle-clause-queue g c = c.act.ensures.queue
+
+pub returns-else-is_idle-clause-faults : goal.returns-else-is_idle-clause-faults
+returns-else-is_idle-clause-faults g c = c.act.ensures.faults

@@ -67,3 +67,12 @@ returns-clause-row g c m fuel first made on has =
     let same = starts_are c.args.in_pei catalog m aimed.target Any c.args.queue.now c.starts-starts.result c.starts-starts.ensures on.now.queue aimed.is in
     let turned = subst (λ n. TurnsDxeTo (lets n) (IsNow stands c.args.store.now catalog c.turn.new.dxe c.turn.new.queue) (IsLeft stands c.args.store.now catalog c.turn.new.dxe c.turn.new.queue) catalog fuel aimed.target (record { old = T c.args.sink.now; new = T c.turn.new.sink }) c.turn.result) same (c.turn.ensures.row aimed.target fuel made aimed.ready) in
     turned_by Names (LetsDrivers lets c.args.in_pei) stands c.args.store.now catalog fuel c.args.dxe.now c.turn.new.dxe c.aim.new.queue c.turn.new.queue m (record { old = T c.args.sink.now; new = T c.turn.new.sink }) (c.args.steps.now + owed c.args.queue.now) _ c.turn.result aimed turned few
+
+pub returns-clause-made : goal.returns-clause-made
+returns-clause-made g c = c.turn.ensures.made
+
+pub returns-clause-queue : goal.returns-clause-queue
+returns-clause-queue g c = c.turn.ensures.queue
+
+pub returns-clause-faults : goal.returns-clause-faults
+returns-clause-faults g c = c.turn.ensures.faults

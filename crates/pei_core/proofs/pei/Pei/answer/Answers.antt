@@ -1,4 +1,4 @@
-use Rattle.std.proofs.Common.{refl, ap, sym, subst, ◌∙◌, ◌++◌, Ok, Err}
+use Rattle.std.proofs.Common.{refl, ap, sym, subst, ◌∙◌, ◌++◌, Ok, Err, arith}
 use Rattle.pi_base.specs.Lists.{Each}
 use Rattle.store_model.specs.StateFacts.{IsDesc}
 use Rattle.store_model.specs.Service.Descriptor.{offsets}
@@ -63,3 +63,24 @@ returns-clause-row g c m frame below new is =
           (puts_then (Ok _) (T c.args.sink.now) (T c.put_made.new.sink) (T c.put_reports.new.sink) (line_text (call_line reply)) (text_of (report_lines (new_volumes catalog new m.reported reply))) c.in_ok-put_made.ensures.text rest)
           (record { store = is.store; fields = fields });
     }
+
+pub returns-in_err-put_made-clause-kept : goal.returns-in_err-put_made-clause-kept
+returns-in_err-put_made-clause-kept g c = record { made = λ fuel for. record { states = for.states; known = c.report-volumes.ensures.known; fuelled = for.fuelled }; started = refl }
+
+pub returns-in_err-put_reports-clause-kept : goal.returns-in_err-put_reports-clause-kept
+returns-in_err-put_reports-clause-kept g c = record { made = λ fuel for. record { states = for.states; known = c.report-volumes.ensures.known; fuelled = for.fuelled }; started = refl }
+
+pub returns-clause-kept : goal.returns-clause-kept
+returns-clause-kept g c = record { made = λ fuel for. record { states = for.states; known = c.report-volumes.ensures.known; fuelled = for.fuelled }; started = refl }
+
+pub returns-clause-faults : goal.returns-clause-faults
+returns-clause-faults g c = c.in_ok-put_reports.ensures.cause ∙ c.in_ok-put_made.ensures.cause
+
+pub report-volumes-requires-clause-known : goal.report-volumes-requires-clause-known
+report-volumes-requires-clause-known g c = c.requires.known
+
+pub report-volumes-requires-clause-state : goal.report-volumes-requires-clause-state
+report-volumes-requires-clause-state g c = let stands = c.requires.state in (stands.0, stands.1, subst (λ list. Each (IsDesc stands.0) list) (sym c.as_slice.ensures.value) stands.2)
+
+pub last_volumes-requires : goal.last_volumes-requires
+last_volumes-requires g c = omega (arith, c.report-volumes.ensures.count)

@@ -35,3 +35,9 @@ returns-in_ok-put_made-in-Some-clause-row g c m fuel for h pops =
     let t = texts (T c.args.sink.now) (T c.put_made.new.sink) in
     went g.M.PeiStore.TAKES_MEMORY _ catalog fuel m (Pops firing a.0) (quiet_goal later) c.quiet.result t is refl refl refl (λ (idle : IsIdle m). some_none _ _ a.1 idle.pops)
     (led_quietly _ m later t Nobody c.quiet.result c.quiet.ensures refl (nobody m later refl refl (subst (Popped m.store) a.1 (popped_is m.store))) (stepped_one _ m later (dispatch_line catalog firing) c.dispatch_line.result (T c.args.sink.now) (T c.put_made.new.sink) refl c.dispatch_line.ensures c.in_ok-put_made-in-Some.ensures.text (record { store = a.2; fields = fields })))
+
+pub returns-in-None-clause-faults : goal.returns-in-None-clause-faults
+returns-in-None-clause-faults g c = refl
+
+pub queue_pop-requires : goal.queue_pop-requires
+queue_pop-requires g c = let stands = c.requires.state in record { state = (stands.0.store, stands.1.has.store, tt) }

@@ -1,10 +1,13 @@
-use Rattle.std.proofs.Common.{◌≡◌, Ok, sym, ap, ◌∙◌, subst, arith}
+use Rattle.std.proofs.Common.{◌≡◌, Err, Ok, sym, ap, ◌∙◌, subst, arith}
 use Rattle.std.specs.Prelude.{slice_set}
+use Rattle.std.proofs.lemmas.Result.{err_from_is_err_and}
 use Rattle.store_model.specs.HandleState.{HandleState, is_on_with, with_value, reinstall_interface}
 use Rattle.store_model.specs.HandleFacts.{IsHandleState}
 use Rattle.dxe_core.specs.Index.{handles_with}
+use Rattle.dxe_core.specs.Places.{IsPlaceWith}
+use Rattle.dxe_core.specs.Rows.{IsRow}
 use Rattle.dxe_core.proofs.HandlesWith.{held_valued}
-use Rattle.dxe_core.proofs.Done.{Found, reinstalled, reinstall_kept, valued_is}
+use Rattle.dxe_core.proofs.Done.{Found, reinstalled, reinstall_kept, unchanged, valued_is}
 use Rattle.dxe_core.proofs.database.handles.Handles.reinstall.Goals as goal
 
 pub index_mut-requires : goal.index_mut-requires
@@ -35,3 +38,12 @@ returns-clause-row c =
     let list = slice_set inside.interfaces.items c.in_ok-place.place (record c.index_mut.result.now { value = c.args.new }) in
     subst (λ old. reinstall_interface old c.args.on c.args.guid c.args.old c.args.new ≡ Ok (tt {0}, record { interfaces = list; made = inside.made })) c.self.view_is
     (reinstalled h c.args.on c.args.guid c.args.old c.args.new c.in_ok-place.place (found c) ∙ ap (λ list. Ok (tt {0}, record { interfaces = list; made = inside.made })) (sym (changed c)))
+
+pub returns-in_err-place-clause-row : goal.returns-in_err-place-clause-row
+returns-in_err-place-clause-row c =
+    let inside = c.self.inside in
+    let h : HandleState = record { interfaces = inside.interfaces.items; made = inside.made } in
+    let fault = c.in_err-place.field-0.0 in
+    let p = err_from_is_err_and c.from_residual.result c.from_residual.ensures.1 in
+    rw (p.1, p.2) (subst (λ old. IsRow (reinstall_interface old c.args.on c.args.guid c.args.old c.args.new) old (Err fault) old) c.self.view_is
+    (unchanged h c.args.on c.args.guid c.args.old (with_value (is_on_with c.args.on c.args.guid c.args.old) c.args.new h.interfaces) fault (subst (λ is. IsPlaceWith is c.args.on c.args.guid c.args.old (Err fault)) c.deref.ensures.value c.in_err-place.ensures.place)))

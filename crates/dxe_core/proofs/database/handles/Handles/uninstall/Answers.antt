@@ -1,12 +1,15 @@
-use Rattle.std.proofs.Common.{◌≡◌, Ok, sym, ap, ◌∙◌, subst}
+use Rattle.std.proofs.Common.{◌≡◌, Err, Ok, sym, ap, ◌∙◌, subst}
+use Rattle.std.proofs.lemmas.Result.{err_from_is_err_and}
 use Rattle.store_model.specs.HandleState.{HandleState, is_on_with, without, uninstall_interface}
 use Rattle.store_model.specs.HandleFacts.{IsHandleState}
 use Rattle.dxe_core.specs.Holders.{without_handle}
 use Rattle.dxe_core.specs.Index.{handles_with}
+use Rattle.dxe_core.specs.Places.{IsPlaceWith}
+use Rattle.dxe_core.specs.Rows.{IsRow}
 use Rattle.dxe_core.proofs.Firsts.{removed}
 use Rattle.dxe_core.proofs.HandlesWith.{held_without}
 use Rattle.dxe_core.proofs.Indexes.{holders_rise, index_changes}
-use Rattle.dxe_core.proofs.Done.{Found, uninstalled, uninstall_kept}
+use Rattle.dxe_core.proofs.Done.{Found, unchanged, uninstalled, uninstall_kept}
 use Rattle.dxe_core.proofs.database.handles.Handles.uninstall.Goals as goal
 
 pub remove-requires-2 : goal.remove-requires-2
@@ -34,3 +37,12 @@ returns-clause-row c =
     let h : HandleState = record { interfaces = inside.interfaces.items; made = inside.made } in
     subst (λ old. uninstall_interface old c.args.on c.args.guid c.args.value ≡ Ok (tt {0}, record { interfaces = c.remove.new.self.items; made = inside.made })) c.self.view_is
     (uninstalled h c.args.on c.args.guid c.args.value c.in_ok-place.place (found c) ∙ ap (λ list. Ok (tt {0}, record { interfaces = list; made = inside.made })) (sym (taken c)))
+
+pub returns-in_err-place-clause-row : goal.returns-in_err-place-clause-row
+returns-in_err-place-clause-row c =
+    let inside = c.self.inside in
+    let h : HandleState = record { interfaces = inside.interfaces.items; made = inside.made } in
+    let fault = c.in_err-place.field-0.0 in
+    let p = err_from_is_err_and c.from_residual.result c.from_residual.ensures.1 in
+    rw (p.1, p.2) (subst (λ old. IsRow (uninstall_interface old c.args.on c.args.guid c.args.value) old (Err fault) old) c.self.view_is
+    (unchanged h c.args.on c.args.guid c.args.value (without (is_on_with c.args.on c.args.guid c.args.value) h.interfaces) fault (subst (λ is. IsPlaceWith is c.args.on c.args.guid c.args.value (Err fault)) c.deref.ensures.value c.in_err-place.ensures.place)))

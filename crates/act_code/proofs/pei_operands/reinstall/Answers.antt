@@ -1,0 +1,7 @@
+use Rattle.std.proofs.Common.{refl}
+use Rattle.act_code.specs.Source.{operands_by}
+use Rattle.act_code.proofs.pei_operands.reinstall.Goals as goal
+
+pub returns : goal.returns
+unfolding operands_by
+returns g c = rw (c.in_ok-old.ensures, c.in_ok-new.ensures) refl
