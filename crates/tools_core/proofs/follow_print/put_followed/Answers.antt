@@ -1,4 +1,5 @@
-use Rattle.boot_io.proofs.PutsLaws.{puts_then}
+use Rattle.std.proofs.Common.{◌++◌}
+use Rattle.boot_io.proofs.PutsLaws.{part_of_more, puts_err, puts_then}
 use Rattle.tools_core.specs.FollowText.{last_text}
 use Rattle.tools_core.proofs.follow_print.put_followed.Goals as goal
 
@@ -6,3 +7,11 @@ pub returns-clause-text : goal.returns-clause-text
 returns-clause-text g c =
     let T = g.S.Sink.text in
     puts_then c.put_last.result (T c.args.sink.now) (T c.put.new.self) (T c.put_last.new.sink) c.args.lines.now (last_text c.args.followed.now) c.in_ok-put.ensures.text c.put_last.ensures.text
+
+pub returns-in_err-put-clause-text : goal.returns-in_err-put-clause-text
+returns-in_err-put-clause-text g c =
+    let T = g.S.Sink.text in
+    let lines = c.args.lines.now in
+    let last = last_text c.args.followed.now in
+    puts_err c.from_residual.result (T c.args.sink.now) (T c.put.new.self) (lines ++ last) c.from_residual.ensures.0
+    (part_of_more (T c.args.sink.now) (T c.put.new.self) lines last c.in_err-put.ensures.text)

@@ -1,9 +1,12 @@
 use Rattle.std.proofs.Common.{◌≡◌, ℕ, List, Option, IfOk, ◌∙◌, subst}
+use Rattle.std.specs.Prelude.{OnErr}
+use Rattle.std.proofs.lemmas.Result.{err_from_is_err_and}
 use Rattle.boot_core.specs.Job.{IsNamedIn}
 use Rattle.boot_core.specs.Reading.{plan_limit}
 use Rattle.tools_core.specs.FileReading.{IsRead, LongOutcome}
 use Rattle.tools_core.specs.Ends.{Reports}
-use Rattle.tools_core.specs.FollowReport.{FollowNames, FollowOutcome, OrderTextsOutcome, long_order, names_order, names_volume, order_limit, texts_read}
+use Rattle.tools_core.specs.FollowReport.{FollowNames, FollowOutcome, OrderTextsOutcome, long_order, long_plan, order_limit, texts_read}
+use Rattle.tools_core.specs.FollowReport.{names_order, names_plan, names_volume}
 use Rattle.tools_core.proofs.Ending.{reports_behind, reports_ok, reports_up}
 use Rattle.tools_core.proofs.follow_tool.with_follow.Goals as goal
 
@@ -45,3 +48,39 @@ returns-clause-report g c =
     (λ s t o. texts_read c.in-Content.content c.in-Content-2.text content.0 text.0 o) (λ n m. names_volume c.in-Content.content c.in-Content-2.text content.0 text.0 m) here in
     let R : ℕ → Type 0 = λ n. IfOk texts (λ report. Reports (FollowOutcome told plan order) (FollowNames told plan order) report (record { before = n; now = now; missed = missed })) in
     subst R (text.1 ∙ content.1) up
+
+pub returns-in_err-content-clause-report : goal.returns-in_err-content-clause-report
+returns-in_err-content-clause-report g c = rw (err_from_is_err_and c.from_residual.result c.from_residual.ensures.1).1 tt
+
+pub returns-in_err-content-clause-memory : goal.returns-in_err-content-clause-memory
+returns-in_err-content-clause-memory g c =
+    rw (err_from_is_err_and c.from_residual.result c.from_residual.ensures.1).1 c.in_err-content.ensures.memory
+
+pub returns-in_err-text-clause-report : goal.returns-in_err-text-clause-report
+returns-in_err-text-clause-report g c =
+    rw (err_from_is_err_and c.from_residual-in_err-text.result c.from_residual-in_err-text.ensures.1).1 tt
+
+pub returns-in_err-text-clause-memory : goal.returns-in_err-text-clause-memory
+returns-in_err-text-clause-memory g c =
+    let read = rw c.in-Content.is at c.in_ok-content.ensures.reading in
+    rw (err_from_is_err_and c.from_residual-in_err-text.result c.from_residual-in_err-text.ensures.1).1
+    (c.in_err-text.ensures.memory ∙ read.1)
+
+pub returns-clause-memory : goal.returns-clause-memory
+returns-clause-memory g c =
+    let F = g.F.Files.faults in
+    let Kept : ℕ → Type 0 = λ n. OnErr c.with_texts.result (F c.with_texts.new.files ≡ n) in
+    let content = rw c.in-Content.is at c.in_ok-content.ensures.reading in
+    let text = rw c.in-Content-2.is at c.in_ok-text.ensures.reading in
+    subst Kept (text.1 ∙ content.1) c.with_texts.ensures.memory
+
+pub returns-in-Refused-clause-report : goal.returns-in-Refused-clause-report
+returns-in-Refused-clause-report g c =
+    let F = g.F.Files.faults in
+    let told = g.F.Files.told c.args.files.now in
+    let plan = c.args.plan.now in
+    let order = c.args.order.now in
+    reports_up (LongOutcome (told plan) plan_limit plan) (FollowOutcome told plan order) (λ n. n ≡ plan) (FollowNames told plan order)
+    c.in-Refused.report
+    (record { before = F c.args.files.now; now = F c.read_file.new.files; missed = g.F.Files.missed c.read_file.new.files })
+    (λ s t o. long_plan o) (λ n e. names_plan e) (rw c.in-Refused.is at c.in_ok-content.ensures.reading)

@@ -1,9 +1,11 @@
-use Rattle.std.proofs.Common.{List, ℕ, ◌∙◌, sym, ap, subst, length, refl}
+use Rattle.std.proofs.Common.{List, ℕ, All, ◌∙◌, sym, ap, subst, length, refl}
 use Rattle.std.proofs.lemmas.Result.{err_from_is_err_and}
 use Rattle.boot_model.specs.declared.line.Line.{Line}
+use Rattle.boot_plan.specs.declared.plan.PlanVolume.{PlanVolume}
+use Rattle.boot_plan.specs.Range.{IsVolumeInRange}
 use Rattle.boot_core.specs.Job.{IsNamedIn, IsTextRefusal, text_long, text_refused}
 use Rattle.boot_core.specs.Parsing.{IsFaultLine}
-use Rattle.boot_core.specs.Reading.{IsLongVolume, IsReached, FilesTrail, Lacks}
+use Rattle.boot_core.specs.Reading.{AreImages, IsLongVolume, IsReached, FilesTrail, Lacks}
 use Rattle.boot_core.proofs.PlanImages.{images_len, images_short, lacks_up, lacks_fault}
 use Rattle.boot_core.proofs.plan_files.job.job_of.Goals as goal
 
@@ -41,3 +43,45 @@ returns-clause-as_many g c =
 
 pub returns-clause-short : goal.returns-clause-short
 returns-clause-short g c = images_short (g.F.Files.told c.args.files.now) c.as_slice.result.now c.in_ok-images.images c.in_ok-images.ensures.row.0
+
+pub returns-in_err-plan-clause-same : goal.returns-in_err-plan-clause-same
+returns-in_err-plan-clause-same g c = λ other. refl
+
+pub returns-in_err-images-clause-same : goal.returns-in_err-images-clause-same
+returns-in_err-images-clause-same g c = c.in_err-images.ensures.same
+
+pub returns-in_err-plan-clause-range : goal.returns-in_err-plan-clause-range
+returns-in_err-plan-clause-range g c = rw (err_from_is_err_and c.from_residual.result c.from_residual.ensures.1).1 tt
+
+pub returns-in_err-plan-clause-as_many : goal.returns-in_err-plan-clause-as_many
+returns-in_err-plan-clause-as_many g c = rw (err_from_is_err_and c.from_residual.result c.from_residual.ensures.1).1 tt
+
+pub returns-in_err-plan-clause-short : goal.returns-in_err-plan-clause-short
+returns-in_err-plan-clause-short g c = rw (err_from_is_err_and c.from_residual.result c.from_residual.ensures.1).1 tt
+
+pub returns-in_err-images-clause-range : goal.returns-in_err-images-clause-range
+returns-in_err-images-clause-range g c =
+    rw (err_from_is_err_and c.from_residual-in_err-images.result c.from_residual-in_err-images.ensures.1).1 tt
+
+pub returns-in_err-images-clause-as_many : goal.returns-in_err-images-clause-as_many
+returns-in_err-images-clause-as_many g c =
+    rw (err_from_is_err_and c.from_residual-in_err-images.result c.from_residual-in_err-images.ensures.1).1 tt
+
+pub returns-in_err-images-clause-short : goal.returns-in_err-images-clause-short
+returns-in_err-images-clause-short g c =
+    rw (err_from_is_err_and c.from_residual-in_err-images.result c.from_residual-in_err-images.ensures.1).1 tt
+
+pub returns-clause-same : goal.returns-clause-same
+returns-clause-same g c = c.in_ok-images.ensures.same
+
+pub returns-clause-range : goal.returns-clause-range
+returns-clause-range g c = c.in_ok-plan.ensures.range
+
+pub returns-clause-row : goal.returns-clause-row
+returns-clause-row g c =
+    let Are : List PlanVolume → Type 0 = λ volumes. AreImages (g.F.Files.told c.args.files.now) volumes c.in_ok-images.images in
+    let row = c.in_ok-images.ensures.row in
+    (record { plan_is = c.in_ok-plan.ensures.row; images_are = subst Are c.as_slice.ensures row.0 }, row.1)
+
+pub read_volumes-requires : goal.read_volumes-requires
+read_volumes-requires g c = subst (All IsVolumeInRange) (sym c.as_slice.ensures) c.in_ok-plan.ensures.range.volumes

@@ -1,6 +1,7 @@
-use Rattle.std.proofs.Common.{◌≡◌, ◌<◌, ◌+◌, ℕ, List, Some, Err, length, get_or, refl, sym, ap, subst, arith, slice_get}
+use Rattle.std.proofs.Common.{◌≡◌, ◌<◌, ◌+◌, ℕ, zero, suc, List, [], ◌∷◌, Some, Err, length, get_or, refl, sym, ap, subst, arith, slice_get}
 use Rattle.std.proofs.lemmas.Result.{err_from_is_err_and}
 use Rattle.std.proofs.lemmas.Option.{slice_get_read}
+use Rattle.pi_base.specs.Lists.{Each}
 use Rattle.mod_catalog.specs.declared.catalogue.Catalog.{Catalog}
 use Rattle.mod_catalog.specs.declared.catalogue.Module.{Module}
 use Rattle.recorded_boot.specs.declared.order.names.NamesFault.{NamesFault}
@@ -49,3 +50,26 @@ returns-clause-names c =
 
 pub returns-clause-apart : goal.returns-clause-apart
 returns-clause-apart c = no_twins c.args.catalog.now c.modules.maps.items (returns-clause-names c)
+
+volume_within : (modules : List Module) (k most : ℕ) (d : Module) → Each (λ m. m.volume < most) modules → k < length modules
+    → (get_or modules k d).volume < most
+volume_within [] k most d each below = absurd (omega (arith, below))
+volume_within (m ∷ modules) zero most d each below = each.0
+volume_within (m ∷ modules) (suc k) most d each below = volume_within modules k most d each.1 (omega (arith, below))
+
+pub keep-requires : goal.keep-requires
+keep-requires c =
+    let most = length c.args.catalog.now.volumes in
+    let each = subst (Each (λ (m : Module). m.volume < most)) (sym c.as_slice-member-items.ensures) c.requires.catalog.in_range in
+    let within = volume_within c.as_slice-member-items.result.now c.modules.member-index most c.member-item.result each
+    c.modules-test.true in
+    omega (arith, within, ap (λ m. m.volume) c.member-item.is, c.modules.invariant.names.volumes)
+
+pub overflow_add-number : goal.overflow_add-number
+overflow_add-number c = omega (
+  arith,
+  c.modules.invariant.number,
+  c.modules-test.true,
+  ap length c.as_slice-member-items.ensures,
+  c.requires.catalog.few_modules,
+)
