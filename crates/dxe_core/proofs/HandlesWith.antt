@@ -10,7 +10,7 @@ use Rattle.pi_base.proofs.ListFacts.{each_more, each_both}
 use Rattle.store_model.specs.declared.interface.Interface.{Interface}
 use Rattle.store_model.specs.HandleState.{is_on, is_on_with, placed, with_value, without}
 use Rattle.store_model.specs.HandleFacts.{IsNotBehind, AreOfOthers}
-use Rattle.dxe_core.specs.Holders.{Rises, with_handle, without_handle}
+use Rattle.guid_lists.specs.Lists.{Rises, with_number, without_number}
 use Rattle.dxe_core.specs.Index.{handles_with}
 use Rattle.dxe_core.specs.Places.{IsFirst}
 use Rattle.dxe_core.proofs.Firsts.{both_of, both_pass, is_handle, equal, unequal, guid_is, first_passes}
@@ -60,22 +60,22 @@ rises guid (i ∷ is) o u =
     (rises guid is o.1 u.1))
 
 -- a handle below the others comes first
-put_first : (n : ℕ) (ns : List ℕ) → Each (λ m. n < m) ns → with_handle n ns ≡ n ∷ ns
+put_first : (n : ℕ) (ns : List ℕ) → Each (λ m. n < m) ns → with_number n ns ≡ n ∷ ns
 put_first n [] e = refl
-put_first n (m ∷ ns) e = let more = e.0 in let behind : nat_lt m n ≡ false = grind (arith, nat_tests) in ap (λ b. cond b (m ∷ with_handle n ns) (n ∷ m ∷ ns)) behind
+put_first n (m ∷ ns) e = let more = e.0 in let behind : nat_lt m n ≡ false = grind (arith, nat_tests) in ap (λ b. cond b (m ∷ with_number n ns) (n ∷ m ∷ ns)) behind
 
-put_later : (n m : ℕ) (ns : List ℕ) → m < n → with_handle n (m ∷ ns) ≡ m ∷ with_handle n ns
-put_later n m ns less = let before : nat_lt m n ≡ true = grind (arith, nat_tests) in ap (λ b. cond b (m ∷ with_handle n ns) (n ∷ m ∷ ns)) before
+put_later : (n m : ℕ) (ns : List ℕ) → m < n → with_number n (m ∷ ns) ≡ m ∷ with_number n ns
+put_later n m ns less = let before : nat_lt m n ≡ true = grind (arith, nat_tests) in ap (λ b. cond b (m ∷ with_number n ns) (n ∷ m ∷ ns)) before
 
 -- with a new interface in its place
 abbrev With : Interface → Guid → List ℕ → List ℕ
-With new guid ns = cond (same_guid new.guid guid) (with_handle new.handle ns) ns
+With new guid ns = cond (same_guid new.guid guid) (with_number new.handle ns) ns
 
-front : (new : Interface) (guid : Guid) (ns : List ℕ) (b : Bool) → Each (λ m. new.handle < m) ns → cond b (new.handle ∷ ns) ns ≡ cond b (with_handle new.handle ns) ns
+front : (new : Interface) (guid : Guid) (ns : List ℕ) (b : Bool) → Each (λ m. new.handle < m) ns → cond b (new.handle ∷ ns) ns ≡ cond b (with_number new.handle ns) ns
 front new guid ns true e = sym (put_first new.handle ns e)
 front new guid ns false e = refl
 
-later : (n m : ℕ) (ns : List ℕ) (b t : Bool) → (t ≡ true → b ≡ true → m < n) → cond t (m ∷ cond b (with_handle n ns) ns) (cond b (with_handle n ns) ns) ≡ cond b (with_handle n (cond t (m ∷ ns) ns)) (cond t (m ∷ ns) ns)
+later : (n m : ℕ) (ns : List ℕ) (b t : Bool) → (t ≡ true → b ≡ true → m < n) → cond t (m ∷ cond b (with_number n ns) ns) (cond b (with_number n ns) ns) ≡ cond b (with_number n (cond t (m ∷ ns) ns)) (cond t (m ∷ ns) ns)
 later n m ns true true less = sym (put_later n m ns (less refl refl))
 later n m ns true false less = refl
 later n m ns false true less = refl
@@ -110,14 +110,14 @@ placed_last new (i ∷ is) e =
 
 -- without an interface
 abbrev Without : ℕ → Guid → Guid → List ℕ → List ℕ
-Without handle guid other ns = cond (same_guid guid other) (without_handle handle ns) ns
+Without handle guid other ns = cond (same_guid guid other) (without_number handle ns) ns
 
-take_first : (n m : ℕ) (ns : List ℕ) (b : Bool) → m ≡ n → ns ≡ cond b (without_handle n (cond b (m ∷ ns) ns)) (cond b (m ∷ ns) ns)
-take_first n m ns true same = sym (ap (λ t. cond t ns (m ∷ without_handle n ns)) (equal m n same))
+take_first : (n m : ℕ) (ns : List ℕ) (b : Bool) → m ≡ n → ns ≡ cond b (without_number n (cond b (m ∷ ns) ns)) (cond b (m ∷ ns) ns)
+take_first n m ns true same = sym (ap (λ t. cond t ns (m ∷ without_number n ns)) (equal m n same))
 take_first n m ns false same = refl
 
-take_later : (n m : ℕ) (ns : List ℕ) (b t : Bool) → (t ≡ true → b ≡ true → m ≡ n → ⊥) → cond t (m ∷ cond b (without_handle n ns) ns) (cond b (without_handle n ns) ns) ≡ cond b (without_handle n (cond t (m ∷ ns) ns)) (cond t (m ∷ ns) ns)
-take_later n m ns true true other = sym (ap (λ t. cond t ns (m ∷ without_handle n ns)) (unequal m n (other refl refl)))
+take_later : (n m : ℕ) (ns : List ℕ) (b t : Bool) → (t ≡ true → b ≡ true → m ≡ n → ⊥) → cond t (m ∷ cond b (without_number n ns) ns) (cond b (without_number n ns) ns) ≡ cond b (without_number n (cond t (m ∷ ns) ns)) (cond t (m ∷ ns) ns)
+take_later n m ns true true other = sym (ap (λ t. cond t ns (m ∷ without_number n ns)) (unequal m n (other refl refl)))
 take_later n m ns true false other = refl
 take_later n m ns false true other = refl
 take_later n m ns false false other = refl

@@ -12,6 +12,7 @@ mod Handling
 mod Listed
 mod NamesMore
 mod Notifying
+mod Noting
 mod OrderMore
 mod Owned
 mod ProtocolChanges
@@ -23,8 +24,6 @@ mod Done
 mod Firsts
 mod HandleRows
 mod HandlesWith
-mod Holding
 mod Indexes
 mod Reading
-mod Rising
 mod Stretches

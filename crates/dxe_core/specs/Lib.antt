@@ -2,6 +2,7 @@ pub mod Answered
 pub mod Event
 pub mod Lists
 pub mod Names
+pub mod Notes
 pub mod Order
 pub mod Parts
 pub mod Reply
@@ -10,7 +11,6 @@ pub mod Services
 pub mod Standing
 pub mod Steps
 pub mod Turn
-pub mod Holders
 pub mod Index
 pub mod Places
 pub mod Rows

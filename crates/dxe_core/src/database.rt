@@ -6,7 +6,6 @@
 
 mod fault;
 mod handles;
-mod holders;
 mod places;
 
 pub use fault::HandleFault;

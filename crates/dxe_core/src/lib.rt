@@ -16,6 +16,7 @@ mod lines;
 mod lists;
 mod memory;
 mod names;
+mod notes;
 mod notifications;
 mod notify;
 mod order;

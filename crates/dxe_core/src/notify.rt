@@ -33,16 +33,21 @@ fn notification_frame(note: &ProtocolNote, sweep: &ProtocolSweep) -> DriverFrame
 fn next_of(services: &DxeServices, sweep: ProtocolSweep) -> Option<(ProtocolNote, ProtocolSweep)>
     ensures { (m : DxeMachine) → m.notes ≡ services.now.notes → result ≡ next_note m sweep }
 {
-    'notes: for place in sweep.note_at..sweep.note_to {
-        if let Some(note) = services.note(place) {
-            if note.guid == sweep.guid {
-                let mut behind = sweep;
-                behind.note_at = place + 1;
-                return Some((*note, behind));
-            }
-        }
+    let place = match services.notes.next(&sweep.guid, sweep.note_at) {
+        Some(place) => place,
+        None => return None,
+    };
+    if place >= sweep.note_to {
+        return None;
     }
-    None
+    match services.note(place) {
+        Some(note) => {
+            let mut behind = sweep;
+            behind.note_at = place + 1;
+            Some((*note, behind))
+        }
+        None => None,
+    }
 }
 
 impl Dxe {

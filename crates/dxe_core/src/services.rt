@@ -9,6 +9,7 @@ ghost use Rattle.dxe_core.specs.Services.{AreCounted, AreServicesFor, AreService
 
 use crate::DriverOrder;
 use crate::database::Handles;
+use crate::notes::Notes;
 use boot_model::{ProtocolNote, ProtocolSweep};
 use mod_catalog::Catalog;
 use pi_base::{Guid, OutOfMemory, Seq};
@@ -20,7 +21,7 @@ use std::marker::Model;
 pub struct DxeServices {
     pub(crate) handles: Handles,
     /// In the order in which they were registered.
-    pub(crate) notes: Seq<ProtocolNote>,
+    pub(crate) notes: Notes,
     pub(crate) order: DriverOrder,
     /// A flag for each module.
     pub(crate) requested: Seq<bool>,
@@ -64,7 +65,7 @@ impl DxeServices {
         let order = DriverOrder::discover(alloc, catalog, bases)?;
         Ok(DxeServices {
             handles: Handles::new(alloc),
-            notes: Seq::new(alloc),
+            notes: Notes::new(alloc),
             order,
             requested,
         })
@@ -95,7 +96,7 @@ impl DxeServices {
     pub fn note(&self, place: u32) -> Option<&ProtocolNote>
         ensures { option_copied result ≡ slice_get self.now.notes place }
     {
-        self.notes.as_slice().get(place as usize)
+        self.notes.get(place)
     }
 
     /// Which drivers were requested, by number.

@@ -1,13 +1,13 @@
 // The handles and their interfaces.
 ghost use Rattle.std.specs.Prelude.{◌≡◌, ◌≤◌, ◌<◌, ◌-◌, ◌^◌, ⊤, None, OnOk, OnErr, insert, length, slice_get};
 ghost use Rattle.store_model.specs.HandleState.{no_handles, has_protocol, install_interface, install_new, install_on, reinstall_interface, uninstall_interface, locate_handle};
-ghost use Rattle.dxe_core.specs.Holders.{holders_of, with_handle, HaveStill, HasInstead, Rises};
+ghost use Rattle.guid_lists.specs.Lists.{list_of, with_number, HaveStill, HasInstead, Rises};
 ghost use Rattle.dxe_core.specs.Rows.{IsRow, TakesNoMemory};
 
 use crate::database::fault::HandleFault;
-use crate::database::holders::Holders;
 use crate::database::places::{place_in, place_with, stretch_of};
 use depex_code::GuidSet;
+use guid_lists::GuidLists;
 use pi_base::{Guid, OutOfMemory};
 use std::alloc::Global;
 use std::marker::Model;
@@ -20,7 +20,7 @@ pub struct Handles {
     interfaces: Vec<Interface>,
     /// How many handles were made.
     made: u32,
-    holders: Holders,
+    holders: GuidLists,
 }
 
 impl Model for Handles {
@@ -39,15 +39,15 @@ impl Model for Handles {
 /// Puts an interface at a place, and its handle among those that have the protocol. Where memory is wanting both stay as they were.
 fn add(
     interfaces: &mut Vec<Interface>,
-    holders: &mut Holders,
+    holders: &mut GuidLists,
     at: usize,
     interface: Interface,
 ) -> Result<(), OutOfMemory>
     requires within { at ≤ length interfaces.old.items }
-    requires rises { Rises (holders_of holders.old interface.guid) }
+    requires rises { Rises (list_of holders.old interface.guid) }
     ensures placed { OnOk result (interfaces.new.items ≡ insert interfaces.old.items at interface) }
     ensures held { OnOk result
-        (HasInstead holders.old interface.guid (with_handle interface.handle (holders_of holders.old interface.guid)) holders.new) }
+        (HasInstead holders.old interface.guid (with_number interface.handle (list_of holders.old interface.guid)) holders.new) }
     ensures same { OnErr result (interfaces.new.items ≡ interfaces.old.items) }
     ensures still { OnErr result (HaveStill holders.old holders.new) }
 {
@@ -72,7 +72,7 @@ impl Handles {
         Handles {
             interfaces: Vec::new(alloc),
             made: 0,
-            holders: Holders::new(alloc),
+            holders: GuidLists::new(alloc),
         }
     }
 

@@ -1,18 +1,22 @@
-use Rattle.std.proofs.Common.{sym, ◌∙◌, refl, ap, None, Some, arith}
-use Rattle.std.specs.Option.{option_copied}
-use Rattle.dxe_core.proofs.Notifying.{passed, told, told_none}
+use Rattle.std.proofs.Common.{sym, ◌∙◌, ap, arith}
+use Rattle.std.specs.Prelude.{slice_get}
+use Rattle.dxe_core.proofs.Notifying.{told, told_none, told_late}
 use Rattle.dxe_core.proofs.notify.next_of.Goals as goal
-use Rattle.dxe_core.proofs.notify.next_of.Goals.{in-Some+else-eq, in_default}
 
-pub returns-then-eq : goal.returns-then-eq
-returns-then-eq c m same =
-    told m c.args.services.now.notes c.args.sweep c.notes.place c.in-Some.note.now same c.notes-test.true c.in-Some.ensures (sym c.eq.ensures ∙ c.if-eq.true) c.notes.invariant
+pub returns-in-None : goal.returns-in-None
+returns-in-None c m same =
+    let is = ap (λ s. s.notes) (sym c.services.view_is) in
+    told_none m c.services.inside.notes c.args.sweep (same ∙ is) c.in-None.ensures
 
-pub notes-preserved : goal.notes-preserved
-notes-preserved c = elim c.match-note.branch [
-  | in-Some+else-eq w ↦ passed c.args.services.now.notes c.args.sweep c.notes.place (Some w.in-Some.note.now) c.notes-test.true w.in-Some.ensures (sym w.eq.ensures ∙ w.if-eq.false) c.notes.invariant
-  | in_default w ↦ passed c.args.services.now.notes c.args.sweep c.notes.place None c.notes-test.true (ap option_copied (sym w.in_default.is) ∙ c.note.ensures) refl c.notes.invariant
-]
+pub returns-then-place-sweep : goal.returns-then-place-sweep
+returns-then-place-sweep c m same =
+    let is = ap (λ s. s.notes) (sym c.services.view_is) in
+    let late = c.if-place-sweep.true in
+    told_late m c.services.inside.notes c.args.sweep c.in-Some.place (same ∙ is) c.in-Some.ensures (omega (arith, late))
 
-pub returns : goal.returns
-returns c m same = let past = c.notes-test.false in told_none m c.args.services.now.notes c.args.sweep c.notes.place same (omega (arith, past)) c.notes.invariant
+pub returns-in-Some-note : goal.returns-in-Some-note
+returns-in-Some-note c m same =
+    let is = ap (λ s. s.notes) (sym c.services.view_is) in
+    let less = c.if-place-sweep.false in
+    told m c.services.inside.notes c.args.sweep c.in-Some.place c.in-Some-note.note.now (same ∙ is) c.in-Some.ensures (omega (arith, less))
+    (c.in-Some-note.ensures ∙ ap (λ notes. slice_get notes c.in-Some.place) is)

@@ -1,7 +1,7 @@
 use Rattle.std.proofs.Common.{Bool, nat_lt, nat_le, rules}
 use Rattle.std.proofs.lemmas.List.Sorted.{IsPartitionPoint-from_clause, IsPartitionedBy-ltb, IsPartitionedBy-leb}
 use Rattle.store_model.specs.declared.interface.Interface.{Interface}
-use Rattle.dxe_core.proofs.Rising.{rising}
+use Rattle.guid_lists.proofs.Rising.{rising}
 use Rattle.dxe_core.proofs.Stretches.{stretch_is, within}
 use Rattle.dxe_core.proofs.database.places.stretch_of.Goals as goal
 

@@ -6,7 +6,7 @@ use Rattle.store_model.specs.declared.interface.Interface.{Interface}
 use Rattle.store_model.specs.HandleState.{HandleState, is_on, placed}
 use Rattle.store_model.specs.HandleFacts.{IsHandleState, WasMade}
 use Rattle.store_model.proofs.HandleFacts.{facts_are_kept}
-use Rattle.dxe_core.specs.Holders.{with_handle}
+use Rattle.guid_lists.specs.Lists.{with_number}
 use Rattle.dxe_core.specs.Index.{handles_with}
 use Rattle.dxe_core.proofs.Firsts.{first_fails, unequal}
 use Rattle.dxe_core.proofs.HandlesWith.{held_placed, placed_last}
@@ -26,7 +26,7 @@ invariant_of-self-2 c =
     let last : placed new is ≡ is ++ new ∷ [] = placed_last new is (each_more (WasMade inside.made) (λ i. i.handle < new.handle) is (λ i w. let most = w.1 in omega (arith, most)) facts.made) in
     let after : c.add.new.interfaces.items ≡ is ++ new ∷ [] = c.in_ok-add.ensures.placed ∙ ap (λ k. insert is k new) (c.len-last.ensures ∙ inside.interfaces.ok.0) ∙ insert_end is new in (
       subst (λ list. IsHandleState (record { interfaces = list; made = inside.made + 1 })) (sym after) (facts_are_kept.install h None c.args.guid c.args.value facts),
-      index_changes inside.holders c.add.new.holders is c.add.new.interfaces.items (with_handle new.handle) c.args.guid c.self.invariant.1 c.in_ok-add.ensures.held
+      index_changes inside.holders c.add.new.holders is c.add.new.interfaces.items (with_number new.handle) c.args.guid c.self.invariant.1 c.in_ok-add.ensures.held
           (λ other. ap (handles_with other) (after ∙ sym last) ∙ held_placed new other is
           (each_more (WasMade inside.made) (λ i. is_on new.handle new.guid i ≡ false) is (λ i w. let most = w.1 in first_fails _ _ (unequal i.handle new.handle (λ same. omega (arith, most, same)))) facts.made) facts.in_order),
     )

@@ -3,7 +3,7 @@ use Rattle.pi_base.specs.declared.word.Word.TheVariants.{InvalidParameter}
 use Rattle.store_model.specs.declared.interface.Interface.{Interface}
 use Rattle.store_model.specs.HandleState.{HandleState, install_on, placed}
 use Rattle.store_model.specs.HandleFacts.{IsHandleState}
-use Rattle.dxe_core.specs.Holders.{with_handle}
+use Rattle.guid_lists.specs.Lists.{with_number}
 use Rattle.dxe_core.specs.Index.{handles_with}
 use Rattle.dxe_core.specs.Rows.{IsRow}
 use Rattle.dxe_core.proofs.Stretches.{not_live, placed_is}
@@ -69,7 +69,7 @@ invariant_of-self-2 c =
     let h : HandleState = record { interfaces = inside.interfaces.items; made = inside.made } in
     let facts : IsHandleState h = c.self.invariant.0 in (
       subst (λ list. IsHandleState (record { interfaces = list; made = inside.made })) (sym (after c)) (on_kept h c.args.handle c.args.guid c.args.value (free_of c) facts),
-      index_changes inside.holders c.add.new.holders h.interfaces c.add.new.interfaces.items (with_handle c.args.handle) c.args.guid c.self.invariant.1 c.in_ok-add.ensures.held
+      index_changes inside.holders c.add.new.holders h.interfaces c.add.new.interfaces.items (with_number c.args.handle) c.args.guid c.self.invariant.1 c.in_ok-add.ensures.held
           (λ other. ap (handles_with other) (after c) ∙ held_placed (new_one c) other h.interfaces (each_fails _ h.interfaces (free_of c).none) facts.in_order),
     )
 

@@ -2,7 +2,7 @@ use Rattle.std.proofs.Common.{◌≡◌, Err, Ok, sym, ap, ◌∙◌, subst}
 use Rattle.std.proofs.lemmas.Result.{err_from_is_err_and}
 use Rattle.store_model.specs.HandleState.{HandleState, is_on_with, without, uninstall_interface}
 use Rattle.store_model.specs.HandleFacts.{IsHandleState}
-use Rattle.dxe_core.specs.Holders.{without_handle}
+use Rattle.guid_lists.specs.Lists.{without_number}
 use Rattle.dxe_core.specs.Index.{handles_with}
 use Rattle.dxe_core.specs.Places.{IsPlaceWith}
 use Rattle.dxe_core.specs.Rows.{IsRow}
@@ -27,7 +27,7 @@ invariant_of-self c =
     let h : HandleState = record { interfaces = inside.interfaces.items; made = inside.made } in
     let facts : IsHandleState h = c.self.invariant.0 in (
       subst (λ list. IsHandleState (record { interfaces = list; made = inside.made })) (sym (taken c)) (uninstall_kept h c.args.on c.args.guid c.args.value c.in_ok-place.place (found c) facts),
-      index_changes inside.holders c.remove-2.new.self h.interfaces c.remove.new.self.items (without_handle c.args.on) c.args.guid c.self.invariant.1 c.remove-2.ensures
+      index_changes inside.holders c.remove-2.new.self h.interfaces c.remove.new.self.items (without_number c.args.on) c.args.guid c.self.invariant.1 c.remove-2.ensures
           (λ other. ap (handles_with other) (taken c) ∙ held_without c.args.on c.args.guid c.args.value other h.interfaces c.in_ok-place.place facts.once (found c).first),
     )
 

@@ -5,7 +5,7 @@ use Rattle.std.specs.List.Sorted.{IsPartitionPoint, IsNonDecreasingBy}
 use Rattle.std.proofs.lemmas.Bool.Decides.{nat_tests}
 use Rattle.pi_base.specs.Lists.{Each, Ordered}
 use Rattle.pi_base.proofs.ListFacts.{each_more}
-use Rattle.dxe_core.specs.Holders.{leading, with_handle, without_handle, Rises}
+use Rattle.guid_lists.specs.Lists.{leading, with_number, without_number, Rises}
 
 -- what holds of each item holds of the one at an index
 pub each_index : {A : Type 0} (P : A → Type 0) (xs : List A) (k : ℕ) (d : A) → k < length xs → Each P xs → P (get_or xs k d)
@@ -34,17 +34,17 @@ cut p (x ∷ xs) (suc i) le h =
     let on = cut p xs i (omega (arith, le)) ((λ k d low high. h.0 (suc k) d (omega arith) (omega (arith, high))), (λ k d low high. h.1 (suc k) d (omega (arith, low)) (omega (arith, high)))) in
     ap suc on ∙ sym (ap (λ b. cond b (suc (leading p xs)) 0) passes)
 
--- a handle put in at its place
-pub put_in : (n : ℕ) (xs : List ℕ) → insert xs (leading (λ x. nat_lt x n) xs) n ≡ with_handle n xs
+-- a number put in at its place
+pub put_in : (n : ℕ) (xs : List ℕ) → insert xs (leading (λ x. nat_lt x n) xs) n ≡ with_number n xs
 put_in n [] = refl
 put_in n (x ∷ xs) =
-    elim (nat_lt x n) as (λ b. insert (x ∷ xs) (cond b (suc (leading (λ x. nat_lt x n) xs)) 0) n ≡ cond b (x ∷ with_handle n xs) (n ∷ x ∷ xs)) [ true ↦ ap (λ l. x ∷ l) (put_in n xs) | false ↦ refl ]
+    elim (nat_lt x n) as (λ b. insert (x ∷ xs) (cond b (suc (leading (λ x. nat_lt x n) xs)) 0) n ≡ cond b (x ∷ with_number n xs) (n ∷ x ∷ xs)) [ true ↦ ap (λ l. x ∷ l) (put_in n xs) | false ↦ refl ]
 
--- the place of a handle in a list
+-- the place of a number in a list
 abbrev pub at : ℕ → List ℕ → ℕ
 at n xs = leading (λ x. nat_lt x n) xs
 
--- a handle that stands at its place, taken out
+-- a number that stands at its place, taken out
 take_step : (n x k d : ℕ) (xs rest : List ℕ) (b : Bool) → nat_lt x n ≡ b → (k < length xs → get_or xs k d ≡ n → remove xs k ≡ rest)
     → cond b (suc k) 0 < length (x ∷ xs) → get_or (x ∷ xs) (cond b (suc k) 0) d ≡ n → remove (x ∷ xs) (cond b (suc k) 0) ≡ cond (x == n) xs (x ∷ rest)
 take_step n x k d xs rest true e on below here =
@@ -53,30 +53,30 @@ take_step n x k d xs rest false e on below here =
     let is : x ≡ n = here in
     let same : (x == n) ≡ true = grind (arith, nat_tests) in sym (ap (λ b. cond b xs (x ∷ rest)) same)
 
-pub taken_out : (n d : ℕ) (xs : List ℕ) → at n xs < length xs → get_or xs (at n xs) d ≡ n → remove xs (at n xs) ≡ without_handle n xs
+pub taken_out : (n d : ℕ) (xs : List ℕ) → at n xs < length xs → get_or xs (at n xs) d ≡ n → remove xs (at n xs) ≡ without_number n xs
 taken_out n d [] below is = absurd (omega (arith, below))
-taken_out n d (x ∷ xs) below is = take_step n x (at n xs) d xs (without_handle n xs) (nat_lt x n) refl (taken_out n d xs) below is
+taken_out n d (x ∷ xs) below is = take_step n x (at n xs) d xs (without_number n xs) (nat_lt x n) refl (taken_out n d xs) below is
 
-none_taken : (n : ℕ) (xs : List ℕ) → Each (λ x. n < x) xs → without_handle n xs ≡ xs
+none_taken : (n : ℕ) (xs : List ℕ) → Each (λ x. n < x) xs → without_number n xs ≡ xs
 none_taken n [] e = refl
 none_taken n (x ∷ xs) e =
     let above = e.0 in
-    let other : (x == n) ≡ false = grind (arith, nat_tests) in ap (λ b. cond b xs (x ∷ without_handle n xs)) other ∙ ap (λ l. x ∷ l) (none_taken n xs e.1)
+    let other : (x == n) ≡ false = grind (arith, nat_tests) in ap (λ b. cond b xs (x ∷ without_number n xs)) other ∙ ap (λ l. x ∷ l) (none_taken n xs e.1)
 
--- a handle that does not stand at its place stands nowhere
+-- a number that does not stand at its place stands nowhere
 above_by : (x n : ℕ) (b : Bool) → (x == n) ≡ b → nat_lt x n ≡ false → (x ≡ n → ⊥) → n < x
 above_by x n true same e never = let is : x ≡ n = grind (arith, nat_tests) in absurd (never is)
 above_by x n false other e never = grind (arith, nat_tests)
 
-miss_step : (n x k d : ℕ) (xs : List ℕ) (b : Bool) → nat_lt x n ≡ b → Rises (x ∷ xs) → ((k < length xs → get_or xs k d ≡ n → ⊥) → without_handle n xs ≡ xs)
-    → (cond b (suc k) 0 < length (x ∷ xs) → get_or (x ∷ xs) (cond b (suc k) 0) d ≡ n → ⊥) → without_handle n (x ∷ xs) ≡ x ∷ xs
+miss_step : (n x k d : ℕ) (xs : List ℕ) (b : Bool) → nat_lt x n ≡ b → Rises (x ∷ xs) → ((k < length xs → get_or xs k d ≡ n → ⊥) → without_number n xs ≡ xs)
+    → (cond b (suc k) 0 < length (x ∷ xs) → get_or (x ∷ xs) (cond b (suc k) 0) d ≡ n → ⊥) → without_number n (x ∷ xs) ≡ x ∷ xs
 miss_step n x k d xs true e o on none =
     let other : (x == n) ≡ false = grind (arith, nat_tests) in
-    ap (λ b. cond b xs (x ∷ without_handle n xs)) other ∙ ap (λ l. x ∷ l) (on (λ low is. none (omega (arith, low)) is))
+    ap (λ b. cond b xs (x ∷ without_number n xs)) other ∙ ap (λ l. x ∷ l) (on (λ low is. none (omega (arith, low)) is))
 miss_step n x k d xs false e o on none =
     let above : n < x = above_by x n (x == n) refl e (λ is. none (omega arith) is) in
     none_taken n (x ∷ xs) (above, each_more (λ y. x < y) (λ y. n < y) xs (λ y h. omega (arith, h, above)) o.0)
 
-pub not_there : (n d : ℕ) (xs : List ℕ) → Rises xs → (at n xs < length xs → get_or xs (at n xs) d ≡ n → ⊥) → without_handle n xs ≡ xs
+pub not_there : (n d : ℕ) (xs : List ℕ) → Rises xs → (at n xs < length xs → get_or xs (at n xs) d ≡ n → ⊥) → without_number n xs ≡ xs
 not_there n d [] o never = refl
 not_there n d (x ∷ xs) o never = miss_step n x (at n xs) d xs (nat_lt x n) refl o (not_there n d xs o.1) never
