@@ -1,5 +1,5 @@
 -- What an index says of the state behind a call that puts entries.
-use Rattle.std.proofs.Common.{◌≡◌, ℕ, ◌+◌, Bool, true, false, not, cond, List, [], ◌∷◌, ◌++◌, length, ap, refl, sym, ◌∙◌, Option, Some, Ok, Err}
+use Rattle.std.proofs.Common.{◌≡◌, ℕ, Bool, true, false, not, cond, List, [], ◌∷◌, ◌++◌, length, ap, refl, sym, ◌∙◌, Option, Some, Ok, Err}
 use Rattle.std.specs.Prelude.{filter, map, nat_lt, option_map, slice_get, slice_set, unwrap_or}
 use Rattle.std.proofs.lemmas.Slice.Eq.{bytes_eq-Decides}
 use Rattle.pi_base.specs.declared.guid.Guid.{Guid}

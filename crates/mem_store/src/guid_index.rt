@@ -1,11 +1,9 @@
-//! Entries in order, found by their GUID: an index beside lists that are kept elsewhere. All its memory is reserved in `new`, and costs nothing
-//! until it is written. The entries of one GUID are linked from the last to the first, each to the one before it and to one further off, so that
-//! the next one from a place on, and the n-th, are found by steps whose number grows with the logarithm of how many there are. The last one of
-//! each GUID is found by a hash; GUIDs that meet in it cost a comparison each.
+//! Entries in order, found by their GUID: an index beside lists that are kept elsewhere. For each GUID the places of its entries are kept, lowest
+//! first: the next one from a place on is found by halving, the n-th at once, and an entry of another GUID takes the place of one by moving it from
+//! one list to the other.
 
 mod adding;
 mod index;
-mod link;
 mod reading;
 
 pub use index::{GuidIndex, Indexed};

@@ -87,18 +87,18 @@ fn put_rows(rows: &mut GuidIndex, behind: &HeapStore, list: &[Desc], which: Whic
 }
 
 impl Index {
-    // Nothing yet, and room for so many entries and GUIDs in each list.
-    pub(crate) fn new(alloc: Global, most: usize, guids: usize) -> Result<Index, OutOfMemory>
+    // Nothing yet, and room for so many entries in each list.
+    pub(crate) fn new(alloc: Global, most: usize) -> Result<Index, OutOfMemory>
         ensures { IfOk result (λ index. held index ≡ record { ppis = []; callbacks = []; dispatches = [] }) }
     {
-        let Ok(ppis) = GuidIndex::new(alloc, most, guids) else {
+        let Ok(ppis) = GuidIndex::new(alloc, most) else {
             return Err(OutOfMemory);
         };
-        let Ok(callbacks) = GuidIndex::new(alloc, most, guids) else {
+        let Ok(callbacks) = GuidIndex::new(alloc, most) else {
             drop(ppis);
             return Err(OutOfMemory);
         };
-        let Ok(dispatches) = GuidIndex::new(alloc, most, guids) else {
+        let Ok(dispatches) = GuidIndex::new(alloc, most) else {
             drop(ppis);
             drop(callbacks);
             return Err(OutOfMemory);
@@ -141,8 +141,7 @@ impl Index {
         ensures { Becomes self.old self.new (record (held self.old) { ppis = slice_set self.old.ppis place row }) }
     {
         if self.right {
-            self.right = (place as usize) < self.ppis.len()
-                && self.ppis.replace(place as usize, row);
+            self.right = (place as usize) < self.ppis.len() && self.ppis.replace(place, row);
         }
     }
 

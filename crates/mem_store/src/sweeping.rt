@@ -19,12 +19,12 @@ impl Index {
             Some(row) => row,
             None => return None,
         };
-        let note = match self.callbacks.next(&row.guid, from as usize) {
+        let note = match self.callbacks.next(&row.guid, from) {
             Some(note) => note,
             None => return None,
         };
-        if note < to as usize {
-            return Some(note as u32);
+        if note < to {
+            return Some(note);
         }
         None
     }
@@ -40,8 +40,8 @@ impl Index {
             Some(row) => row,
             None => return to,
         };
-        match self.ppis.next(&row.guid, from as usize) {
-            Some(ppi) => { if ppi < to as usize { ppi as u32 } else { to } }
+        match self.ppis.next(&row.guid, from) {
+            Some(ppi) => ppi.min(to),
             None => to,
         }
     }

@@ -1,10 +1,7 @@
 // Entries in order, found by their GUID.
-ghost use Rattle.std.specs.Prelude.{◌≡◌, ◌↔◌, IsTrue, [], true, length, slice_get, Some, IfOk};
-ghost use Rattle.mem_store.specs.Entries.{has_at, end_below};
-ghost use Rattle.mem_store.specs.Links.{IsLink};
+ghost use Rattle.std.specs.Prelude.{◌≡◌, ◌↔◌, IsTrue, [], length, slice_get, IfOk};
 
-use crate::guid_index::link::Link;
-use indexmap::IndexMap;
+use guid_lists::GuidLists;
 use pi_base::{Guid, OutOfMemory, Seq};
 use std::alloc::Global;
 use std::marker::Model;
@@ -20,55 +17,36 @@ pub struct Indexed {
 /// Entries in order. Contracts see the list of them.
 #[derive(Drop)]
 pub struct GuidIndex {
-    // How many entries there is room for.
-    pub(crate) most: usize,
     pub(crate) entries: Seq<Indexed>,
-    pub(crate) links: Seq<Link>,
-    // The place behind the last entry of each GUID.
-    pub(crate) ends: IndexMap<Guid, usize>,
+    // Where the entries of each GUID stand.
+    pub(crate) places: GuidLists,
 }
 
 impl Model for GuidIndex {
-    ghost use Rattle.std.specs.Prelude.{List};
+    ghost use Rattle.std.specs.Prelude.{List, length};
+    ghost use Rattle.guid_lists.specs.Places.{AreAt};
     ghost use Rattle.mem_store.specs.declared.guid_index.index.Indexed.{Indexed as OfIndexed};
-    ghost use Rattle.mem_store.specs.Links.{AreEnds, AreLinked};
+    ghost use Rattle.mem_store.specs.Entries.{has_at};
 
     ghost Value = { List OfIndexed };
 
     ghost view = { λ x. x.entries };
 
-    ghost invariant = { λ x. AreLinked x.entries x.links × AreEnds x.entries x.ends };
-}
-
-// The link in a place.
-fn link_at(links: &[Link], place: usize) -> Option<Link>
-    ensures { result ≡ slice_get links.now place }
-{
-    links.get(place).copied()
+    ghost invariant = { λ x. AreAt x.places (has_at x.entries) (length x.entries) };
 }
 
 impl GuidIndex {
-    /// No entries, and room for `most` of them, of `guids` different GUIDs. All memory that the index ever has is taken here.
-    pub fn new(alloc: Global, most: usize, guids: usize) -> Result<GuidIndex, OutOfMemory>
+    /// No entries. Room for `most` of them is reserved, which costs nothing until it is written; where more come, or a GUID, more is taken.
+    pub fn new(alloc: Global, most: usize) -> Result<GuidIndex, OutOfMemory>
         ensures { IfOk result (λ index. index ≡ []) }
     {
         let entries = match Vec::with_capacity(alloc, most) {
             Ok(entries) => Seq::from_vec(entries),
             Err(_) => return Err(OutOfMemory),
         };
-        let links = match Vec::with_capacity(alloc, most) {
-            Ok(links) => Seq::from_vec(links),
-            Err(_) => return Err(OutOfMemory),
-        };
-        let ends = match IndexMap::with_capacity(alloc, guids) {
-            Ok(ends) => ends,
-            Err(_) => return Err(OutOfMemory),
-        };
         Ok(GuidIndex {
-            most,
             entries,
-            links,
-            ends,
+            places: GuidLists::new(alloc),
         })
     }
 
@@ -91,26 +69,5 @@ impl GuidIndex {
         ensures { result ≡ slice_get self.now place }
     {
         self.entries.as_slice().get(place).copied()
-    }
-
-    // The place behind the last entry of a GUID, or 0.
-    pub(crate) fn end(&self, guid: &Guid) -> usize
-        ensures { result ≡ end_below (has_at self.now guid.now) (length self.now) }
-    {
-        match self.ends.get(guid) {
-            Some(end) => *end,
-            None => 0,
-        }
-    }
-
-    // The link of the entry of a GUID in a place.
-    pub(crate) fn link(&self, guid: &Guid, place: usize) -> Link
-        requires { has_at self.now guid.now place ≡ true }
-        ensures { IsLink self.now guid.now place result }
-    {
-        match link_at(self.links.as_slice(), place) {
-            Some(link) => link,
-            None => unreachable!(),
-        }
     }
 }

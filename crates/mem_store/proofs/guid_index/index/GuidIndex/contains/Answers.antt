@@ -1,5 +1,6 @@
-use Rattle.mem_store.proofs.Having.{contains_is}
+use Rattle.std.proofs.Common.{ap, ◌∙◌, nat_lt}
+use Rattle.mem_store.proofs.Having.{any_is}
 use Rattle.mem_store.proofs.guid_index.index.GuidIndex.contains.Goals as goal
 
 pub returns : goal.returns
-returns c = contains_is c.args.self.now c.args.guid.now c.end.result c.end.ensures
+returns c = ap (nat_lt 0) c.count.ensures ∙ any_is c.args.self.now c.args.guid.now

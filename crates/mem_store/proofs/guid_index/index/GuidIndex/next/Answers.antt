@@ -1,22 +1,19 @@
-use Rattle.std.proofs.Common.{◌≡◌, ◌+◌, ◌-◌, arith, length}
-use Rattle.mem_store.specs.Entries.{end_below, has_at}
-use Rattle.mem_store.proofs.Having.{last_has, next_is, none_on}
+use Rattle.std.proofs.Common.{ap, sym, subst, ◌∙◌, arith, length, List}
+use Rattle.guid_lists.specs.Places.{IsFirstFrom}
+use Rattle.guid_lists.proofs.Placing.{found_in, first_is}
+use Rattle.mem_store.specs.declared.guid_index.index.Indexed.{Indexed}
+use Rattle.mem_store.specs.Entries.{has_at}
+use Rattle.mem_store.proofs.Having.{has_past, risen}
 use Rattle.mem_store.proofs.guid_index.index.GuidIndex.next.Goals as goal
 
-pub returns-then-end-from : goal.returns-then-end-from
-returns-then-end-from c = none_on c.args.self.now c.args.guid.now c.args.from (omega arith)
-
-pub link-link-requires : goal.link-link-requires
-link-link-requires c =
-    let more : c.end-end.result - 1 + 1 ≡ end_below (has_at c.args.self.now c.args.guid.now) (length c.args.self.now) = omega arith in
-    last_has c.args.self.now c.args.guid.now (c.end-end.result - 1) more
-
-pub steps-init : goal.steps-init
-steps-init c =
-    let more : c.end-end.result - 1 + 1 ≡ end_below (has_at c.args.self.now c.args.guid.now) (length c.args.self.now) = omega arith in
-    record { on = omega arith; has = last_has c.args.self.now c.args.guid.now (c.end-end.result - 1) more; link = c.link-link.ensures }
+pub next-requires : goal.next-requires
+next-requires c = risen c.self.inside.places c.self.inside.entries c.args.guid.now c.self.invariant
 
 pub returns : goal.returns
 returns c =
-    next_is c.args.self.now c.args.guid.now c.args.from c.steps.at c.steps.link.before c.steps.invariant.on c.steps.invariant.has c.steps.invariant.link.before
-    (omega arith)
+    let list = c.self.inside.entries in
+    let guid = c.args.guid.now in
+    let from = c.args.from in
+    let found = c.next.ensures ∙ ap (λ l. found_in l from) (c.self.invariant guid) in
+    let first = subst (λ r. IsFirstFrom (has_at list guid) 0 from r) (sym found) (first_is (has_at list guid) 0 (length list) from (λ k low. has_past list guid k (omega (arith, low)))) in
+    subst (λ (l : List Indexed). IsFirstFrom (has_at l guid) 0 from c.next.result) c.self.view_is first

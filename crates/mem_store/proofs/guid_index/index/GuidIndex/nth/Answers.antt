@@ -1,32 +1,25 @@
-use Rattle.std.proofs.Common.{◌≡◌, ◌+◌, ◌-◌, ◌∙◌, ap, arith, length, sym}
+use Rattle.std.proofs.Common.{◌≡◌, sym, ◌∙◌, ap, length, List, Some, None}
 use Rattle.std.specs.Prelude.{slice_get}
-use Rattle.std.proofs.lemmas.Option.{slice_get_past}
-use Rattle.mem_store.specs.Entries.{count_below, end_below, entries_of, has_at}
-use Rattle.mem_store.proofs.Having.{entries_few, last_count, last_has, nth_at}
+use Rattle.std.specs.Option.{option_and_then}
+use Rattle.guid_lists.specs.Places.{places}
+use Rattle.mem_store.specs.declared.guid_index.index.Indexed.{Indexed}
+use Rattle.mem_store.specs.Entries.{entries_of, has_at}
+use Rattle.mem_store.proofs.Having.{nth_is}
 use Rattle.mem_store.proofs.guid_index.index.GuidIndex.nth.Goals as goal
 
-pub returns-then-count-n : goal.returns-then-count-n
-returns-then-count-n c = sym (slice_get_past (entries_of c.args.self.now c.args.guid.now) c.args.n (omega arith))
+pub returns-in-Some : goal.returns-in-Some
+returns-in-Some c =
+    let list = c.self.inside.entries in
+    let guid = c.args.guid.now in
+    let here : slice_get (places (has_at list guid) (length list)) c.args.n ≡ Some c.in-Some.place =
+    ap (λ l. slice_get l c.args.n) (sym (c.self.invariant guid)) ∙ sym c.in-Some.ensures in
+    c.get.ensures ∙ ap (λ (l : List Indexed). slice_get l c.in-Some.place) (sym c.self.view_is) ∙ sym (ap (option_and_then (slice_get list)) here) ∙ nth_is list guid c.args.n
+    ∙ ap (λ (l : List Indexed). slice_get (entries_of l guid) c.args.n) c.self.view_is
 
-pub overflow_sub-last : goal.overflow_sub-last
-overflow_sub-last c = let few = entries_few c.args.self.now c.args.guid.now in omega (arith, few)
-
-pub link-link-requires : goal.link-link-requires
-link-link-requires c =
-    let few = entries_few c.args.self.now c.args.guid.now in
-    let more : c.end-end.result - 1 + 1 ≡ end_below (has_at c.args.self.now c.args.guid.now) (length c.args.self.now) = omega (arith, few) in
-    last_has c.args.self.now c.args.guid.now (c.end-end.result - 1) more
-
-pub steps-init : goal.steps-init
-steps-init c =
-    let few = entries_few c.args.self.now c.args.guid.now in
-    let more : c.end-end.result - 1 + 1 ≡ end_below (has_at c.args.self.now c.args.guid.now) (length c.args.self.now) = omega (arith, few) in
-    let all = last_count c.args.self.now c.args.guid.now (c.end-end.result - 1) more in
-    let is = c.link-link.ensures.rank in
-    record { rank = omega (arith, all, is); has = last_has c.args.self.now c.args.guid.now (c.end-end.result - 1) more; link = c.link-link.ensures }
-
-pub returns : goal.returns
-returns c =
-    let is = c.steps.invariant.link.rank in
-    let rank : count_below (has_at c.args.self.now c.args.guid.now) c.steps.at ≡ c.args.n = omega (arith, is) in
-    c.get.ensures ∙ nth_at c.args.self.now c.args.guid.now c.steps.at c.steps.invariant.has ∙ ap (slice_get (entries_of c.args.self.now c.args.guid.now)) rank
+pub returns-in-None : goal.returns-in-None
+returns-in-None c =
+    let list = c.self.inside.entries in
+    let guid = c.args.guid.now in
+    let here : slice_get (places (has_at list guid) (length list)) c.args.n ≡ None =
+    ap (λ l. slice_get l c.args.n) (sym (c.self.invariant guid)) ∙ sym c.in-None.ensures in
+    sym (ap (option_and_then (slice_get list)) here) ∙ nth_is list guid c.args.n ∙ ap (λ (l : List Indexed). slice_get (entries_of l guid) c.args.n) c.self.view_is
