@@ -1,0 +1,65 @@
+// A run of PEI that is watched.
+ghost use Rattle.std.specs.Prelude.{◌≡◌, ◌≤◌, ◌+◌, ℕ, []};
+ghost use Rattle.boot_io.specs.Halted.{HaltsAfter};
+ghost use Rattle.boot_model.specs.PeiRun.{pei_opening};
+ghost use Rattle.mod_catalog.specs.WellFormed.{IsWellFormed};
+ghost use Rattle.store_model.specs.StoreState.{Board};
+ghost use Rattle.pei_dispatch.specs.Queue.{IsNewQueue};
+ghost use Rattle.pei_core.specs.Standing.{StandsFor, IsFor};
+ghost use Rattle.pei_dispatch.specs.Choices.{EvaluatesFewByChoice};
+ghost use Rattle.pei_dispatch.specs.Ends.{IsWantOfStore};
+ghost use Rattle.pei_dispatch.specs.Watched.{RunsWatched};
+
+use crate::answer::Turn;
+use crate::run::bound;
+use crate::turns::turn;
+use crate::watch::PeiWatch;
+use crate::{PeiQueue, alike_views_are_shown};
+use boot_io::{Halt, Sink};
+use boot_laws::{Choice, Reached, cursor_aims, pei_opens, pei_starts_freely};
+use boot_model::PeiEnd;
+use depex_code::Steps;
+use mod_catalog::Catalog;
+use pei_core::{Pei, put_reports};
+use std::sync::ledger::Ledger;
+use store_model::PeiStore;
+
+/// PEI from the opening to its end by a choice, as `run_pei`, and watched: each step behind which the run goes on is told.
+pub fn watch_pei<M: PeiStore + Drop, S: Sink, C: Choice<S>, W: PeiWatch, L: Ledger>(
+    pei: &mut Pei<M>,
+    queue: &mut PeiQueue,
+    choice: &C,
+    watch: &mut W,
+    catalog: &Catalog,
+    sink: &mut S,
+    steps: &mut Steps<L>,
+) -> Result<Reached<PeiEnd>, Halt>
+    requires catalog { IsWellFormed catalog.now }
+    requires made { (fuel : ℕ) × IsFor catalog.now fuel pei.old }
+    requires queue { IsNewQueue catalog.now queue.old }
+    requires opening { (board : Board) × StandsFor M.stands_for pei.old (pei_opening board catalog.now) }
+    requires watch { (board : Board) (fuel : ℕ) → W.knows watch.old catalog.now fuel [] (pei_opening board catalog.now) }
+    ensures row { RunsWatched (W.knows watch.new) (C.peims choice.now) (C.lets_in_pei choice.now) S.text S.faults M.stands_for catalog.now
+        sink.old (record { pei = pei.old; later = pei.new; texts = record { old = S.text sink.old; new = S.text sink.new } }) result }
+    ensures memory { IsWantOfStore M.TAKES_MEMORY result }
+    ensures faults { HaltsAfter result (S.faults sink.old) (S.faults sink.new) }
+    ensures few_steps { EvaluatesFewByChoice (C.peims choice.now) (C.lets_in_pei choice.now) S.text S.faults M.stands_for catalog.now
+        pei.old sink.old steps.old steps.new }
+{
+    pei_opens();
+    pei_starts_freely();
+    cursor_aims();
+    alike_views_are_shown();
+    queue.report(catalog, pei.reported());
+    put_reports(sink, pei.reported())?;
+    'turns: for _ in 0..bound(catalog, pei.fuel()) {
+        match turn(pei, queue, choice, catalog, sink, steps)? {
+            Turn::Took(step) => {
+                watch.saw(&step, pei, catalog);
+                drop(step);
+            }
+            Turn::Reached(reached) => return Ok(reached),
+        }
+    }
+    unreachable!()
+}
