@@ -1,14 +1,8 @@
 -- One block, and the blocks of a script.
-use Rattle.std.proofs.Common.{◌≡◌, ℕ, ◌-◌, Bool, true, false, List, ◌++◌, length, Result, Ok, Err, refl, sym, ap, subst, ◌∙◌, append_assoc, arith, inl, inr}
-use Rattle.std.specs.Prelude.{if◌then◌else◌}
-use Rattle.std.specs.List.{flat_map}
-use Rattle.std.proofs.lemmas.List.{append-nil}
+use Rattle.std.proofs.Common.{◌≡◌, ℕ, ◌-◌, Bool, true, false, List, ◌++◌, length, Result, Ok, Err, refl, sym, ap, subst, ◌∙◌, append_assoc, arith, inl, inr, if◌then◌else◌, flat_map, append-nil}
 use Rattle.pi_base.specs.Field.{AreBytes, little_bytes}
-use Rattle.act_code.specs.declared.action.Action.{Action}
-use Rattle.act_code.specs.declared.header.Header.{Header}
-use Rattle.act_code.specs.declared.fault.ActFault.{ActFault}
+use Rattle.act_code.specs.{declared.action.Action.Action, declared.header.Header.Header, declared.fault.ActFault.ActFault, Format.is_within}
 use Rattle.act_code.specs.declared.fault.ActCause.TheVariants as cause
-use Rattle.act_code.specs.Format.{is_within}
 use Rattle.act_code.specs.ScriptReading.{◌>>=◌, fault_at, checked_at, count_at, many, ends_in_ret, block_at}
 use Rattle.act_code.specs.Script.{action_bytes, block_bytes, IsSound, Each, IsBlock, IsBlockFault}
 use Rattle.act_code.proofs.Formats.{Takes, takes_then, AreBytes-rest}

@@ -1,24 +1,16 @@
 -- One action with its tests, and one number of actions: what is read, and the fault where nothing is.
-use Rattle.std.proofs.Common.{◌≡◌, ℕ, Bool, true, false, List, ◌++◌, length, drop, Option, Some, None, Result, Ok, Err, refl, sym, ap, subst, ◌∙◌, arith, inl, inr}
-use Rattle.std.specs.Prelude.{◌&&◌, nat_le, if◌then◌else◌, ◌⊎◌}
+use Rattle.std.proofs.Common.{◌≡◌, ℕ, Bool, true, false, List, ◌++◌, length, drop, Option, Some, None, Result, Ok, Err, refl, sym, ap, subst, ◌∙◌, arith, inl, inr, ◌&&◌, nat_le, if◌then◌else◌, ◌⊎◌, length-append, drop_at, take-append-drop}
 use Rattle.std.proofs.lemmas.Bool.{false≢true}
-use Rattle.std.proofs.lemmas.List.{length-append, drop_at, take-append-drop}
 use Rattle.pi_base.specs.Field.{AreBytes, little_number, little_bytes}
-use Rattle.act_code.specs.declared.action.Action.{Action}
-use Rattle.act_code.specs.declared.header.Header.{Header}
-use Rattle.act_code.specs.declared.fault.ActFault.{ActFault}
-use Rattle.act_code.specs.declared.fault.ActCause.{ActCause}
+use Rattle.act_code.specs.{declared.action.Action.Action, declared.header.Header.Header, declared.fault.ActFault.ActFault}
+use Rattle.act_code.specs.{declared.fault.ActCause.ActCause, Format.is_within, Index.is_indexed, Index.has_room, Reading.action_at}
 use Rattle.act_code.specs.declared.fault.ActCause.TheVariants as cause
-use Rattle.act_code.specs.Format.{is_within}
-use Rattle.act_code.specs.Index.{is_indexed, has_room}
-use Rattle.act_code.specs.Reading.{action_at}
 use Rattle.act_code.specs.ScriptReading.{fault_at, checked, checked_at, count_at}
 use Rattle.act_code.specs.Script.{action_bytes, IsAction, IsSound, IsActionFault, HasNoCount}
 use Rattle.pi_base.specs.Lists.{Begins}
 use Rattle.act_code.proofs.Fields.{little_reads, little_back, length-little}
 use Rattle.act_code.proofs.Formats.{Takes, within_small, long_enough, long_tested, AreBytes-drop}
-use Rattle.act_code.proofs.Codes.{action_takes, action_again}
-use Rattle.act_code.proofs.Lists.{Laws}
+use Rattle.act_code.proofs.{Codes.action_takes, Codes.action_again, Lists.Laws}
 
 abbrev Tests : {A : Type 0} → Bool → Bool → A → ActFault → ActFault → Result A ActFault
 Tests indexed room x jump index = if indexed then (if room then Ok x else Err jump) else Err index

@@ -1,18 +1,12 @@
 -- The table of actions: bytes and codes, and actions with their codes and operands.
-use Rattle.std.proofs.Common.{◌≡◌, ℕ, Bool, true, false, List, [], ◌∷◌, ◌++◌, Option, Some, None, refl, sym, ap, subst, eqb-true}
-use Rattle.std.specs.Prelude.{◌==◌, if◌then◌else◌, find}
+use Rattle.std.proofs.Common.{◌≡◌, ℕ, Bool, true, false, List, [], ◌∷◌, ◌++◌, Option, Some, None, refl, sym, ap, subst, eqb-true, ◌==◌, if◌then◌else◌, find}
 use Rattle.std.proofs.lemmas.Option.{same_Some}
-use Rattle.pi_base.specs.Field.{AreBytes}
-use Rattle.pi_base.specs.declared.phase.Phase.{Phase}
-use Rattle.act_code.specs.declared.action.Action.{Action}
-use Rattle.act_code.specs.declared.action.Action.TheVariants.{Set as ActionSet}
-use Rattle.act_code.specs.declared.code.Code.{Code}
-use Rattle.act_code.specs.declared.code.Code.TheVariants.{Set}
-use Rattle.act_code.specs.declared.code.TheConstants.{CODES}
+use Rattle.pi_base.specs.{Field.AreBytes, declared.phase.Phase.Phase}
+use Rattle.act_code.specs.{declared.action.Action.Action, declared.action.Action.TheVariants.Set as ActionSet, declared.code.Code.Code}
+use Rattle.act_code.specs.{declared.code.Code.TheVariants.Set, declared.code.TheConstants.CODES, Script.action_bytes, Script.IsAction}
 use Rattle.act_code.specs.Format.{Value, spelled, IsInRange}
 use Rattle.act_code.specs.Table.{number_of, code_of, is_code_of, format_of, made, code_of_action, operands}
 use Rattle.act_code.specs.Reading.{◌>>=◌, byte_at, read, operands_at, action_at}
-use Rattle.act_code.specs.Script.{action_bytes, IsAction}
 use Rattle.act_code.proofs.Formats.{bind_some, Takes, takes_then, byte_takes, read_takes, read_again}
 
 found_by : {X : Type 0} (p : X → Bool) (x y : X) (test : Bool) (others : Option X) → p x ≡ test → (others ≡ Some y → p y ≡ true) → (if test then Some x else others) ≡ Some y → p y ≡ true

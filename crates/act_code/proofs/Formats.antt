@@ -1,16 +1,9 @@
 -- What is read of a format is what stands there, and what stands there is read.
-use Rattle.std.proofs.Common.{◌≡◌, ℕ, suc, ◌+◌, ◌^◌, ◌<◌, ◌≤◌, Bool, true, false, eqb, List, [], ◌∷◌, ◌++◌, length, take, drop, Option, Some, None, refl, sym, ap, subst, ◌∙◌, append_assoc, arith, inl, inr}
-use Rattle.std.specs.Prelude.{nat_le, ◌==◌, if◌then◌else◌, ⊤, ◌⊎◌}
-use Rattle.std.specs.List.{list_all}
-use Rattle.std.proofs.lemmas.Option.{same_Some}
-use Rattle.std.proofs.lemmas.Bool.Decides.{nat_tests}
-use Rattle.std.proofs.lemmas.Bool.{false≢true, eqb-true}
-use Rattle.pi_base.specs.declared.word.Word.TheVariants.{Success}
-use Rattle.std.proofs.lemmas.List.{take-append-drop, take_at, drop_at, length-append, length-take, get_or-drop, get_or-append-add}
+use Rattle.std.proofs.Common.{◌≡◌, ℕ, suc, ◌+◌, ◌^◌, ◌<◌, ◌≤◌, Bool, true, false, eqb, List, [], ◌∷◌, ◌++◌, length, take, drop, Option, Some, None, refl, sym, ap, subst, ◌∙◌, append_assoc, arith, inl, inr, nat_le, ◌==◌, if◌then◌else◌, ◌⊎◌, eqb-true, take-append-drop, take_at, drop_at, length-append, length-take, get_or-drop, get_or-append-add}
+use Rattle.std.specs.{Prelude.⊤, List.list_all}
+use Rattle.std.proofs.{lemmas.Option.same_Some, lemmas.Bool.Decides.nat_tests, lemmas.Bool.false≢true}
+use Rattle.pi_base.specs.{declared.word.Word.TheVariants.Success, Word.word_number, declared.word.Word.Word, declared.guid.Guid.Guid}
 use Rattle.pi_base.specs.Field.{AreBytes, little_number, little_bytes}
-use Rattle.pi_base.specs.Word.{word_number}
-use Rattle.pi_base.specs.declared.word.Word.{Word}
-use Rattle.pi_base.specs.declared.guid.Guid.{Guid}
 use Rattle.act_code.specs.declared.action.GuidArg.{GuidArg}
 use Rattle.act_code.specs.declared.action.GuidArg.TheVariants.{Inline, Register}
 use Rattle.act_code.specs.Format.{Format, Value, spelled, IsInRange, IsGuidArg, guid_arg_bytes, is_within, is_hob, Nothing, Byte, Within, RegisterNumber, BlockNumber, Little, GuidBytes, WordNumber, Counted, Text, Registers, Descriptor, HobBody, Pair}

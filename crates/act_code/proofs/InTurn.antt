@@ -1,17 +1,11 @@
 -- What is told of an action is what is told of each of its operands.
-use Rattle.std.proofs.Common.{◌≡◌, ℕ, Bool, true, false, ◌&&◌, List, [], ◌∷◌, ◌++◌, length, Option, Some, None, Result, Ok, Err, All, refl, sym, ap, ◌∙◌, append_assoc, arith}
-use Rattle.std.specs.Prelude.{IfSome, OnOk, nat_lt}
-use Rattle.std.specs.List.{flat_map, filter_map, list_all, cons_option, AllByRecursion}
-use Rattle.std.proofs.lemmas.List.{append-nil}
-use Rattle.std.proofs.lemmas.List.Elements.{All-from_recursion}
-use Rattle.std.proofs.lemmas.List.Folds.{list_all-append}
-use Rattle.std.proofs.lemmas.Grind.{flat_map-append}
+use Rattle.std.proofs.Common.{◌≡◌, ℕ, Bool, true, false, ◌&&◌, List, [], ◌∷◌, ◌++◌, length, Option, Some, None, Result, Ok, Err, All, refl, sym, ap, ◌∙◌, append_assoc, arith, IfSome, OnOk, nat_lt, flat_map, filter_map, append-nil}
+use Rattle.std.specs.List.{list_all, cons_option, AllByRecursion}
+use Rattle.std.proofs.{lemmas.List.Elements.All-from_recursion, lemmas.List.Folds.list_all-append, lemmas.Grind.flat_map-append}
 use Rattle.pi_base.specs.declared.memory.OutOfMemory.{OutOfMemory}
-use Rattle.act_code.specs.declared.action.Action.{Action}
-use Rattle.act_code.specs.declared.action_operands.Operand.{Operand}
+use Rattle.act_code.specs.{declared.action.Action.Action, declared.action_operands.Operand.Operand, Script.operand_bytes, Script.IsWritable}
 use Rattle.act_code.specs.Format.{Format, Value, IsInRange, spelled, registers_in, blocks_in, Nothing, Byte, Within, RegisterNumber, BlockNumber, Little, GuidBytes, WordNumber, Counted, Text, Registers, Descriptor, HobBody, Pair}
 use Rattle.act_code.specs.Table.{format_of, code_of_action, operands}
-use Rattle.act_code.specs.Script.{operand_bytes, IsWritable}
 use Rattle.act_code.specs.Index.{are_indexed, is_indexed}
 use Rattle.act_code.specs.Operands.{Part, parts_of, part_of, action_parts, Telling, IsInTurn, told_of, told, IsShortValue, IsShort}
 use Rattle.act_code.proofs.Formats.{within_le, hob_small}

@@ -1,12 +1,8 @@
 -- Things one behind the other: what is read is spelled so, what is spelled so is read, and a fault is the first one's.
-use Rattle.std.proofs.Common.{◌≡◌, ℕ, suc, zero, ◌-◌, ◌≤◌, ◌<◌, List, [], ◌∷◌, ◌++◌, length, Result, Ok, Err, refl, sym, ap, subst, ◌∙◌, append_assoc, arith}
-use Rattle.std.specs.List.{flat_map}
+use Rattle.std.proofs.Common.{◌≡◌, ℕ, suc, zero, ◌-◌, ◌≤◌, ◌<◌, List, [], ◌∷◌, ◌++◌, length, Result, Ok, Err, refl, sym, ap, subst, ◌∙◌, append_assoc, arith, flat_map}
 use Rattle.pi_base.specs.Field.{AreBytes}
-use Rattle.act_code.specs.declared.fault.ActFault.{ActFault}
-use Rattle.act_code.specs.ScriptReading.{◌>>=◌, many}
-use Rattle.act_code.specs.Script.{Each}
-use Rattle.act_code.proofs.Formats.{Takes, takes_then}
-use Rattle.act_code.proofs.Many.{with_front}
+use Rattle.act_code.specs.{declared.fault.ActFault.ActFault, ScriptReading.◌>>=◌, ScriptReading.many, Script.Each}
+use Rattle.act_code.proofs.{Formats.Takes, Formats.takes_then, Many.with_front}
 
 -- the value of a step that did not fail
 pub bind_ok : {A B : Type 0} (r : Result A ActFault) (f : A → Result B ActFault) (y : B) → (r >>= f) ≡ Ok y → (x : A) × (r ≡ Ok x) × (f x ≡ Ok y)

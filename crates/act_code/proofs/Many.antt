@@ -1,8 +1,6 @@
 -- Things one behind the other, as a loop reads them.
-use Rattle.std.proofs.Common.{◌≡◌, ℕ, suc, ◌-◌, ◌+◌, ◌≤◌, ◌<◌, List, [], ◌∷◌, ◌++◌, Result, Ok, Err, refl, sym, ap, ◌∙◌, append_assoc, arith}
-use Rattle.std.proofs.lemmas.List.{append-nil}
-use Rattle.act_code.specs.declared.fault.ActFault.{ActFault}
-use Rattle.act_code.specs.declared.block.Stop.{Stop}
+use Rattle.std.proofs.Common.{◌≡◌, ℕ, suc, ◌-◌, ◌+◌, ◌≤◌, ◌<◌, List, [], ◌∷◌, ◌++◌, Result, Ok, Err, refl, sym, ap, ◌∙◌, append_assoc, arith, append-nil}
+use Rattle.act_code.specs.{declared.fault.ActFault.ActFault, declared.block.Stop.Stop}
 use Rattle.act_code.specs.declared.block.Stop.TheVariants as stop
 use Rattle.act_code.specs.ScriptReading.{◌>>=◌, Stops, many}
 

@@ -1,20 +1,11 @@
 -- The header, and the whole script.
-use Rattle.std.proofs.Common.{suc, ◌≡◌, ◌≢◌, ℕ, ◌-◌, ◌+◌, ◌≤◌, Bool, true, false, List, [], ◌∷◌, ◌++◌, length, drop, Option, Some, None, Result, Ok, Err, refl, sym, ap, subst, ◌∙◌, arith, inl, inr, eqb-true}
-use Rattle.std.specs.Prelude.{if◌then◌else◌, ◌==◌, ◌&&◌, ◌||◌, nat_lt}
-use Rattle.std.specs.List.{flat_map}
-use Rattle.std.proofs.lemmas.Option.{same_Some}
-use Rattle.std.proofs.lemmas.Bool.{false≢true}
-use Rattle.std.proofs.lemmas.Bool.Decides.{nat_tests}
-use Rattle.std.proofs.lemmas.List.{append-nil, length-append}
-use Rattle.pi_base.specs.Field.{AreBytes}
-use Rattle.pi_base.specs.declared.phase.Phase.{Phase}
+use Rattle.std.proofs.Common.{suc, ◌≡◌, ◌≢◌, ℕ, ◌-◌, ◌+◌, ◌≤◌, Bool, true, false, List, [], ◌∷◌, ◌++◌, length, drop, Option, Some, None, Result, Ok, Err, refl, sym, ap, subst, ◌∙◌, arith, inl, inr, eqb-true, if◌then◌else◌, ◌==◌, ◌&&◌, ◌||◌, nat_lt, flat_map, append-nil, length-append}
+use Rattle.std.proofs.{lemmas.Option.same_Some, lemmas.Bool.false≢true, lemmas.Bool.Decides.nat_tests}
+use Rattle.pi_base.specs.{Field.AreBytes, declared.phase.Phase.Phase}
 use Rattle.pi_base.specs.declared.phase.Phase.TheVariants.{Pei, Dxe}
-use Rattle.act_code.specs.declared.action.Action.{Action}
-use Rattle.act_code.specs.declared.header.Header.{Header}
-use Rattle.act_code.specs.declared.script.Script.{Script}
-use Rattle.act_code.specs.declared.fault.ActFault.{ActFault}
+use Rattle.act_code.specs.{declared.action.Action.Action, declared.header.Header.Header, declared.script.Script.Script}
+use Rattle.act_code.specs.{declared.fault.ActFault.ActFault, Format.is_within}
 use Rattle.act_code.specs.declared.fault.ActCause.TheVariants as cause
-use Rattle.act_code.specs.Format.{is_within}
 use Rattle.act_code.specs.Header.{header_at, header_bytes, phase_of, phase_byte, counted_by, is_magic}
 use Rattle.act_code.specs.ScriptReading.{◌>>=◌, fault_at, many, block_at, body_at, script_at}
 use Rattle.act_code.specs.Script.{block_bytes, script_bytes, Each, IsBlock, IsScript, IsFault}

@@ -1,9 +1,6 @@
 -- Reading from any source, and from bytes.
-use Rattle.std.proofs.Common.{◌≡◌, ℕ, List, Option, Some, None, Result, Ok, Err, refl, ap}
-use Rattle.std.specs.Prelude.{option_and_then}
-use Rattle.act_code.specs.declared.action.Action.{Action}
-use Rattle.act_code.specs.declared.code.Code.{Code}
-use Rattle.act_code.specs.declared.operand.Unread.{Unread}
+use Rattle.std.proofs.Common.{◌≡◌, ℕ, List, Option, Some, None, Result, Ok, Err, refl, ap, option_and_then}
+use Rattle.act_code.specs.{declared.action.Action.Action, declared.code.Code.Code, declared.operand.Unread.Unread}
 use Rattle.act_code.specs.declared.operand.Unread.TheVariants as unread
 use Rattle.act_code.specs.Format.{Format, Nothing, Byte, Pair}
 use Rattle.act_code.specs.Table.{format_of, made}

@@ -3,8 +3,7 @@ use Rattle.std.proofs.Common.{ℕ, ◌-◌, List, [], ◌∷◌, length, All, ar
 use Rattle.std.specs.List.{AllByRecursion}
 use Rattle.std.proofs.lemmas.List.Elements.{All-from_recursion}
 use Rattle.pi_base.specs.declared.phase.Phase.{Phase}
-use Rattle.act_code.specs.declared.action.Action.{Action}
-use Rattle.act_code.specs.declared.script.Script.{Script}
+use Rattle.act_code.specs.{declared.action.Action.Action, declared.script.Script.Script}
 use Rattle.act_code.specs.Script.{Each, IsSound, IsBlock, IsWritable, IsWritableBlock, IsInGrammar}
 use Rattle.act_code.proofs.Formats.{within_le}
 

@@ -1,10 +1,7 @@
 -- How the operands of actions are spelled (own).
 use Rattle.std.specs.Prelude.{◌≡◌, ℕ, ◌<◌, ◌^◌, Bool, true, false, ◌&&◌, List, [], ◌∷◌, ◌++◌, length, nat_le, ◌==◌, ⊤, if◌then◌else◌}
 use Rattle.std.specs.List.{list_all}
-use Rattle.pi_base.specs.Field.{little_bytes}
-use Rattle.pi_base.specs.Word.{word_number}
-use Rattle.pi_base.specs.declared.word.Word.{Word}
-use Rattle.pi_base.specs.declared.guid.Guid.{Guid}
+use Rattle.pi_base.specs.{Field.little_bytes, Word.word_number, declared.word.Word.Word, declared.guid.Guid.Guid}
 use Rattle.act_code.specs.declared.action.GuidArg.{GuidArg}
 use Rattle.act_code.specs.declared.action.GuidArg.TheVariants.{Inline, Register}
 

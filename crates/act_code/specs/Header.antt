@@ -1,10 +1,7 @@
 -- The header of a script (own): the magic, the version, the phase, the number of blocks and a zero.
 use Rattle.std.specs.Prelude.{ℕ, ◌+◌, Bool, ◌&&◌, ◌||◌, List, [], ◌∷◌, length, Option, Some, None, Result, Ok, Err, nat_lt, ◌==◌, if◌then◌else◌}
-use Rattle.pi_base.specs.declared.phase.Phase.{Phase}
-use Rattle.pi_base.specs.declared.phase.Phase.TheVariants.{Pei, Dxe}
-use Rattle.act_code.specs.declared.header.Header.{Header}
-use Rattle.act_code.specs.declared.fault.ActFault.{ActFault}
-use Rattle.act_code.specs.declared.fault.ActCause.{ActCause}
+use Rattle.pi_base.specs.{declared.phase.Phase.Phase, declared.phase.Phase.TheVariants.Pei, declared.phase.Phase.TheVariants.Dxe}
+use Rattle.act_code.specs.{declared.header.Header.Header, declared.fault.ActFault.ActFault, declared.fault.ActCause.ActCause}
 use Rattle.act_code.specs.declared.fault.ActCause.TheVariants as cause
 
 -- the byte of a phase

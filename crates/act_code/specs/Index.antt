@@ -1,8 +1,7 @@
 -- The registers and blocks that an action names, and the actions that it skips (own).
 use Rattle.std.specs.Prelude.{ℕ, ◌+◌, Bool, true, false, ◌&&◌, List, nat_lt, nat_le}
 use Rattle.std.specs.List.{list_all}
-use Rattle.act_code.specs.declared.action.Action.{Action}
-use Rattle.act_code.specs.declared.action.Action.TheVariants.{SkipIf, Ret}
+use Rattle.act_code.specs.{declared.action.Action.Action, declared.action.Action.TheVariants.SkipIf, declared.action.Action.TheVariants.Ret}
 use Rattle.act_code.specs.Format.{registers_in, blocks_in}
 use Rattle.act_code.specs.Table.{format_of, code_of_action, operands}
 

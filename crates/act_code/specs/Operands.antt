@@ -1,7 +1,6 @@
 -- The operands of an action, one by one (own).
 use Rattle.std.specs.Prelude.{◌≡◌, ℕ, ◌<◌, ⊤, List, [], ◌∷◌, ◌++◌, length, Option, Some, None, IfSome}
-use Rattle.act_code.specs.declared.action.Action.{Action}
-use Rattle.act_code.specs.declared.action_operands.Operand.{Operand}
+use Rattle.act_code.specs.{declared.action.Action.Action, declared.action_operands.Operand.Operand}
 use Rattle.act_code.specs.declared.action_operands.Operand.TheVariants as operand
 use Rattle.act_code.specs.Format.{Format, Value, Nothing, Byte, Within, RegisterNumber, BlockNumber, Little, GuidBytes, WordNumber, Counted, Text, Registers, Descriptor, HobBody, Pair}
 use Rattle.act_code.specs.Table.{format_of, code_of_action, operands}

@@ -1,20 +1,13 @@
 -- Reading operands and actions from left to right: a value and the bytes behind it, or none.
 use Rattle.std.specs.Prelude.{◌≡◌, ℕ, Bool, ⊤, List, [], ◌∷◌, length, take, drop, Option, Some, None, Result, Ok, Err, option_and_then, nat_le, ◌==◌, if◌then◌else◌}
 use Rattle.std.specs.List.{list_all}
-use Rattle.pi_base.specs.Field.{little_number}
-use Rattle.pi_base.specs.declared.word.Word.{Word}
+use Rattle.pi_base.specs.{Field.little_number, declared.word.Word.Word, declared.guid.Guid.Guid, Guids.guid_at, declared.phase.Phase.Phase}
 use Rattle.pi_base.specs.declared.word.Word.TheVariants.{Success, InvalidParameter, NotFound, OutOfResources, NotAvailableYet, AlreadyStarted, AccessDenied}
-use Rattle.pi_base.specs.declared.guid.Guid.{Guid}
-use Rattle.pi_base.specs.Guids.{guid_at}
-use Rattle.pi_base.specs.declared.phase.Phase.{Phase}
 use Rattle.act_code.specs.declared.action.GuidArg.{GuidArg}
 use Rattle.act_code.specs.declared.action.GuidArg.TheVariants.{Inline, Register}
-use Rattle.act_code.specs.declared.action.Action.{Action}
-use Rattle.act_code.specs.declared.code.Code.{Code}
-use Rattle.act_code.specs.declared.operand.Unread.{Unread}
+use Rattle.act_code.specs.{declared.action.Action.Action, declared.code.Code.Code, declared.operand.Unread.Unread, Source.Way}
 use Rattle.act_code.specs.declared.operand.Unread.TheVariants as unread
 use Rattle.act_code.specs.Format.{Format, Value, is_within, is_hob, Nothing, Byte, Within, RegisterNumber, BlockNumber, Little, GuidBytes, WordNumber, Counted, Text, Registers, Descriptor, HobBody, Pair}
-use Rattle.act_code.specs.Source.{Way}
 use Rattle.act_code.specs.Table.{code_of, is_code_of, format_of, made}
 
 infixl 10 ◌>>=◌

@@ -1,20 +1,12 @@
 -- Scripts: their bytes, what is a script, and its first fault (own).
-use Rattle.std.specs.Prelude.{◌≡◌, ◌≢◌, ℕ, ◌-◌, ◌≤◌, ◌<◌, true, false, ⊤, List, [], ◌∷◌, ◌++◌, length, Result, Ok, Err, ◌⊎◌, All}
-use Rattle.std.specs.List.{flat_map}
-use Rattle.pi_base.specs.Field.{little_bytes}
-use Rattle.pi_base.specs.declared.phase.Phase.{Phase}
-use Rattle.act_code.specs.declared.header.Header.{Header}
-use Rattle.act_code.specs.declared.script.Script.{Script}
-use Rattle.act_code.specs.declared.action.Action.{Action}
-use Rattle.act_code.specs.declared.fault.ActFault.{ActFault}
-use Rattle.act_code.specs.declared.fault.ActCause.{ActCause}
+use Rattle.std.specs.Prelude.{◌≡◌, ◌≢◌, ℕ, ◌-◌, ◌≤◌, ◌<◌, true, false, ⊤, List, [], ◌∷◌, ◌++◌, length, Result, Ok, Err, ◌⊎◌, All, flat_map}
+use Rattle.pi_base.specs.{Field.little_bytes, declared.phase.Phase.Phase, Lists.Begins}
+use Rattle.act_code.specs.{declared.header.Header.Header, declared.script.Script.Script, declared.action.Action.Action}
+use Rattle.act_code.specs.{declared.fault.ActFault.ActFault, declared.fault.ActCause.ActCause, Index.is_indexed, Index.has_room}
 use Rattle.act_code.specs.declared.fault.ActCause.TheVariants as cause
 use Rattle.act_code.specs.Format.{spelled, IsInRange, is_within}
 use Rattle.act_code.specs.Table.{number_of, is_code_of, format_of, code_of_action, operands}
-use Rattle.act_code.specs.Index.{is_indexed, has_room}
-use Rattle.act_code.specs.Header.{header_bytes, header_at}
-use Rattle.act_code.specs.ScriptReading.{fault_at, ends_in_ret}
-use Rattle.pi_base.specs.Lists.{Begins}
+use Rattle.act_code.specs.{Header.header_bytes, Header.header_at, ScriptReading.fault_at, ScriptReading.ends_in_ret}
 
 -- the operands of an action
 abbrev pub operand_bytes : Action → List ℕ

@@ -2,18 +2,12 @@
 use Rattle.std.specs.Prelude.{◌≡◌, ℕ, zero, suc, ◌-◌, Bool, false, ◌&&◌, ⊤, List, [], ◌∷◌, length, drop, slice_get, Option, Some, None, Result, Ok, Err, nat_le, ◌==◌, if◌then◌else◌}
 use Rattle.std.specs.Option.{option_map_or}
 use Rattle.pi_base.specs.Field.{little_number}
-use Rattle.act_code.specs.declared.header.Header.{Header}
-use Rattle.act_code.specs.declared.script.Script.{Script}
-use Rattle.act_code.specs.declared.action.Action.{Action}
-use Rattle.act_code.specs.declared.fault.ActFault.{ActFault}
-use Rattle.act_code.specs.declared.fault.ActCause.{ActCause}
+use Rattle.act_code.specs.{declared.header.Header.Header, declared.script.Script.Script, declared.action.Action.Action}
+use Rattle.act_code.specs.{declared.fault.ActFault.ActFault, declared.fault.ActCause.ActCause, declared.block.Stop.Stop, Format.is_within}
 use Rattle.act_code.specs.declared.fault.ActCause.TheVariants as cause
-use Rattle.act_code.specs.declared.block.Stop.{Stop}
 use Rattle.act_code.specs.declared.block.Stop.TheVariants as stop
-use Rattle.act_code.specs.Format.{is_within}
 use Rattle.act_code.specs.Index.{is_indexed, has_room, is_ret}
-use Rattle.act_code.specs.Header.{header_at, fault_of}
-use Rattle.act_code.specs.Reading.{action_at}
+use Rattle.act_code.specs.{Header.header_at, Header.fault_of, Reading.action_at}
 
 infixl 10 ◌>>=◌
 abbrev pub ◌>>=◌ : {A B : Type 0} → Result A ActFault → (A → Result B ActFault) → Result B ActFault

@@ -1,9 +1,7 @@
 -- Operands from any source: a source says how one is read, and they stand one behind the other (own).
 use Rattle.std.specs.Prelude.{◌≡◌, ⊤, Option, Some, None, Result, Ok, Err}
-use Rattle.act_code.specs.declared.action.Action.{Action}
-use Rattle.act_code.specs.declared.code.Code.{Code}
+use Rattle.act_code.specs.{declared.action.Action.Action, declared.code.Code.Code, Table.format_of, Table.made}
 use Rattle.act_code.specs.Format.{Format, Value, Nothing, Pair}
-use Rattle.act_code.specs.Table.{format_of, made}
 
 infixl 10 ◌>>=◌
 abbrev pub ◌>>=◌ : {A B Cause : Type 0} → Result A Cause → (A → Result B Cause) → Result B Cause

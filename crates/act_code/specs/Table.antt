@@ -1,11 +1,8 @@
 -- The table of actions (own): each one's code, its phases and its operands.
 use Rattle.std.specs.Prelude.{ℕ, Bool, true, false, ◌==◌, codes, find, List, Option}
-use Rattle.pi_base.specs.declared.phase.Phase.{Phase}
-use Rattle.pi_base.specs.declared.phase.Phase.TheVariants.{Pei, Dxe}
-use Rattle.act_code.specs.declared.code.Code.{Code}
+use Rattle.pi_base.specs.{declared.phase.Phase.Phase, declared.phase.Phase.TheVariants.Pei, declared.phase.Phase.TheVariants.Dxe}
+use Rattle.act_code.specs.{declared.code.Code.Code, declared.code.TheConstants.CODES, declared.action.Action.Action}
 use Rattle.act_code.specs.declared.code.Code.TheVariants as code
-use Rattle.act_code.specs.declared.code.TheConstants.{CODES}
-use Rattle.act_code.specs.declared.action.Action.{Action}
 use Rattle.act_code.specs.declared.action.Action.TheVariants as action
 use Rattle.act_code.specs.Format.{Format, Value, Nothing, Byte, Within, RegisterNumber, BlockNumber, Little, GuidBytes, WordNumber, Counted, Text, Registers, Descriptor, HobBody, Pair}
 

@@ -1,6 +1,5 @@
 // The operands of an action, as they are written.
-ghost use Rattle.std.specs.Prelude.{◌≡◌};
-ghost use Rattle.std.specs.List.{filter_map};
+ghost use Rattle.std.specs.Prelude.{◌≡◌, filter_map};
 ghost use Rattle.act_code.specs.Operands.{part_of, action_parts};
 
 use crate::action::{Action, GuidArg};

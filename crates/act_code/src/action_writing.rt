@@ -1,10 +1,8 @@
 // Writing actions: the one spelling of each.
-ghost use Rattle.std.specs.Prelude.{◌≡◌, ◌<◌, ◌++◌, ◌∷◌, length, All, OnOk};
-ghost use Rattle.std.specs.List.{flat_map};
+ghost use Rattle.std.specs.Prelude.{◌≡◌, ◌<◌, ◌++◌, ◌∷◌, length, All, OnOk, flat_map};
 ghost use Rattle.pi_base.specs.Field.{little_bytes};
 ghost use Rattle.act_code.specs.Format.{spelled, HobBody, Descriptor};
-ghost use Rattle.act_code.specs.Operands.{told, IsShort};
-ghost use Rattle.act_code.specs.Script.{action_bytes, IsWritable};
+ghost use Rattle.act_code.specs.{Operands.told, Operands.IsShort, Script.action_bytes, Script.IsWritable};
 
 use crate::action::{Action, GuidArg};
 use crate::action_operands::Operand;

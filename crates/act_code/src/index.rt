@@ -2,9 +2,8 @@
 ghost use Rattle.std.specs.Prelude.{◌≡◌, ◌&&◌, nat_lt};
 ghost use Rattle.std.specs.List.{list_all};
 ghost use Rattle.act_code.specs.Index.{are_indexed, is_indexed, names_below, has_room, is_ret};
-ghost use Rattle.act_code.specs.ScriptReading.{ends_in_ret};
+ghost use Rattle.act_code.specs.{ScriptReading.ends_in_ret, Operands.told};
 ghost use Rattle.act_code.specs.Format.{registers_in, blocks_in, Descriptor};
-ghost use Rattle.act_code.specs.Operands.{told};
 
 use crate::action::{Action, GuidArg};
 use crate::action_operands::Operand;

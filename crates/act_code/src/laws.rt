@@ -1,14 +1,10 @@
 // Laws of scripts and of operands.
-ghost use Rattle.std.specs.Prelude.{◌≡◌, ◌⊎◌, ℕ, List};
-ghost use Rattle.std.specs.List.{flat_map, filter_map};
+ghost use Rattle.std.specs.Prelude.{◌≡◌, ◌⊎◌, ℕ, List, flat_map, filter_map};
 ghost use Rattle.pi_base.specs.Field.{AreBytes};
 ghost use Rattle.act_code.specs.Operands.{Telling, IsInTurn, told, part_of, action_parts};
 ghost use Rattle.act_code.specs.Table.{format_of, code_of_action, operands};
-ghost use Rattle.act_code.specs.Script.{IsScript, IsFault};
-ghost use Rattle.act_code.specs.declared.action.Action.{Action};
-ghost use Rattle.act_code.specs.declared.action_operands.Operand.{Operand};
-ghost use Rattle.act_code.specs.declared.script.Script.{Script};
-ghost use Rattle.act_code.specs.declared.fault.ActFault.{ActFault};
+ghost use Rattle.act_code.specs.{Script.IsScript, Script.IsFault, declared.action.Action.Action, declared.action_operands.Operand.Operand};
+ghost use Rattle.act_code.specs.{declared.script.Script.Script, declared.fault.ActFault.ActFault};
 
 /// Bytes have exactly one outcome: they are one script, or they have one first fault. So what `write_script` writes is read again as the script that was written.
 pub fn one_outcome()

@@ -1,6 +1,5 @@
 // Operands of actions, read from bytes: each reader gives a value and the bytes behind it.
-ghost use Rattle.std.specs.Prelude.{◌≡◌, ◌<◌};
-ghost use Rattle.std.specs.List.{list_all};
+ghost use Rattle.std.specs.{Prelude.◌≡◌, Prelude.◌<◌, List.list_all};
 ghost use Rattle.act_code.specs.Format.{is_within, is_hob};
 ghost use Rattle.act_code.specs.Reading.{Gives, byte_at, within_at, little_at, guid_front, bytes_at, counted_at, guid_arg_at};
 ghost use Rattle.act_code.specs.declared.operand.Unread.TheVariants as unread;

@@ -1,6 +1,5 @@
 // Writing a script.
-ghost use Rattle.std.specs.Prelude.{◌≡◌, ◌<◌, ◌++◌, length, OnOk, IfOk, IfErr, All};
-ghost use Rattle.std.specs.List.{flat_map};
+ghost use Rattle.std.specs.Prelude.{◌≡◌, ◌<◌, ◌++◌, length, OnOk, IfOk, IfErr, All, flat_map};
 ghost use Rattle.act_code.specs.Header.{phase_byte, header_bytes};
 ghost use Rattle.act_code.specs.Script.{block_bytes, script_bytes, IsWritable, IsWritableBlock, IsInGrammar, IsScript};
 ghost use Rattle.act_code.specs.declared.fault.WriteFault.TheVariants as write_fault;

@@ -1,34 +1,22 @@
 -- An action's line is read as it, and as no other.
-use Rattle.std.proofs.Common.{◌≡◌, ℕ, true, List, [], ◌∷◌, ◌++◌, length, take, drop, flat_map, Some, refl, sym, ap, subst, ◌∙◌, arith}
-use Rattle.std.specs.Prelude.{bytes_eq, nat_lt, ◌==◌, ◌&&◌, if◌then◌else◌}
+use Rattle.std.proofs.Common.{◌≡◌, ℕ, true, List, [], ◌∷◌, ◌++◌, length, take, drop, flat_map, Some, refl, sym, ap, subst, ◌∙◌, arith, bytes_eq, nat_lt, ◌==◌, ◌&&◌, if◌then◌else◌, eqb-true, append-nil, take_at, drop_at, take-append-drop}
 use Rattle.std.specs.List.{list_all}
-use Rattle.std.proofs.lemmas.Bool.{and_parts, and_from, eqb-true}
-use Rattle.std.proofs.lemmas.List.{append-nil, take_at, drop_at, take-append-drop}
+use Rattle.std.proofs.lemmas.Bool.{and_parts, and_from}
 use Rattle.hex.specs.Hex.{IsBytes}
-use Rattle.pi_base.specs.declared.phase.Phase.{Phase}
-use Rattle.pi_base.specs.declared.phase.Phase.TheVariants.{Pei, Dxe}
-use Rattle.act_code.specs.declared.action.Action.{Action}
-use Rattle.act_code.specs.declared.action.Action.TheVariants.{Set as ActionSet}
-use Rattle.act_code.specs.declared.code.Code.{Code}
+use Rattle.pi_base.specs.{declared.phase.Phase.Phase, declared.phase.Phase.TheVariants.Pei, declared.phase.Phase.TheVariants.Dxe}
+use Rattle.act_code.specs.{declared.action.Action.Action, declared.action.Action.TheVariants.Set as ActionSet, declared.code.Code.Code}
 use Rattle.act_code.specs.declared.code.Code.TheVariants as code
 use Rattle.act_code.specs.Format.{Value, registers_in, blocks_in}
-use Rattle.act_code.specs.Index.{is_indexed}
-use Rattle.act_code.specs.Reading.{only_if}
-use Rattle.act_code.specs.Script.{IsAction, operand_bytes}
+use Rattle.act_code.specs.{Index.is_indexed, Reading.only_if, Script.IsAction, Script.operand_bytes, declared.code.TheConstants.CODES}
 use Rattle.act_code.specs.Table.{name_of, is_code_of, format_of, made, code_of_action, operands}
 use Rattle.asm_text.specs.ActionText.{small_number, words_of, spaced, operand_words, action_text}
 use Rattle.line_words.specs.PrintedWords.{IsPlain}
 use Rattle.line_words.proofs.Comparisons.{same}
-use Rattle.asm_text.specs.WordReading.{space_place}
+use Rattle.asm_text.specs.{WordReading.space_place, LineReading.code_named, LineReading.action_of}
 use Rattle.asm_text.specs.OperandReading.{read, small_word, operands_at}
-use Rattle.act_code.specs.declared.code.TheConstants.{CODES}
-use Rattle.asm_text.specs.LineReading.{code_named, action_of}
-use Rattle.asm_text.proofs.Fronts.{passed}
-use Rattle.asm_text.proofs.Stacks.{bind_some}
-use Rattle.asm_text.proofs.WordLaws.{find_passes}
+use Rattle.asm_text.proofs.{Fronts.passed, Stacks.bind_some, WordLaws.find_passes, OperandLaws.Follows, OperandLaws.reads}
 use Rattle.asm_text.proofs.WordSplits.{Stands, word_end, stands_too}
 use Rattle.asm_text.proofs.Readables.{IsReadable, most_of, small_shows, formats_known}
-use Rattle.asm_text.proofs.OperandLaws.{Follows, reads}
 use Rattle.asm_text.proofs.OperandTexts.{shows}
 use Rattle.asm_text.proofs.GoodOperands.{IsGood, readable, good, fits_byte}
 

@@ -1,26 +1,19 @@
 -- Texts of no script, and the first line up to which none begins so.
-use Rattle.std.proofs.Common.{◌≡◌, ℕ, ◌+◌, Bool, true, false, List, [], ◌∷◌, ◌++◌, length, ◌≤◌, drop, flat_map, Some, None, refl, sym, ap, subst, ◌∙◌, append_assoc, arith}
-use Rattle.std.specs.Prelude.{option_and_then, bytes_eq, if◌then◌else◌}
+use Rattle.std.proofs.Common.{◌≡◌, ℕ, ◌+◌, Bool, true, false, List, [], ◌∷◌, ◌++◌, length, ◌≤◌, drop, flat_map, Some, None, refl, sym, ap, subst, ◌∙◌, append_assoc, arith, option_and_then, bytes_eq, if◌then◌else◌, append-nil, length-append}
 use Rattle.std.specs.List.{AllByRecursion}
-use Rattle.std.proofs.lemmas.Bool.{false≢true}
-use Rattle.std.proofs.lemmas.Option.{same_Some}
-use Rattle.std.proofs.lemmas.List.{append-nil, length-append}
-use Rattle.pi_base.specs.declared.phase.Phase.{Phase}
-use Rattle.pi_base.specs.declared.phase.Phase.TheVariants.{Pei, Dxe}
+use Rattle.std.proofs.{lemmas.Bool.false≢true, lemmas.Option.same_Some}
+use Rattle.pi_base.specs.{declared.phase.Phase.Phase, declared.phase.Phase.TheVariants.Pei, declared.phase.Phase.TheVariants.Dxe}
 use Rattle.act_code.specs.declared.script.Script.{Script}
 use Rattle.line_words.specs.PrintedWords.{Lacks}
-use Rattle.line_words.proofs.Comparisons.{same}
-use Rattle.line_words.proofs.LineFeeds.{feed_there, same_line}
-use Rattle.asm_text.specs.BadLine.{IsBadLine}
+use Rattle.line_words.proofs.{Comparisons.same, LineFeeds.feed_there, LineFeeds.same_line}
+use Rattle.asm_text.specs.{BadLine.IsBadLine, ScriptText.phase_text, ScriptText.line}
 use Rattle.asm_text.specs.Drafts.{phase_of, with_line, is_whole}
 use Rattle.asm_text.specs.ReadScript.{IsWellFormed, IsScriptOf, IsScriptText}
-use Rattle.asm_text.specs.ScriptText.{phase_text, line}
 use Rattle.asm_text.proofs.LineFeeds.{lined, cut_lines, next_line, no_line}
-use Rattle.asm_text.proofs.Blocks.{at, made_well}
+use Rattle.asm_text.proofs.{Blocks.at, Blocks.made_well, Completing.begins, Completing.few_lines}
 use Rattle.asm_text.proofs.ScriptLines.{body_lines, lines_of, flat_both, text_is, lines_lack, phase_lacks, phase_one}
 use Rattle.asm_text.proofs.Drafting.{with_lines, with_more, well_reached, well_whole}
 use Rattle.asm_text.proofs.OpenScripts.{IsDraft, all_then, lines_were, starts, whole_made}
-use Rattle.asm_text.proofs.Completing.{begins, few_lines}
 
 -- lines behind that of a phase, put together
 pub record Reached (phase : Phase) (lines : List (List ℕ)) (draft : Script) : Type 0 where

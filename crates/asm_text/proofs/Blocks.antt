@@ -1,29 +1,21 @@
 -- Well-formed scripts, by their blocks and actions.
-use Rattle.std.proofs.Common.{◌≡◌, ℕ, ◌-◌, ◌<◌, ◌≤◌, Bool, true, List, [], ◌∷◌, length, flat_map, refl, arith}
-use Rattle.std.specs.Prelude.{nat_lt, nat_le}
+use Rattle.std.proofs.Common.{◌≡◌, ℕ, ◌-◌, ◌<◌, ◌≤◌, Bool, true, List, [], ◌∷◌, length, flat_map, refl, arith, nat_lt, nat_le}
 use Rattle.std.specs.List.{list_all, AllByRecursion}
 use Rattle.std.proofs.lemmas.Bool.{and_parts, and_from, false≢true}
 use Rattle.std.proofs.lemmas.Bool.Decides.{nat_tests}
 use Rattle.hex.specs.Hex.{IsBytes}
-use Rattle.pi_base.specs.Field.{little_bytes}
-use Rattle.pi_base.specs.declared.phase.Phase.{Phase}
+use Rattle.pi_base.specs.{Field.little_bytes, declared.phase.Phase.Phase}
 use Rattle.pi_base.specs.declared.phase.Phase.TheVariants.{Pei, Dxe}
-use Rattle.act_code.specs.declared.action.Action.{Action}
-use Rattle.act_code.specs.declared.code.Code.{Code}
+use Rattle.act_code.specs.{declared.action.Action.Action, declared.code.Code.Code, declared.script.Script.Script}
 use Rattle.act_code.specs.declared.code.Code.TheVariants as code
-use Rattle.act_code.specs.declared.script.Script.{Script}
 use Rattle.act_code.specs.Format.{registers_in, blocks_in, is_within}
-use Rattle.act_code.specs.Header.{header_bytes, phase_byte}
+use Rattle.act_code.specs.{Header.header_bytes, Header.phase_byte, ScriptReading.ends_in_ret}
 use Rattle.act_code.specs.Index.{is_indexed, has_room, names_below}
 use Rattle.act_code.specs.Script.{action_bytes, operand_bytes, block_bytes, IsSound, Each, AreSound, IsBlock}
-use Rattle.act_code.specs.ScriptReading.{ends_in_ret}
 use Rattle.act_code.specs.Table.{number_of, format_of, code_of_action, operands}
-use Rattle.asm_text.specs.Drafts.{have_room, is_closed}
-use Rattle.asm_text.specs.ReadScript.{IsWellFormed}
-use Rattle.asm_text.proofs.ActionLines.{IsGoodAction}
+use Rattle.asm_text.specs.{Drafts.have_room, Drafts.is_closed, ReadScript.IsWellFormed}
+use Rattle.asm_text.proofs.{ActionLines.IsGoodAction, WordLaws.is_most, Guids.bytes_from}
 use Rattle.asm_text.proofs.ByteLists.{bytes_cons, bytes_tail, bytes_none, bytes_both, bytes_back, bytes_little, bytes_each, each_bytes, below, is_below}
-use Rattle.asm_text.proofs.WordLaws.{is_most}
-use Rattle.asm_text.proofs.Guids.{bytes_from}
 
 abbrev pub at : Phase → List (List Action) → Script
 at phase blocks = record { phase = phase; blocks = blocks }

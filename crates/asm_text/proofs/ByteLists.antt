@@ -1,11 +1,7 @@
 -- Lists of bytes, and tests of lists.
-use Rattle.std.proofs.Common.{◌≡◌, ℕ, zero, suc, ◌<◌, Bool, true, List, [], ◌∷◌, ◌++◌, flat_map, refl, sym, ◌∙◌, arith}
-use Rattle.std.specs.Prelude.{nat_lt}
-use Rattle.std.specs.List.{list_all, AllByRecursion}
-use Rattle.std.specs.Int.{byte_at, bytes_low_first}
-use Rattle.std.proofs.lemmas.Bool.{and_parts, and_from}
-use Rattle.std.proofs.lemmas.Bool.Decides.{nat_tests}
-use Rattle.std.proofs.lemmas.List.Folds.{list_all-append}
+use Rattle.std.proofs.Common.{◌≡◌, ℕ, zero, suc, ◌<◌, Bool, true, List, [], ◌∷◌, ◌++◌, flat_map, refl, sym, ◌∙◌, arith, nat_lt}
+use Rattle.std.specs.{List.list_all, List.AllByRecursion, Int.byte_at, Int.bytes_low_first}
+use Rattle.std.proofs.{lemmas.Bool.and_parts, lemmas.Bool.and_from, lemmas.Bool.Decides.nat_tests, lemmas.List.Folds.list_all-append}
 use Rattle.hex.specs.Hex.{IsBytes}
 use Rattle.pi_base.specs.Field.{little_bytes}
 

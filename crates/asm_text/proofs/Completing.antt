@@ -1,26 +1,16 @@
 -- What is put together of lines goes on to a well-formed script: with rets to the end of its last block, and with blocks of one ret.
-use Rattle.std.proofs.Common.{◌≡◌, ℕ, suc, zero, ◌+◌, ◌-◌, ◌*◌, ◌≤◌, true, List, [], ◌∷◌, ◌++◌, length, map, replicate, flat_map, refl, sym, ap, subst, ◌∙◌, append_assoc, arith, inl, inr}
-use Rattle.std.specs.Prelude.{nat_lt, ◌⊎◌}
+use Rattle.std.proofs.Common.{◌≡◌, ℕ, suc, zero, ◌+◌, ◌-◌, ◌*◌, ◌≤◌, true, List, [], ◌∷◌, ◌++◌, length, map, replicate, flat_map, refl, sym, ap, subst, ◌∙◌, append_assoc, arith, inl, inr, nat_lt, ◌⊎◌, append-nil, length-append}
 use Rattle.std.specs.List.{list_all, AllByRecursion}
-use Rattle.std.proofs.lemmas.Bool.{and_parts, and_from}
-use Rattle.std.proofs.lemmas.List.{append-nil, length-append, length-replicate, length-map}
-use Rattle.pi_base.specs.declared.phase.Phase.{Phase}
-use Rattle.pi_base.specs.declared.phase.Phase.TheVariants.{Pei, Dxe}
+use Rattle.std.proofs.{lemmas.Bool.and_parts, lemmas.Bool.and_from, lemmas.List.length-replicate, lemmas.List.length-map}
+use Rattle.pi_base.specs.{declared.phase.Phase.Phase, declared.phase.Phase.TheVariants.Pei, declared.phase.Phase.TheVariants.Dxe}
 use Rattle.pi_base.specs.declared.word.Word.TheVariants.{Success}
-use Rattle.act_code.specs.declared.action.Action.{Action}
-use Rattle.act_code.specs.declared.action.Action.TheVariants.{Ret}
-use Rattle.act_code.specs.declared.script.Script.{Script}
-use Rattle.act_code.specs.Format.{registers_in}
-use Rattle.act_code.specs.ScriptReading.{ends_in_ret}
+use Rattle.act_code.specs.{declared.action.Action.Action, declared.action.Action.TheVariants.Ret, declared.script.Script.Script}
+use Rattle.act_code.specs.{Format.registers_in, ScriptReading.ends_in_ret, Index.names_below}
 use Rattle.act_code.specs.Table.{format_of, code_of_action, operands, is_code_of}
 use Rattle.act_code.specs.declared.code.Code.TheVariants as code
-use Rattle.act_code.specs.Index.{names_below}
-use Rattle.asm_text.specs.ActionText.{action_text}
-use Rattle.asm_text.specs.Drafts.{have_room}
-use Rattle.asm_text.specs.ReadScript.{IsWellFormed, IsScriptText}
+use Rattle.asm_text.specs.{ActionText.action_text, Drafts.have_room, ReadScript.IsWellFormed, ReadScript.IsScriptText}
 use Rattle.asm_text.specs.ScriptText.{phase_text, block_text, line, script_text}
-use Rattle.asm_text.proofs.ActionLines.{IsGoodAction}
-use Rattle.asm_text.proofs.ByteLists.{bytes_cons, bytes_none}
+use Rattle.asm_text.proofs.{ActionLines.IsGoodAction, ByteLists.bytes_cons, ByteLists.bytes_none}
 use Rattle.asm_text.proofs.Blocks.{at, IsClosedBlock, IsMadeOf, made_well}
 use Rattle.asm_text.proofs.ScriptLines.{lines_of_block, body_lines, lines_of, flat_both, text_is}
 use Rattle.asm_text.proofs.OpenScripts.{IsOpenBlock, HasLast, IsDraft, all_then, rooms_both, ends_last}

@@ -1,26 +1,15 @@
 -- Lines one after another: a well-formed script is put together of its own lines, and what is put together has them.
-use Rattle.std.proofs.Common.{◌≡◌, ℕ, suc, ◌+◌, ◌-◌, ◌<◌, ◌≤◌, ◌||◌, Bool, true, false, List, [], ◌∷◌, ◌++◌, length, map, Option, Some, None, refl, sym, ap, subst, ◌∙◌, append_assoc, arith}
-use Rattle.std.specs.Prelude.{⊤, nat_lt, nat_le, option_and_then}
-use Rattle.std.specs.List.{list_all, AllByRecursion}
-use Rattle.std.proofs.lemmas.Bool.{and_parts, and_from}
-use Rattle.std.proofs.lemmas.Bool.Decides.{nat_tests}
-use Rattle.std.proofs.lemmas.List.{append-nil, length-append}
+use Rattle.std.proofs.Common.{◌≡◌, ℕ, suc, ◌+◌, ◌-◌, ◌<◌, ◌≤◌, ◌||◌, Bool, true, false, List, [], ◌∷◌, ◌++◌, length, map, Option, Some, None, refl, sym, ap, subst, ◌∙◌, append_assoc, arith, nat_lt, nat_le, option_and_then, append-nil, length-append}
+use Rattle.std.specs.{Prelude.⊤, List.list_all, List.AllByRecursion}
+use Rattle.std.proofs.{lemmas.Bool.and_parts, lemmas.Bool.and_from, lemmas.Bool.Decides.nat_tests}
 use Rattle.pi_base.specs.declared.phase.Phase.{Phase}
-use Rattle.act_code.specs.declared.action.Action.{Action}
+use Rattle.act_code.specs.{declared.action.Action.Action, declared.script.Script.Script, ScriptReading.ends_in_ret}
 use Rattle.act_code.specs.declared.action.Action.TheVariants as action
-use Rattle.act_code.specs.declared.script.Script.{Script}
 use Rattle.act_code.specs.Index.{has_room, is_ret, names_below}
-use Rattle.act_code.specs.ScriptReading.{ends_in_ret}
-use Rattle.asm_text.specs.ActionText.{action_text}
+use Rattle.asm_text.specs.{ActionText.action_text, ReadScript.IsWellFormed, ScriptText.block_text, Walk.split_last}
 use Rattle.asm_text.specs.Drafts.{have_room, may_end, may_stand, with_line, is_whole}
-use Rattle.asm_text.specs.ReadScript.{IsWellFormed}
-use Rattle.asm_text.specs.ScriptText.{block_text}
-use Rattle.asm_text.specs.Walk.{split_last}
-use Rattle.asm_text.proofs.Fronts.{itself}
+use Rattle.asm_text.proofs.{Fronts.itself, ActionLines.IsGoodAction, ActionLines.action_there, ByteLists.below, WordLaws.is_most}
 use Rattle.asm_text.proofs.Paths.{split_push, split_is, split_none}
-use Rattle.asm_text.proofs.ActionLines.{IsGoodAction, action_there}
-use Rattle.asm_text.proofs.ByteLists.{below}
-use Rattle.asm_text.proofs.WordLaws.{is_most}
 use Rattle.asm_text.proofs.Blocks.{at, IsClosedBlock, well_made}
 use Rattle.asm_text.proofs.ScriptLines.{body_lines, no_block}
 

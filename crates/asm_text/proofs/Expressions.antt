@@ -1,28 +1,19 @@
 -- The line of an expression, by what stands at its front.
-use Rattle.std.proofs.Common.{◌≡◌, ℕ, ◌&&◌, ◌||◌, Bool, true, false, eqb, List, [], ◌∷◌, ◌++◌, length, get_or, Option, Some, None, option_map, flat_map, refl, sym, ap, subst, ◌∙◌, arith}
-use Rattle.std.specs.Prelude.{codes, ◌==◌, nat_lt, Result, Ok, Err, IfOk}
-use Rattle.pi_base.specs.declared.memory.OutOfMemory.{OutOfMemory}
+use Rattle.std.proofs.Common.{◌≡◌, ℕ, ◌&&◌, ◌||◌, Bool, true, false, eqb, List, [], ◌∷◌, ◌++◌, length, get_or, Option, Some, None, option_map, flat_map, refl, sym, ap, subst, ◌∙◌, arith, codes, ◌==◌, nat_lt, Result, Ok, Err, IfOk, append-nil, append_assoc, length-append}
+use Rattle.pi_base.specs.{declared.memory.OutOfMemory.OutOfMemory, declared.guid.Guid.Guid, WordText.guid_text}
 use Rattle.std.specs.List.{list_all}
-use Rattle.std.proofs.lemmas.Bool.{and_parts, false≢true}
-use Rattle.std.proofs.lemmas.Bool.Decides.{nat_tests}
-use Rattle.std.proofs.lemmas.List.{append-nil, append_assoc, append_cancel_left, length-append}
-use Rattle.pi_base.specs.declared.guid.Guid.{Guid}
+use Rattle.std.proofs.{lemmas.Bool.and_parts, lemmas.Bool.false≢true, lemmas.Bool.Decides.nat_tests, lemmas.List.append_cancel_left}
 use Rattle.depex_code.specs.declared.depex.Depex.{Depex}
 use Rattle.depex_code.specs.declared.depex.Depex.TheVariants.{Before, After, Expr}
 use Rattle.depex_code.specs.Tree.{DepexTree, True, False, Push, Not, And, Or}
-use Rattle.pi_base.specs.WordText.{guid_text}
 use Rattle.asm_text.specs.ExpressionText.{bracketed, tree_text, expression_text, depex_text}
-use Rattle.asm_text.specs.Front.{behind, guid_word}
-use Rattle.asm_text.specs.ScriptText.{line}
+use Rattle.asm_text.specs.{Front.behind, Front.guid_word, ScriptText.line, BadLine.IsBadLine, ReadTree.IsTreeOf, ReadTree.IsExpressionOf}
 use Rattle.line_words.specs.PrintedWords.{Lacks, Finds}
 use Rattle.line_words.proofs.GuidWords.{is_guid_char, guid_chars}
 use Rattle.line_words.proofs.LineFeeds.{both_lack, feed_there, same_line, same_rest}
-use Rattle.asm_text.specs.BadLine.{IsBadLine}
-use Rattle.asm_text.specs.ReadTree.{IsTreeOf, IsExpressionOf}
 use Rattle.asm_text.specs.ReadDepex.{IsDepexOf, IsDepexText}
-use Rattle.asm_text.proofs.Fronts.{not_behind}
+use Rattle.asm_text.proofs.{Fronts.not_behind, LineFeeds.lined}
 use Rattle.asm_text.proofs.Guids.{guid_at_front, guid_word_is, guid_word_there}
-use Rattle.asm_text.proofs.LineFeeds.{lined}
 
 -- what the text of a tree begins with
 abbrev is_tree_front : List ℕ → Bool

@@ -1,20 +1,15 @@
 -- What was gone through of the text of a tree, and what was written of it.
-use Rattle.std.proofs.Common.{◌≡◌, ℕ, Bool, true, false, List, [], ◌∷◌, ◌++◌, length, map, Option, Some, None, flat_map, refl, sym, ap, subst, ◌∙◌, arith}
-use Rattle.std.specs.Prelude.{codes, ⊤}
-use Rattle.std.specs.List.{AllByRecursion}
-use Rattle.std.proofs.lemmas.Option.{same_Some}
-use Rattle.std.proofs.lemmas.List.{append_assoc, append-nil, length-append, map_push}
+use Rattle.std.proofs.Common.{◌≡◌, ℕ, Bool, true, false, List, [], ◌∷◌, ◌++◌, length, map, Option, Some, None, flat_map, refl, sym, ap, subst, ◌∙◌, arith, codes, append_assoc, append-nil, length-append}
+use Rattle.std.specs.{Prelude.⊤, List.AllByRecursion}
+use Rattle.std.proofs.{lemmas.Option.same_Some, lemmas.List.map_push}
 use Rattle.depex_code.specs.declared.opcode.Opcode.{Opcode}
 use Rattle.depex_code.specs.declared.opcode.Opcode.TheVariants as opcode
 use Rattle.depex_code.specs.Tree.{DepexTree, True, False, Push, Not, And, Or, postfix}
-use Rattle.asm_text.specs.declared.token.Waiting.{Waiting}
+use Rattle.asm_text.specs.{declared.token.Waiting.Waiting, declared.token.Token.Token}
 use Rattle.asm_text.specs.declared.token.Waiting.TheVariants.{Negation, First, Conjunction, Disjunction}
-use Rattle.asm_text.specs.declared.token.Token.{Token}
 use Rattle.asm_text.specs.declared.token.Token.TheVariants.{Waits, Is}
-use Rattle.asm_text.specs.ExpressionText.{bracketed, tree_text}
-use Rattle.asm_text.specs.Front.{behind}
+use Rattle.asm_text.specs.{ExpressionText.bracketed, ExpressionText.tree_text, Front.behind, ReadTree.IsTree}
 use Rattle.asm_text.specs.Walk.{Place, next_place, turned, opened, closed, resumed, split_last, token_at, operator_at}
-use Rattle.asm_text.specs.ReadTree.{IsTree}
 use Rattle.asm_text.proofs.Fronts.{behind_is}
 use Rattle.asm_text.proofs.Paths.{at, Path, split_is}
 use Rattle.asm_text.proofs.Tokens.{TokenIs, OperatorIs, token_is, operator_is}

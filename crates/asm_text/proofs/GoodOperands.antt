@@ -1,14 +1,9 @@
 -- The values that a line can show are those of a script's actions: in their ranges, with registers below 16 and blocks below 64, and bytes where they are spelled.
-use Rattle.std.proofs.Common.{◌≡◌, ℕ, suc, zero, ◌<◌, ◌≤◌, ◌&&◌, Bool, true, false, eqb, List, [], ◌∷◌, ◌++◌, length, refl, arith}
-use Rattle.std.specs.Prelude.{nat_le, nat_lt, ◌==◌, if◌then◌else◌}
+use Rattle.std.proofs.Common.{◌≡◌, ℕ, suc, zero, ◌<◌, ◌≤◌, ◌&&◌, Bool, true, false, eqb, List, [], ◌∷◌, ◌++◌, length, refl, arith, nat_le, nat_lt, ◌==◌, if◌then◌else◌}
 use Rattle.std.specs.List.{list_all}
-use Rattle.std.proofs.lemmas.Bool.{and_parts}
-use Rattle.std.proofs.lemmas.Bool.Decides.{nat_tests}
+use Rattle.std.proofs.{lemmas.Bool.and_parts, lemmas.Bool.Decides.nat_tests}
 use Rattle.hex.specs.Hex.{IsBytes}
-use Rattle.pi_base.specs.Field.{little_bytes}
-use Rattle.pi_base.specs.Word.{word_number}
-use Rattle.pi_base.specs.declared.word.Word.{Word}
-use Rattle.pi_base.specs.declared.word.Word.TheVariants.{Success}
+use Rattle.pi_base.specs.{Field.little_bytes, Word.word_number, declared.word.Word.Word, declared.word.Word.TheVariants.Success}
 use Rattle.act_code.specs.declared.action.GuidArg.{GuidArg}
 use Rattle.act_code.specs.declared.action.GuidArg.TheVariants.{Inline, Register}
 use Rattle.act_code.specs.Format.{Format, Value, spelled, guid_arg_bytes, guid_arg_registers, IsInRange, IsGuidArg, registers_in, blocks_in, is_within, Nothing, Byte, Within, RegisterNumber, BlockNumber, Little, GuidBytes, WordNumber, Counted, Text, Registers, Descriptor, HobBody, Pair}

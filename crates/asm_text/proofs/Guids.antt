@@ -1,16 +1,10 @@
 -- The text of a GUID, as a word and at the front of a text.
-use Rattle.std.proofs.Common.{◌≡◌, ◌<◌, ◌&&◌, ℕ, zero, suc, Bool, true, false, eqb, List, [], ◌∷◌, ◌++◌, length, take, drop, get_or, Option, Some, None, option_map, refl, sym, ap, subst, ◌∙◌, arith}
-use Rattle.std.specs.Prelude.{bytes_eq, if◌then◌else◌, option_and_then, nat_lt}
+use Rattle.std.proofs.Common.{◌≡◌, ◌<◌, ◌&&◌, ℕ, zero, suc, Bool, true, false, eqb, List, [], ◌∷◌, ◌++◌, length, take, drop, get_or, Option, Some, None, option_map, refl, sym, ap, subst, ◌∙◌, arith, bytes_eq, if◌then◌else◌, option_and_then, nat_lt, eqb-true, take_at, drop_at, take-append-drop, length-append}
 use Rattle.std.specs.List.{list_all}
-use Rattle.std.proofs.lemmas.Bool.{and_parts, and_from, eqb-true}
-use Rattle.std.proofs.lemmas.Bool.Decides.{nat_tests}
-use Rattle.std.proofs.lemmas.Option.{same_Some}
-use Rattle.std.proofs.lemmas.List.{take_at, drop_at, take-append-drop, length-append, get_or_append_left}
-use Rattle.std.proofs.lemmas.List.Sums.{AllPass-from_list_all}
+use Rattle.std.proofs.{lemmas.Bool.and_parts, lemmas.Bool.and_from, lemmas.Bool.Decides.nat_tests, lemmas.Option.same_Some}
+use Rattle.std.proofs.{lemmas.List.get_or_append_left, lemmas.List.Sums.AllPass-from_list_all}
 use Rattle.hex.specs.Hex.{IsBytes}
-use Rattle.pi_base.specs.declared.guid.Guid.{Guid}
-use Rattle.pi_base.specs.GuidText.{guid_of_text}
-use Rattle.pi_base.specs.WordText.{guid_text}
+use Rattle.pi_base.specs.{declared.guid.Guid.Guid, GuidText.guid_of_text, WordText.guid_text}
 use Rattle.asm_text.specs.Front.{is_guid, spelled_so, guid_word, guid_front}
 use Rattle.line_words.specs.PrintedWords.{Finds, IsGuid}
 use Rattle.line_words.proofs.Comparisons.{same}

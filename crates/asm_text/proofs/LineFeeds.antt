@@ -1,7 +1,6 @@
 -- Texts of lines.
-use Rattle.std.proofs.Common.{◌≡◌, ◌++◌, ℕ, List, [], ◌∷◌, refl, sym, ap, ◌∙◌, arith, length, subst, flat_map, append_assoc}
+use Rattle.std.proofs.Common.{◌≡◌, ◌++◌, ℕ, List, [], ◌∷◌, refl, sym, ap, ◌∙◌, arith, length, subst, flat_map, append_assoc, length-append, append-nil}
 use Rattle.std.specs.List.{AllByRecursion}
-use Rattle.std.proofs.lemmas.List.{length-append, append-nil}
 use Rattle.asm_text.specs.ScriptText.{line}
 use Rattle.line_words.specs.PrintedWords.{Lacks}
 use Rattle.line_words.proofs.LineFeeds.{feed_there, same_line, same_rest}

@@ -1,13 +1,10 @@
 -- An action's line has no line feed before its end.
-use Rattle.std.proofs.Common.{◌≡◌, ℕ, suc, zero, ◌<◌, ◌≤◌, ◌^◌, ◌&&◌, Bool, true, false, not, eqb, ltb, List, [], ◌∷◌, ◌++◌, map, flat_map, Option, refl, arith, decimal}
-use Rattle.std.specs.Prelude.{nat_le, ◌==◌, if◌then◌else◌}
+use Rattle.std.proofs.Common.{◌≡◌, ℕ, suc, zero, ◌<◌, ◌≤◌, ◌^◌, ◌&&◌, Bool, true, false, not, eqb, ltb, List, [], ◌∷◌, ◌++◌, map, flat_map, Option, refl, arith, decimal, nat_le, ◌==◌, if◌then◌else◌}
 use Rattle.std.specs.List.{list_all, AllByRecursion}
-use Rattle.std.proofs.lemmas.Bool.{and_parts}
-use Rattle.std.proofs.lemmas.Bool.Decides.{nat_tests}
+use Rattle.std.proofs.{lemmas.Bool.and_parts, lemmas.Bool.Decides.nat_tests}
 use Rattle.hex.specs.Hex.{encode_lower}
 use Rattle.pi_base.specs.declared.phase.Phase.{Phase}
-use Rattle.act_code.specs.declared.action.Action.{Action}
-use Rattle.act_code.specs.declared.action.GuidArg.{GuidArg}
+use Rattle.act_code.specs.{declared.action.Action.Action, declared.action.GuidArg.GuidArg}
 use Rattle.act_code.specs.declared.action.GuidArg.TheVariants.{Inline, Register}
 use Rattle.act_code.specs.Format.{Format, Value, is_within, Nothing, Byte, Within, RegisterNumber, BlockNumber, Little, GuidBytes, WordNumber, Counted, Text, Registers, Descriptor, HobBody, Pair}
 use Rattle.act_code.specs.Table.{name_of, format_of, code_of_action, operands}
@@ -16,12 +13,9 @@ use Rattle.line_words.specs.PrintedWords.{Lacks, IsPlain}
 use Rattle.line_words.proofs.LineFeeds.{both_lack}
 use Rattle.line_words.proofs.PlainWords.{decimal_plain, hexadecimal_plain, guid_plain, encoded_plain}
 use Rattle.pi_base.specs.WordText.{hexadecimal, guid_text, word_text}
-use Rattle.asm_text.specs.Numerals.{register}
-use Rattle.asm_text.specs.OperandReading.{small_word}
-use Rattle.asm_text.proofs.PlainWords.{register_plain, status_plain}
-use Rattle.asm_text.proofs.WordLaws.{is_most}
+use Rattle.asm_text.specs.{Numerals.register, OperandReading.small_word}
+use Rattle.asm_text.proofs.{PlainWords.register_plain, PlainWords.status_plain, WordLaws.is_most, GoodOperands.readable}
 use Rattle.asm_text.proofs.Readables.{IsReadable, IsReadableArg, IsReadableLast, is_open, is_known, Shows, most_of, small_shows, formats_known}
-use Rattle.asm_text.proofs.GoodOperands.{readable}
 use Rattle.asm_text.proofs.ActionLines.{IsGoodAction, good_operands, name_plain}
 
 pub plain_lacks : (word : List ℕ) → IsPlain word → Lacks 10 word

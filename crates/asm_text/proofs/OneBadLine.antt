@@ -4,10 +4,8 @@ use Rattle.std.specs.List.{AllByRecursion}
 use Rattle.std.proofs.lemmas.Bool.{cases_lt}
 use Rattle.line_words.specs.PrintedWords.{Lacks}
 use Rattle.line_words.proofs.LineFeeds.{same_line, same_rest}
-use Rattle.asm_text.specs.BadLine.{IsBadLine}
-use Rattle.asm_text.specs.ScriptText.{line}
-use Rattle.asm_text.proofs.LineFeeds.{line_first}
-use Rattle.asm_text.proofs.ScriptLines.{flat_both}
+use Rattle.asm_text.specs.{BadLine.IsBadLine, ScriptText.line}
+use Rattle.asm_text.proofs.{LineFeeds.line_first, ScriptLines.flat_both}
 
 -- more lines at the front of a text are the fewer ones, and a next one
 pub record GoesFurther (fewer more : List (List ℕ)) (rest behind : List ℕ) : Type 0 where

@@ -1,18 +1,13 @@
 -- A text is that of one script, and has one bad line.
-use Rattle.std.proofs.Common.{◌≡◌, ℕ, ◌≤◌, List, [], ◌++◌, length, flat_map, Some, Result, Ok, Err, refl, sym, ap, ◌∙◌, arith}
-use Rattle.std.specs.Prelude.{IfOk, IfErr}
+use Rattle.std.proofs.Common.{◌≡◌, ℕ, ◌≤◌, List, [], ◌++◌, length, flat_map, Some, Result, Ok, Err, refl, sym, ap, ◌∙◌, arith, IfOk, IfErr, append-nil}
 use Rattle.std.proofs.lemmas.Option.{same_Some}
-use Rattle.std.proofs.lemmas.List.{append-nil}
-use Rattle.act_code.specs.declared.script.Script.{Script}
-use Rattle.act_code.specs.Script.{script_bytes}
+use Rattle.act_code.specs.{declared.script.Script.Script, Script.script_bytes}
 use Rattle.asm_text.specs.declared.fault.TextFault.{TextFault}
 use Rattle.asm_text.specs.declared.fault.TextFault.TheVariants.{Bad, TooLong, Memory}
 use Rattle.asm_text.specs.ReadScript.{IsWellFormed, IsScriptOf, IsScriptRefused, GivesScript}
 use Rattle.asm_text.specs.ScriptText.{phase_text, line, script_text}
-use Rattle.asm_text.proofs.LineFeeds.{cut_lines}
-use Rattle.asm_text.proofs.Blocks.{at}
+use Rattle.asm_text.proofs.{LineFeeds.cut_lines, Blocks.at, Drafting.with_lines, Drafting.well_reached}
 use Rattle.asm_text.proofs.ScriptLines.{body_lines, lines_of, text_is, lines_lack, phase_one}
-use Rattle.asm_text.proofs.Drafting.{with_lines, well_reached}
 use Rattle.asm_text.proofs.BadScripts.{no_lines, tail_one}
 
 pub same_script : (script other : Script) → IsWellFormed script → IsWellFormed other → script_text script ≡ script_text other → script ≡ other

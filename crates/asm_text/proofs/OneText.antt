@@ -1,27 +1,16 @@
 -- A text is that of one expression.
-use Rattle.std.proofs.Common.{◌≡◌, ℕ, true, false, List, [], ◌∷◌, ◌++◌, ◌≤◌, length, Result, Ok, Err, refl, sym, ap, subst, ◌∙◌, arith}
-use Rattle.std.specs.Prelude.{codes, IfOk, IfErr}
-use Rattle.depex_code.specs.Expression.{instructions}
-use Rattle.asm_text.specs.declared.fault.TextFault.{TextFault}
+use Rattle.std.proofs.Common.{◌≡◌, ℕ, true, false, List, [], ◌∷◌, ◌++◌, ◌≤◌, length, Result, Ok, Err, refl, sym, ap, subst, ◌∙◌, arith, codes, IfOk, IfErr, append-nil}
+use Rattle.depex_code.specs.{Expression.instructions, declared.depex.Depex.Depex, Tree.DepexTree, Tree.postfix}
+use Rattle.asm_text.specs.{declared.fault.TextFault.TextFault, Front.guid_word, Walk.Place, ReadTree.IsTree, ReadTree.IsExpression}
 use Rattle.asm_text.specs.declared.fault.TextFault.TheVariants.{Bad, TooLong, Memory}
 use Rattle.asm_text.specs.ReadDepex.{IsDepexOf, IsDepexRefused, GivesBack}
-use Rattle.std.proofs.lemmas.Option.{same_Some}
-use Rattle.std.proofs.lemmas.List.{append_cancel_left, append_cancel_right, append-nil}
-use Rattle.pi_base.specs.declared.guid.Guid.{Guid}
-use Rattle.depex_code.specs.declared.depex.Depex.{Depex}
+use Rattle.std.proofs.{lemmas.Option.same_Some, lemmas.List.append_cancel_left, lemmas.List.append_cancel_right}
+use Rattle.pi_base.specs.{declared.guid.Guid.Guid, WordText.guid_text}
 use Rattle.depex_code.specs.declared.depex.Depex.TheVariants.{Before, After, Expr}
-use Rattle.depex_code.specs.Tree.{DepexTree, postfix}
 use Rattle.depex_code.specs.TreeCode.{tree_of, tree_of-postfix}
-use Rattle.pi_base.specs.WordText.{guid_text}
 use Rattle.asm_text.specs.ExpressionText.{tree_text, expression_text, depex_text}
-use Rattle.asm_text.specs.Front.{guid_word}
-use Rattle.asm_text.specs.Walk.{Place}
 use Rattle.line_words.specs.PrintedWords.{IsGuid}
-use Rattle.asm_text.specs.ReadTree.{IsTree, IsExpression}
-use Rattle.asm_text.proofs.Guids.{guid_word_there}
-use Rattle.asm_text.proofs.Paths.{at, Path}
-use Rattle.asm_text.proofs.TreePaths.{passes}
-use Rattle.asm_text.proofs.TreeEnds.{come_to}
+use Rattle.asm_text.proofs.{Guids.guid_word_there, Paths.at, Paths.Path, TreePaths.passes, TreeEnds.come_to}
 use Rattle.asm_text.proofs.Expressions.{no_tree, front_differs}
 
 same_guid : (g h : Guid) → IsGuid g → IsGuid h → guid_text g ≡ guid_text h → g ≡ h

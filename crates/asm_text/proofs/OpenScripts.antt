@@ -1,26 +1,16 @@
 -- What is put together of lines has these lines, and begins a script.
-use Rattle.std.proofs.Common.{◌≡◌, ℕ, suc, ◌-◌, ◌<◌, ◌≤◌, ◌&&◌, ◌||◌, Bool, true, false, List, [], ◌∷◌, ◌++◌, length, map, Some, refl, sym, ap, subst, ◌∙◌, append_assoc, arith, inl, inr}
-use Rattle.std.specs.Prelude.{nat_lt, bytes_eq, if◌then◌else◌, ◌⊎◌}
+use Rattle.std.proofs.Common.{◌≡◌, ℕ, suc, ◌-◌, ◌<◌, ◌≤◌, ◌&&◌, ◌||◌, Bool, true, false, List, [], ◌∷◌, ◌++◌, length, map, Some, refl, sym, ap, subst, ◌∙◌, append_assoc, arith, inl, inr, nat_lt, bytes_eq, if◌then◌else◌, ◌⊎◌, append-nil, length-append}
 use Rattle.std.specs.List.{list_all, AllByRecursion}
 use Rattle.std.proofs.lemmas.Bool.{and_parts, and_from, false≢true}
-use Rattle.std.proofs.lemmas.Option.{same_Some}
-use Rattle.std.proofs.lemmas.List.{append-nil, length-append, map_push}
+use Rattle.std.proofs.{lemmas.Option.same_Some, lemmas.List.map_push}
 use Rattle.pi_base.specs.declared.phase.Phase.{Phase}
-use Rattle.act_code.specs.declared.action.Action.{Action}
-use Rattle.act_code.specs.declared.script.Script.{Script}
+use Rattle.act_code.specs.{declared.action.Action.Action, declared.script.Script.Script, ScriptReading.ends_in_ret}
 use Rattle.act_code.specs.Index.{has_room, is_ret, names_below}
-use Rattle.act_code.specs.ScriptReading.{ends_in_ret}
-use Rattle.asm_text.specs.ActionText.{action_text}
+use Rattle.asm_text.specs.{ActionText.action_text, LineReading.action_of, ScriptText.phase_text, ScriptText.block_text, Walk.split_last}
 use Rattle.asm_text.specs.Drafts.{have_room, is_closed, may_end, with_block, may_stand, pushed, with_action, extended, with_line, is_whole}
-use Rattle.asm_text.specs.LineReading.{action_of}
-use Rattle.asm_text.specs.ScriptText.{phase_text, block_text}
-use Rattle.asm_text.specs.Walk.{split_last}
 use Rattle.line_words.proofs.Comparisons.{same}
-use Rattle.asm_text.proofs.Fronts.{passed}
-use Rattle.asm_text.proofs.Stacks.{bind_some}
-use Rattle.asm_text.proofs.Paths.{split_push, split_is}
-use Rattle.asm_text.proofs.ActionLines.{IsGoodAction, action_was}
-use Rattle.asm_text.proofs.ByteLists.{is_below}
+use Rattle.asm_text.proofs.{Fronts.passed, Stacks.bind_some, Paths.split_push, Paths.split_is}
+use Rattle.asm_text.proofs.{ActionLines.IsGoodAction, ActionLines.action_was, ByteLists.is_below}
 use Rattle.asm_text.proofs.Blocks.{at, IsClosedBlock, IsMadeOf}
 use Rattle.asm_text.proofs.ScriptLines.{lines_of_block, body_lines, lines_of, flat_both}
 use Rattle.asm_text.proofs.Drafting.{with_lines, ends_one, ends_more}

@@ -1,28 +1,22 @@
 -- Operands are read as the values that they show, and as no others.
-use Rattle.std.proofs.Common.{◌≡◌, ℕ, suc, zero, ◌<◌, ◌≤◌, ◌^◌, ◌&&◌, Bool, true, false, eqb, ltb, List, [], ◌∷◌, ◌++◌, length, map, flat_map, Option, Some, refl, sym, ap, subst, ◌∙◌, arith, decimal}
-use Rattle.std.specs.Prelude.{nat_le, nat_lt, bytes_eq, not, ◌==◌, if◌then◌else◌, codes}
+use Rattle.std.proofs.Common.{◌≡◌, ℕ, suc, zero, ◌<◌, ◌≤◌, ◌^◌, ◌&&◌, Bool, true, false, eqb, ltb, List, [], ◌∷◌, ◌++◌, length, map, flat_map, Option, Some, refl, sym, ap, subst, ◌∙◌, arith, decimal, nat_le, nat_lt, bytes_eq, not, ◌==◌, if◌then◌else◌, codes, append-nil}
 use Rattle.std.specs.List.{list_all, AllByRecursion}
-use Rattle.std.proofs.lemmas.Bool.{and_parts, false≢true}
-use Rattle.std.proofs.lemmas.Bool.Decides.{nat_tests}
-use Rattle.std.proofs.lemmas.List.{append-nil}
+use Rattle.std.proofs.{lemmas.Bool.and_parts, lemmas.Bool.false≢true, lemmas.Bool.Decides.nat_tests}
 use Rattle.hex.specs.Hex.{IsBytes, encode_lower}
-use Rattle.pi_base.specs.declared.guid.Guid.{Guid}
-use Rattle.pi_base.specs.declared.word.Word.{Word}
+use Rattle.pi_base.specs.{declared.guid.Guid.Guid, declared.word.Word.Word}
 use Rattle.act_code.specs.declared.action.GuidArg.{GuidArg}
 use Rattle.act_code.specs.declared.action.GuidArg.TheVariants.{Inline, Register}
 use Rattle.act_code.specs.Format.{Format, Value, is_within, Nothing, Byte, Within, RegisterNumber, BlockNumber, Little, GuidBytes, WordNumber, Counted, Text, Registers, Descriptor, HobBody, Pair}
 use Rattle.act_code.specs.Reading.{◌>>=◌, only_if}
 use Rattle.asm_text.specs.ActionText.{spaced, words_of, kind_word as shown_kind, guid_words, last_words, block_words}
 use Rattle.line_words.specs.PrintedWords.{IsPlain, IsGuid}
-use Rattle.line_words.proofs.Comparisons.{same}
-use Rattle.line_words.proofs.GuidWords.{guid_long}
+use Rattle.line_words.proofs.{Comparisons.same, GuidWords.guid_long}
 use Rattle.line_words.proofs.PlainWords.{decimal_plain, hexadecimal_plain, guid_plain, encoded_plain}
 use Rattle.pi_base.specs.WordText.{hexadecimal, guid_text, word_text}
 use Rattle.asm_text.specs.Numerals.{register}
 use Rattle.asm_text.specs.WordReading.{word_at, number_word, hexadecimal_word}
 use Rattle.asm_text.specs.OperandReading.{read, register_at, within_at, little_at, guid_at, status_at, bytes_at, counted_at, text_at, registers_within, registers_at, block_at, guid_arg_at, last_at, descriptor_at, hob_at}
-use Rattle.asm_text.proofs.Guids.{guid_word_there}
-use Rattle.asm_text.proofs.PlainWords.{register_plain, status_plain}
+use Rattle.asm_text.proofs.{Guids.guid_word_there, PlainWords.register_plain, PlainWords.status_plain}
 use Rattle.asm_text.proofs.WordLaws.{number_there, hexadecimal_there, register_there, kind_there, status_there, bytes_there, is_most}
 use Rattle.asm_text.proofs.WordSplits.{Stands, stands_too, word_then, spaced_both}
 use Rattle.asm_text.proofs.Readables.{IsReadable, IsReadableArg, IsReadableLast, is_open, is_known, Shows}

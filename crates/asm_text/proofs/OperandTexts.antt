@@ -1,29 +1,21 @@
 -- What is read of operands is what stands there.
-use Rattle.std.proofs.Common.{◌≡◌, ℕ, suc, zero, ◌<◌, ◌≤◌, ◌^◌, ◌&&◌, Bool, true, false, eqb, ltb, List, [], ◌∷◌, ◌++◌, length, map, flat_map, Option, Some, refl, sym, ap, subst, ◌∙◌, arith, decimal}
-use Rattle.std.specs.Prelude.{⊤, nat_le, nat_lt, bytes_eq, ◌==◌, if◌then◌else◌, codes}
-use Rattle.std.specs.List.{list_all, AllByRecursion}
-use Rattle.std.proofs.lemmas.Bool.{and_parts}
-use Rattle.std.proofs.lemmas.Bool.Decides.{nat_tests}
-use Rattle.std.proofs.lemmas.Option.{same_Some}
-use Rattle.std.proofs.lemmas.List.{append-nil}
+use Rattle.std.proofs.Common.{◌≡◌, ℕ, suc, zero, ◌<◌, ◌≤◌, ◌^◌, ◌&&◌, Bool, true, false, eqb, ltb, List, [], ◌∷◌, ◌++◌, length, map, flat_map, Option, Some, refl, sym, ap, subst, ◌∙◌, arith, decimal, nat_le, nat_lt, bytes_eq, ◌==◌, if◌then◌else◌, codes, append-nil}
+use Rattle.std.specs.{Prelude.⊤, List.list_all, List.AllByRecursion}
+use Rattle.std.proofs.{lemmas.Bool.and_parts, lemmas.Bool.Decides.nat_tests, lemmas.Option.same_Some}
 use Rattle.hex.specs.Hex.{IsBytes, encode_lower}
-use Rattle.pi_base.specs.declared.guid.Guid.{Guid}
-use Rattle.pi_base.specs.declared.word.Word.{Word}
+use Rattle.pi_base.specs.{declared.guid.Guid.Guid, declared.word.Word.Word}
 use Rattle.act_code.specs.declared.action.GuidArg.{GuidArg}
 use Rattle.act_code.specs.declared.action.GuidArg.TheVariants.{Inline, Register}
 use Rattle.act_code.specs.Format.{Format, Value, is_within, is_hob, Nothing, Byte, Within, RegisterNumber, BlockNumber, Little, GuidBytes, WordNumber, Counted, Text, Registers, Descriptor, HobBody, Pair}
 use Rattle.act_code.specs.Reading.{◌>>=◌, only_if}
 use Rattle.asm_text.specs.ActionText.{spaced, words_of, kind_word as shown_kind, guid_words, last_words, block_words}
-use Rattle.asm_text.specs.Front.{behind, guid_word}
+use Rattle.asm_text.specs.{Front.behind, Front.guid_word, Numerals.register}
 use Rattle.pi_base.specs.WordText.{hexadecimal, guid_text, word_text}
-use Rattle.asm_text.specs.Numerals.{register}
 use Rattle.line_words.specs.PrintedWords.{IsGuid}
 use Rattle.line_words.proofs.Comparisons.{same}
 use Rattle.asm_text.specs.WordReading.{word_at, number_word, hexadecimal_word, register_word, kind_word, status_word, bytes_word}
 use Rattle.asm_text.specs.OperandReading.{read, register_at, within_at, little_at, guid_at, status_at, bytes_at, counted_at, text_at, registers_within, registers_at, block_at, guid_arg_at, last_at, descriptor_at, hob_at}
-use Rattle.asm_text.proofs.Fronts.{passed, behind_is}
-use Rattle.asm_text.proofs.Stacks.{bind_some}
-use Rattle.asm_text.proofs.Guids.{guid_word_is}
+use Rattle.asm_text.proofs.{Fronts.passed, Fronts.behind_is, Stacks.bind_some, Guids.guid_word_is}
 use Rattle.asm_text.proofs.WordLaws.{number_is, hexadecimal_is, register_is, kind_is, status_is, bytes_is, is_most}
 use Rattle.asm_text.proofs.WordSplits.{word_shown, one_word, spaced_both}
 use Rattle.asm_text.proofs.Readables.{IsReadable, IsReadableArg, IsReadableLast, Shows}

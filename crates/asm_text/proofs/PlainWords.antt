@@ -1,10 +1,8 @@
 -- The words of registers and statuses are plain.
 use Rattle.std.proofs.Common.{ℕ, ◌<◌, refl, arith}
-use Rattle.pi_base.specs.declared.word.Word.{Word}
-use Rattle.pi_base.specs.declared.word.Word.TheVariants.{Success}
+use Rattle.pi_base.specs.{declared.word.Word.Word, declared.word.Word.TheVariants.Success, WordText.word_text}
 use Rattle.line_words.specs.PrintedWords.{IsPlain}
 use Rattle.line_words.proofs.PlainWords.{decimal_plain}
-use Rattle.pi_base.specs.WordText.{word_text}
 use Rattle.asm_text.specs.Numerals.{register}
 
 pub register_plain : (r : ℕ) → r < 16 → IsPlain (register r)

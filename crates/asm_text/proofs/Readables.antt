@@ -1,20 +1,16 @@
 -- The values of operands that a line can show, and how small numbers are shown.
-use Rattle.std.proofs.Common.{◌≡◌, ℕ, ◌<◌, ◌≤◌, ◌^◌, ◌&&◌, Bool, true, false, List, length, Option, Some, refl, arith, decimal, eqb}
+use Rattle.std.proofs.Common.{◌≡◌, ℕ, ◌<◌, ◌≤◌, ◌^◌, ◌&&◌, Bool, true, false, List, length, Option, Some, refl, arith, decimal, eqb, nat_le, not, codes}
 use Rattle.std.proofs.lemmas.Bool.Decides.{nat_tests}
-use Rattle.std.specs.Prelude.{⊤, nat_le, not, codes}
-use Rattle.std.specs.List.{list_all, AllByRecursion}
+use Rattle.std.specs.{Prelude.⊤, List.list_all, List.AllByRecursion}
 use Rattle.hex.specs.Hex.{IsBytes}
 use Rattle.act_code.specs.declared.action.GuidArg.{GuidArg}
 use Rattle.act_code.specs.declared.action.GuidArg.TheVariants.{Inline, Register}
-use Rattle.act_code.specs.declared.code.Code.{Code}
+use Rattle.act_code.specs.{declared.code.Code.Code, Table.format_of}
 use Rattle.act_code.specs.declared.code.Code.TheVariants as code
 use Rattle.act_code.specs.Format.{Format, Value, is_within, is_hob, Nothing, Byte, Within, RegisterNumber, BlockNumber, Little, GuidBytes, WordNumber, Counted, Text, Registers, Descriptor, HobBody, Pair}
-use Rattle.act_code.specs.Table.{format_of}
-use Rattle.asm_text.specs.ActionText.{small_number}
+use Rattle.asm_text.specs.{ActionText.small_number, OperandReading.small_word, WordReading.number_word, WordReading.choice_word}
 use Rattle.line_words.specs.PrintedWords.{IsPlain, IsGuid}
 use Rattle.line_words.proofs.PlainWords.{decimal_plain}
-use Rattle.asm_text.specs.OperandReading.{small_word}
-use Rattle.asm_text.specs.WordReading.{number_word, choice_word}
 use Rattle.asm_text.proofs.WordLaws.{number_there, number_is, choice_there, choice_is, either_of}
 
 abbrev pub IsReadableArg : GuidArg → Type 0

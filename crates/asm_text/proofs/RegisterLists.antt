@@ -1,10 +1,7 @@
 -- Registers to the end of a line, read one by one.
-use Rattle.std.proofs.Common.{◌≡◌, ℕ, suc, ◌-◌, ◌<◌, ◌≤◌, List, [], ◌∷◌, ◌++◌, length, Option, Some, None, option_map, refl, sym, ap, ◌∙◌, append_assoc, arith}
-use Rattle.std.specs.Prelude.{option_and_then}
-use Rattle.std.proofs.lemmas.List.{append-nil, length-append}
-use Rattle.act_code.specs.declared.operand.Unread.{Unread}
+use Rattle.std.proofs.Common.{◌≡◌, ℕ, suc, ◌-◌, ◌<◌, ◌≤◌, List, [], ◌∷◌, ◌++◌, length, Option, Some, None, option_map, refl, sym, ap, ◌∙◌, append_assoc, arith, option_and_then, append-nil, length-append}
+use Rattle.act_code.specs.{declared.operand.Unread.Unread, Reading.Fails}
 use Rattle.act_code.specs.declared.operand.Unread.TheVariants as unread
-use Rattle.act_code.specs.Reading.{Fails}
 use Rattle.asm_text.specs.OperandReading.{register_at, registers_within}
 
 -- registers in front of others

@@ -1,25 +1,18 @@
 -- The lines of a script.
-use Rattle.std.proofs.Common.{◌≡◌, ℕ, List, [], ◌∷◌, ◌++◌, length, map, take, flat_map, Bool, true, false, refl, sym, ap, subst, ◌∙◌, append_assoc}
-use Rattle.std.specs.Prelude.{codes, bytes_eq}
+use Rattle.std.proofs.Common.{◌≡◌, ℕ, List, [], ◌∷◌, ◌++◌, length, map, take, flat_map, Bool, true, false, refl, sym, ap, subst, ◌∙◌, append_assoc, codes, bytes_eq, append-nil, take_at}
 use Rattle.std.specs.List.{AllByRecursion}
 use Rattle.std.proofs.lemmas.Bool.{false≢true}
-use Rattle.std.proofs.lemmas.List.{append-nil, take_at}
-use Rattle.pi_base.specs.declared.phase.Phase.{Phase}
-use Rattle.pi_base.specs.declared.phase.Phase.TheVariants.{Pei, Dxe}
-use Rattle.act_code.specs.declared.action.Action.{Action}
-use Rattle.act_code.specs.declared.code.Code.{Code}
+use Rattle.pi_base.specs.{declared.phase.Phase.Phase, declared.phase.Phase.TheVariants.Pei, declared.phase.Phase.TheVariants.Dxe}
+use Rattle.act_code.specs.{declared.action.Action.Action, declared.code.Code.Code, declared.script.Script.Script}
 use Rattle.act_code.specs.declared.code.Code.TheVariants as code
-use Rattle.act_code.specs.declared.script.Script.{Script}
 use Rattle.act_code.specs.Table.{name_of, code_of_action}
 use Rattle.asm_text.specs.ActionText.{spaced, operand_words, action_text}
 use Rattle.line_words.specs.PrintedWords.{Lacks}
 use Rattle.line_words.proofs.Comparisons.{same}
-use Rattle.asm_text.specs.ReadScript.{IsWellFormed}
+use Rattle.asm_text.specs.{ReadScript.IsWellFormed, WordReading.space_place}
 use Rattle.asm_text.specs.ScriptText.{phase_text, block_text, line, action_line, block_lines, script_text}
-use Rattle.asm_text.specs.WordReading.{space_place}
 use Rattle.asm_text.proofs.WordSplits.{Stands, word_end, stands_too}
-use Rattle.asm_text.proofs.ActionLines.{IsGoodAction, name_plain}
-use Rattle.asm_text.proofs.LineTexts.{action_lacks, all_both}
+use Rattle.asm_text.proofs.{ActionLines.IsGoodAction, ActionLines.name_plain, LineTexts.action_lacks, LineTexts.all_both}
 use Rattle.asm_text.proofs.Blocks.{IsClosedBlock, well_made}
 
 abbrev pub lines_of_block : List Action → List (List ℕ)

@@ -1,10 +1,7 @@
 -- The stack of trees while opcodes are gone through.
-use Rattle.std.proofs.Common.{◌≡◌, ℕ, zero, suc, ◌+◌, ◌<◌, List, [], ◌∷◌, ◌++◌, length, take, get_or, Option, Some, None, refl, sym, ap, subst, ◌∙◌, ◌≤◌, arith}
-use Rattle.std.specs.Prelude.{option_and_then}
+use Rattle.std.proofs.Common.{◌≡◌, ℕ, zero, suc, ◌+◌, ◌<◌, List, [], ◌∷◌, ◌++◌, length, take, get_or, Option, Some, None, refl, sym, ap, subst, ◌∙◌, ◌≤◌, arith, option_and_then, append-nil, take_all, length-append}
 use Rattle.std.proofs.lemmas.Option.{same_Some}
-use Rattle.std.proofs.lemmas.List.{append-nil, take_all, length-append}
-use Rattle.depex_code.specs.declared.opcode.Opcode.{Opcode}
-use Rattle.depex_code.specs.Tree.{DepexTree, postfix}
+use Rattle.depex_code.specs.{declared.opcode.Opcode.Opcode, Tree.DepexTree, Tree.postfix}
 use Rattle.depex_code.specs.TreeCode.{built, stack_after, stack_after-postfix}
 
 -- the value of a step that gave one

@@ -1,16 +1,11 @@
 -- The tokens of a tree's text, both ways.
-use Rattle.std.proofs.Common.{◌≡◌, ℕ, List, ◌++◌, Option, Some, None, refl, subst, arith}
-use Rattle.std.specs.Prelude.{codes}
-use Rattle.std.proofs.lemmas.Option.{same_Some}
-use Rattle.std.proofs.lemmas.Bool.{false≢true}
-use Rattle.pi_base.specs.declared.guid.Guid.{Guid}
+use Rattle.std.proofs.Common.{◌≡◌, ℕ, List, ◌++◌, Option, Some, None, refl, subst, arith, codes}
+use Rattle.std.proofs.{lemmas.Option.same_Some, lemmas.Bool.false≢true}
+use Rattle.pi_base.specs.{declared.guid.Guid.Guid, WordText.guid_text}
 use Rattle.depex_code.specs.declared.opcode.Opcode.TheVariants as opcode
-use Rattle.asm_text.specs.declared.token.Waiting.{Waiting}
+use Rattle.asm_text.specs.{declared.token.Waiting.Waiting, declared.token.Token.Token}
 use Rattle.asm_text.specs.declared.token.Waiting.TheVariants.{Negation, First, Conjunction, Disjunction}
-use Rattle.asm_text.specs.declared.token.Token.{Token}
-use Rattle.asm_text.specs.declared.token.Token.TheVariants.{Waits, Is}
-use Rattle.pi_base.specs.WordText.{guid_text}
-use Rattle.asm_text.specs.Front.{behind, guid_front}
+use Rattle.asm_text.specs.{declared.token.Token.TheVariants.Waits, declared.token.Token.TheVariants.Is, Front.behind, Front.guid_front}
 use Rattle.asm_text.specs.Walk.{with_token, token_at, operator_at}
 use Rattle.line_words.specs.PrintedWords.{IsGuid}
 use Rattle.asm_text.proofs.Fronts.{behind_is, behind_none}

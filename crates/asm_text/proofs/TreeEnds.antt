@@ -1,16 +1,10 @@
 -- Where going through the text of a tree ends.
-use Rattle.std.proofs.Common.{◌≡◌, ℕ, Bool, true, false, eqb, List, [], ◌∷◌, ◌++◌, length, map, Option, Some, None, flat_map, refl, sym, ap, subst, ◌∙◌, arith}
-use Rattle.std.proofs.lemmas.List.{append-nil}
-use Rattle.std.proofs.lemmas.Bool.{false≢true, eqb-true}
-use Rattle.depex_code.specs.declared.opcode.Opcode.{Opcode}
-use Rattle.std.specs.Prelude.{IfSome, IfNone, MatchBool}
-use Rattle.depex_code.specs.Tree.{DepexTree, postfix}
-use Rattle.depex_code.specs.TreeCode.{tree_of, tree_of-postfix}
-use Rattle.asm_text.specs.declared.token.Waiting.{Waiting}
-use Rattle.asm_text.specs.ExpressionText.{tree_text}
+use Rattle.std.proofs.Common.{◌≡◌, ℕ, Bool, true, false, eqb, List, [], ◌∷◌, ◌++◌, length, map, Option, Some, None, flat_map, refl, sym, ap, subst, ◌∙◌, arith, append-nil, eqb-true, IfSome, IfNone, MatchBool}
+use Rattle.std.proofs.lemmas.Bool.{false≢true}
+use Rattle.depex_code.specs.{declared.opcode.Opcode.Opcode, Tree.DepexTree, Tree.postfix, TreeCode.tree_of, TreeCode.tree_of-postfix}
+use Rattle.asm_text.specs.{declared.token.Waiting.Waiting, ExpressionText.tree_text, ReadTree.IsTreeOf, ReadTree.IsCodeOf}
 use Rattle.asm_text.specs.Walk.{Place, step, next_place}
 use Rattle.line_words.specs.PrintedWords.{Finds}
-use Rattle.asm_text.specs.ReadTree.{IsTreeOf, IsCodeOf}
 use Rattle.asm_text.proofs.Paths.{at, Path, path_on, path_stays}
 use Rattle.asm_text.proofs.TreePaths.{passes}
 use Rattle.asm_text.proofs.Frames.{Frame, kind, front, head, Behind, path_sound, starts_sound}

@@ -1,14 +1,10 @@
 -- The text of a tree is gone through from its beginning to its end, and its opcodes are written.
-use Rattle.std.proofs.Common.{◌≡◌, ℕ, true, false, List, [], ◌∷◌, ◌++◌, Some, refl, ap, subst, ◌∙◌}
-use Rattle.std.specs.Prelude.{codes}
-use Rattle.std.proofs.lemmas.List.{append_assoc}
+use Rattle.std.proofs.Common.{◌≡◌, ℕ, true, false, List, [], ◌∷◌, ◌++◌, Some, refl, ap, subst, ◌∙◌, codes, append_assoc}
 use Rattle.depex_code.specs.declared.opcode.Opcode.{Opcode}
 use Rattle.depex_code.specs.declared.opcode.Opcode.TheVariants as opcode
 use Rattle.depex_code.specs.Tree.{DepexTree, True, False, Push, Not, And, Or, postfix}
-use Rattle.asm_text.specs.declared.token.Waiting.{Waiting}
+use Rattle.asm_text.specs.{declared.token.Waiting.Waiting, ExpressionText.bracketed, ExpressionText.tree_text, Front.behind}
 use Rattle.asm_text.specs.declared.token.Waiting.TheVariants.{Negation, First, Conjunction, Disjunction}
-use Rattle.asm_text.specs.ExpressionText.{bracketed, tree_text}
-use Rattle.asm_text.specs.Front.{behind}
 use Rattle.asm_text.specs.Walk.{Place, step, turned, opened, closed, resumed, token_at, operator_at}
 use Rattle.asm_text.specs.ReadTree.{IsTree}
 use Rattle.asm_text.proofs.Fronts.{behind_there}

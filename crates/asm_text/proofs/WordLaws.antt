@@ -1,27 +1,15 @@
 -- A word is read as the value of which it is printed, and as no other.
-use Rattle.std.proofs.Common.{◌≡◌, ℕ, ◌<◌, ◌≤◌, ◌^◌, ◌&&◌, Bool, true, false, ltb, List, [], ◌∷◌, ◌++◌, Option, Some, None, Result, Ok, Err, refl, sym, ap, subst, ◌∙◌, arith}
-use Rattle.std.specs.Prelude.{bytes_eq, nat_lt, codes, if◌then◌else◌, option_and_then, nat_le, ◌==◌}
-use Rattle.std.specs.List.{find}
-use Rattle.std.specs.Fmt.{digits}
-use Rattle.std.specs.Str.Parse.{digits_value}
-use Rattle.std.proofs.lemmas.Bool.{and_parts}
-use Rattle.std.proofs.lemmas.Option.{same_Some}
-use Rattle.std.proofs.lemmas.Bool.Decides.{nat_tests}
+use Rattle.std.proofs.Common.{◌≡◌, ℕ, ◌<◌, ◌≤◌, ◌^◌, ◌&&◌, Bool, true, false, ltb, List, [], ◌∷◌, ◌++◌, Option, Some, None, Result, Ok, Err, refl, sym, ap, subst, ◌∙◌, arith, bytes_eq, nat_lt, codes, if◌then◌else◌, option_and_then, nat_le, ◌==◌, find}
+use Rattle.std.specs.{Fmt.digits, Str.Parse.digits_value}
+use Rattle.std.proofs.{lemmas.Bool.and_parts, lemmas.Option.same_Some, lemmas.Bool.Decides.nat_tests}
 use Rattle.hex.specs.Hex.{IsBytes, encode_lower, decode_of}
 use Rattle.hex.specs.declared.error.FromHexError.{FromHexError}
 use Rattle.hex.proofs.HexLemmas.{decode_of-encode_lower, decode_of-ok}
-use Rattle.pi_base.specs.declared.word.Word.{Word}
-use Rattle.pi_base.specs.declared.word.Word.TheVariants.{Success}
-use Rattle.act_code.specs.Reading.{only_if}
-use Rattle.act_code.specs.Format.{is_within}
-use Rattle.asm_text.specs.declared.word.TheConstants.{STATUSES}
-use Rattle.asm_text.specs.ActionText.{kind_word as shown_kind}
-use Rattle.asm_text.specs.Front.{behind}
-use Rattle.pi_base.specs.WordText.{hexadecimal, word_text}
-use Rattle.asm_text.specs.Numerals.{register}
+use Rattle.pi_base.specs.{declared.word.Word.Word, declared.word.Word.TheVariants.Success, WordText.hexadecimal, WordText.word_text}
+use Rattle.act_code.specs.{Reading.only_if, Format.is_within}
+use Rattle.asm_text.specs.{declared.word.TheConstants.STATUSES, ActionText.kind_word as shown_kind, Front.behind, Numerals.register}
 use Rattle.line_words.specs.PrintedWords.{Finds}
-use Rattle.line_words.proofs.Comparisons.{same}
-use Rattle.line_words.proofs.Numerals.{numeral}
+use Rattle.line_words.proofs.{Comparisons.same, Numerals.numeral}
 use Rattle.asm_text.specs.WordReading.{number_word, hexadecimal_word, register_word, choice_word, kind_word, status_word, shown_by, bytes_word}
 use Rattle.asm_text.proofs.Fronts.{passed, none_of, itself, behind_is, behind_there}
 use Rattle.asm_text.proofs.Stacks.{bind_some}

@@ -1,17 +1,10 @@
 -- Words behind spaces: a text is cut behind its first word.
-use Rattle.std.proofs.Common.{◌≡◌, ℕ, ◌+◌, true, false, eqb, ltb, List, [], ◌∷◌, ◌++◌, length, take, drop, flat_map, Some, refl, sym, ap, ◌∙◌, append_assoc, arith}
-use Rattle.std.specs.Prelude.{codes, ⊤}
-use Rattle.std.specs.List.{list_all}
-use Rattle.std.proofs.lemmas.Bool.{and_parts}
-use Rattle.std.proofs.lemmas.Bool.Decides.{nat_tests}
-use Rattle.std.proofs.lemmas.Option.{same_Some}
-use Rattle.std.proofs.lemmas.List.{append-nil, take_at, drop_at, take-append-drop}
-use Rattle.asm_text.specs.ActionText.{spaced}
+use Rattle.std.proofs.Common.{◌≡◌, ℕ, ◌+◌, true, false, eqb, ltb, List, [], ◌∷◌, ◌++◌, length, take, drop, flat_map, Some, refl, sym, ap, ◌∙◌, append_assoc, arith, codes, append-nil, take_at, drop_at, take-append-drop}
+use Rattle.std.specs.{Prelude.⊤, List.list_all}
+use Rattle.std.proofs.{lemmas.Bool.and_parts, lemmas.Bool.Decides.nat_tests, lemmas.Option.same_Some}
+use Rattle.asm_text.specs.{ActionText.spaced, Front.behind, WordReading.space_place, WordReading.word_at}
 use Rattle.line_words.specs.PrintedWords.{IsPlain}
-use Rattle.asm_text.specs.Front.{behind}
-use Rattle.asm_text.specs.WordReading.{space_place, word_at}
-use Rattle.asm_text.proofs.Fronts.{behind_is}
-use Rattle.asm_text.proofs.Stacks.{bind_some}
+use Rattle.asm_text.proofs.{Fronts.behind_is, Stacks.bind_some}
 
 -- where a word may end
 abbrev pub Stands : List ℕ → Type 0

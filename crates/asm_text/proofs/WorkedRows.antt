@@ -1,21 +1,14 @@
 -- Texts and bytes worked by hand, by the definitions alone.
-use Rattle.std.proofs.Common.{◌≡◌, true, false, [], ◌∷◌, refl}
-use Rattle.std.specs.Prelude.{codes}
+use Rattle.std.proofs.Common.{◌≡◌, true, false, [], ◌∷◌, refl, codes}
 use Rattle.std.specs.Fmt.{digits}
 use Rattle.uuid.specs.Text.{by_index}
-use Rattle.pi_base.specs.declared.guid.Guid.{Guid}
-use Rattle.pi_base.specs.declared.phase.Phase.TheVariants.{Pei}
-use Rattle.pi_base.specs.declared.word.Word.TheVariants.{Success}
-use Rattle.depex_code.specs.declared.depex.Depex.TheVariants.{Expr}
+use Rattle.pi_base.specs.{declared.guid.Guid.Guid, declared.phase.Phase.TheVariants.Pei, declared.word.Word.TheVariants.Success}
+use Rattle.depex_code.specs.{declared.depex.Depex.TheVariants.Expr, Expression.bytes_of, Expression.instructions}
 use Rattle.depex_code.specs.Tree.{True, Push, Not, And}
-use Rattle.depex_code.specs.Expression.{bytes_of, instructions}
 use Rattle.act_code.specs.declared.action.Action.TheVariants.{Log, Ret, Pool}
-use Rattle.act_code.specs.declared.script.Script.{Script}
-use Rattle.act_code.specs.Script.{script_bytes}
+use Rattle.act_code.specs.{declared.script.Script.Script, Script.script_bytes, Table.name_of}
 use Rattle.pi_base.specs.WordText.{word_text}
-use Rattle.act_code.specs.Table.{name_of}
-use Rattle.asm_text.specs.ExpressionText.{depex_text}
-use Rattle.asm_text.specs.ActionText.{action_text}
+use Rattle.asm_text.specs.{ExpressionText.depex_text, ActionText.action_text}
 use Rattle.asm_text.specs.ScriptText.{phase_text, block_text, script_text}
 
 -- a script that logs `a` and ends

@@ -1,14 +1,12 @@
 -- Actions as text (own): a line is the action's name and its operands in their order, with single spaces. The count of what follows is not written.
 use Rattle.std.specs.Prelude.{ℕ, ◌==◌, if◌then◌else◌, List, [], ◌∷◌, ◌++◌, codes, decimal, map, flat_map}
 use Rattle.hex.specs.Hex.{encode_lower}
-use Rattle.act_code.specs.declared.action.Action.{Action}
-use Rattle.act_code.specs.declared.action.GuidArg.{GuidArg}
+use Rattle.act_code.specs.{declared.action.Action.Action, declared.action.GuidArg.GuidArg}
 use Rattle.act_code.specs.declared.action.GuidArg.TheVariants.{Inline, Register}
-use Rattle.act_code.specs.declared.code.Code.{Code}
+use Rattle.act_code.specs.{declared.code.Code.Code, Operands.Telling}
 use Rattle.act_code.specs.declared.code.Code.TheVariants as code
 use Rattle.act_code.specs.Format.{Format, Value, Nothing, Byte, Within, RegisterNumber, BlockNumber, Little, GuidBytes, WordNumber, Counted, Text, Registers, Descriptor, HobBody, Pair}
 use Rattle.act_code.specs.Table.{name_of, format_of, code_of_action, operands}
-use Rattle.act_code.specs.Operands.{Telling}
 use Rattle.pi_base.specs.WordText.{hexadecimal, guid_text, word_text}
 use Rattle.asm_text.specs.Numerals.{register}
 

@@ -1,16 +1,11 @@
 -- A script of which some lines are read: its last block may go on (own).
 use Rattle.std.specs.Prelude.{ℕ, ◌-◌, Bool, true, false, ◌&&◌, ◌||◌, nat_lt, bytes_eq, if◌then◌else◌, List, [], ◌∷◌, ◌++◌, length, Option, Some, None}
 use Rattle.std.specs.List.{list_all}
-use Rattle.pi_base.specs.declared.phase.Phase.{Phase}
-use Rattle.act_code.specs.declared.action.Action.{Action}
-use Rattle.act_code.specs.declared.script.Script.{Script}
+use Rattle.pi_base.specs.{declared.phase.Phase.Phase, declared.phase.Phase.TheVariants.Pei, declared.phase.Phase.TheVariants.Dxe}
+use Rattle.act_code.specs.{declared.action.Action.Action, declared.script.Script.Script, Reading.◌>>=◌, Reading.only_if}
 use Rattle.act_code.specs.Index.{names_below, has_room, is_ret}
-use Rattle.act_code.specs.Reading.{◌>>=◌, only_if}
 use Rattle.act_code.specs.ScriptReading.{ends_in_ret}
-use Rattle.pi_base.specs.declared.phase.Phase.TheVariants.{Pei, Dxe}
-use Rattle.asm_text.specs.ScriptText.{phase_text, block_text}
-use Rattle.asm_text.specs.LineReading.{action_of}
-use Rattle.asm_text.specs.Walk.{split_last}
+use Rattle.asm_text.specs.{ScriptText.phase_text, ScriptText.block_text, LineReading.action_of, Walk.split_last}
 
 -- each action that skips others has them behind it and one more, where so many are left with the first
 abbrev pub have_room : ℕ → List Action → Bool

@@ -1,9 +1,7 @@
 -- What stands at the front of a text (own).
 use Rattle.std.specs.Prelude.{ℕ, Bool, ◌&&◌, ◌==◌, if◌then◌else◌, List, length, take, drop, bytes_eq, nat_lt, Option, Some, None, option_map, option_and_then}
 use Rattle.std.specs.List.{list_all}
-use Rattle.pi_base.specs.declared.guid.Guid.{Guid}
-use Rattle.pi_base.specs.GuidText.{guid_of_text}
-use Rattle.pi_base.specs.WordText.{guid_text}
+use Rattle.pi_base.specs.{declared.guid.Guid.Guid, GuidText.guid_of_text, WordText.guid_text}
 
 -- what follows a front, where it is there
 abbrev pub behind : List ℕ → List ℕ → Option (List ℕ)

@@ -1,13 +1,9 @@
 -- Reading the line of an action (own).
 use Rattle.std.specs.Prelude.{ℕ, ◌&&◌, bytes_eq, find, List, take, drop, Option}
 use Rattle.pi_base.specs.declared.phase.Phase.{Phase}
-use Rattle.act_code.specs.declared.action.Action.{Action}
-use Rattle.act_code.specs.declared.code.Code.{Code}
-use Rattle.act_code.specs.Table.{is_code_of, name_of}
-use Rattle.act_code.specs.Reading.{◌>>=◌}
+use Rattle.act_code.specs.{declared.action.Action.Action, declared.code.Code.Code, Table.is_code_of, Table.name_of, Reading.◌>>=◌}
 use Rattle.act_code.specs.declared.code.TheConstants.{CODES}
-use Rattle.asm_text.specs.WordReading.{space_place}
-use Rattle.asm_text.specs.OperandReading.{operands_at}
+use Rattle.asm_text.specs.{WordReading.space_place, OperandReading.operands_at}
 
 -- the code of the action of a phase that has the name
 unfoldable pub code_named : Phase → List ℕ → Option Code

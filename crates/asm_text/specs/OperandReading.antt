@@ -1,16 +1,12 @@
 -- Reading the operands of an action from left to right, each behind a space (own).
 use Rattle.std.specs.Prelude.{ℕ, zero, suc, ◌^◌, ◌&&◌, ◌==◌, nat_lt, bytes_eq, if◌then◌else◌, codes, List, [], ◌∷◌, length, Option, Some, None}
 use Rattle.std.specs.List.{list_all}
-use Rattle.pi_base.specs.declared.word.Word.{Word}
-use Rattle.pi_base.specs.declared.guid.Guid.{Guid}
-use Rattle.act_code.specs.declared.action.Action.{Action}
-use Rattle.act_code.specs.declared.action.GuidArg.{GuidArg}
+use Rattle.pi_base.specs.{declared.word.Word.Word, declared.guid.Guid.Guid}
+use Rattle.act_code.specs.{declared.action.Action.Action, declared.action.GuidArg.GuidArg}
 use Rattle.act_code.specs.declared.action.GuidArg.TheVariants.{Inline, Register}
-use Rattle.act_code.specs.declared.code.Code.{Code}
+use Rattle.act_code.specs.{declared.code.Code.Code, Table.format_of, Table.made, Source.Way}
 use Rattle.act_code.specs.declared.code.Code.TheVariants as code
 use Rattle.act_code.specs.Format.{Format, Value, is_within, is_hob, Nothing, Byte, Within, RegisterNumber, BlockNumber, Little, GuidBytes, WordNumber, Counted, Text, Registers, Descriptor, HobBody, Pair}
-use Rattle.act_code.specs.Table.{format_of, made}
-use Rattle.act_code.specs.Source.{Way}
 use Rattle.act_code.specs.Reading.{◌>>=◌, only_if, answer_of}
 use Rattle.asm_text.specs.Front.{behind, guid_word}
 use Rattle.asm_text.specs.WordReading.{word_at, number_word, hexadecimal_word, register_word, choice_word, kind_word, status_word, bytes_word}

@@ -1,12 +1,8 @@
 -- Reading the text of an expression (own).
 use Rattle.std.specs.Prelude.{◌≡◌, ℕ, ◌<◌, ⊤, List, length, Result, Ok, Err}
-use Rattle.depex_code.specs.declared.depex.Depex.{Depex}
-use Rattle.depex_code.specs.Expression.{instructions}
-use Rattle.asm_text.specs.declared.fault.TextFault.{TextFault}
+use Rattle.depex_code.specs.{declared.depex.Depex.Depex, Expression.instructions}
+use Rattle.asm_text.specs.{declared.fault.TextFault.TextFault, ExpressionText.depex_text, BadLine.IsBadLine, ReadTree.IsExpression}
 use Rattle.asm_text.specs.declared.fault.TextFault.TheVariants.{Bad, TooLong, Memory}
-use Rattle.asm_text.specs.ExpressionText.{depex_text}
-use Rattle.asm_text.specs.BadLine.{IsBadLine}
-use Rattle.asm_text.specs.ReadTree.{IsExpression}
 
 -- the text is that of an expression
 abbrev pub IsDepexOf : List ℕ → Depex → Type 0

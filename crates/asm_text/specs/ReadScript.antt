@@ -1,12 +1,9 @@
 -- Reading the text of a script (own).
 use Rattle.std.specs.Prelude.{◌≡◌, ℕ, ◌<◌, ⊤, List, length, Result, Ok, Err}
 use Rattle.hex.specs.Hex.{IsBytes}
-use Rattle.act_code.specs.declared.script.Script.{Script}
-use Rattle.act_code.specs.Script.{script_bytes, IsInGrammar}
-use Rattle.asm_text.specs.declared.fault.TextFault.{TextFault}
+use Rattle.act_code.specs.{declared.script.Script.Script, Script.script_bytes, Script.IsInGrammar}
+use Rattle.asm_text.specs.{declared.fault.TextFault.TextFault, BadLine.IsBadLine, ScriptText.script_text}
 use Rattle.asm_text.specs.declared.fault.TextFault.TheVariants.{Bad, TooLong, Memory}
-use Rattle.asm_text.specs.BadLine.{IsBadLine}
-use Rattle.asm_text.specs.ScriptText.{script_text}
 
 -- a script in the grammar, however long, whose bytes are bytes
 pub record IsWellFormed (script : Script) : Type 0 where

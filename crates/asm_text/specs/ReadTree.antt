@@ -1,8 +1,7 @@
 -- What reading gives (own).
 use Rattle.std.specs.Prelude.{◌≡◌, ℕ, ⊤, List, Option, Some, None}
 use Rattle.line_words.specs.PrintedWords.{IsGuid}
-use Rattle.depex_code.specs.declared.opcode.Opcode.{Opcode}
-use Rattle.depex_code.specs.declared.depex.Depex.{Depex}
+use Rattle.depex_code.specs.{declared.opcode.Opcode.Opcode, declared.depex.Depex.Depex}
 use Rattle.depex_code.specs.declared.depex.Depex.TheVariants as depex
 use Rattle.depex_code.specs.Tree.{DepexTree, True, False, Push, Not, And, Or, postfix}
 use Rattle.asm_text.specs.ExpressionText.{tree_text, expression_text}

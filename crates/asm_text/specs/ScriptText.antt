@@ -1,9 +1,7 @@
 -- Scripts as text (own): a line with the phase, and for each block the line `block` and a line for each action. Each line ends with a line feed.
 use Rattle.std.specs.Prelude.{ℕ, List, [], ◌∷◌, ◌++◌, codes, flat_map}
-use Rattle.pi_base.specs.declared.phase.Phase.{Phase}
-use Rattle.pi_base.specs.declared.phase.Phase.TheVariants.{Pei, Dxe}
-use Rattle.act_code.specs.declared.action.Action.{Action}
-use Rattle.act_code.specs.declared.script.Script.{Script}
+use Rattle.pi_base.specs.{declared.phase.Phase.Phase, declared.phase.Phase.TheVariants.Pei, declared.phase.Phase.TheVariants.Dxe}
+use Rattle.act_code.specs.{declared.action.Action.Action, declared.script.Script.Script}
 use Rattle.asm_text.specs.ActionText.{action_text}
 
 unfoldable pub phase_text : Phase → List ℕ

@@ -3,11 +3,9 @@ use Rattle.std.specs.Prelude.{◌≡◌, ℕ, Bool, true, false, List, [], ◌�
 use Rattle.std.specs.Borrow.{Bor}
 use Rattle.depex_code.specs.declared.opcode.Opcode.{Opcode}
 use Rattle.depex_code.specs.declared.opcode.Opcode.TheVariants as opcode
-use Rattle.asm_text.specs.declared.token.Waiting.{Waiting}
+use Rattle.asm_text.specs.{declared.token.Waiting.Waiting, declared.token.Token.Token}
 use Rattle.asm_text.specs.declared.token.Waiting.TheVariants.{Negation, First, Conjunction, Disjunction}
-use Rattle.asm_text.specs.declared.token.Token.{Token}
-use Rattle.asm_text.specs.declared.token.Token.TheVariants.{Waits, Is}
-use Rattle.asm_text.specs.Front.{behind, guid_front}
+use Rattle.asm_text.specs.{declared.token.Token.TheVariants.Waits, declared.token.Token.TheVariants.Is, Front.behind, Front.guid_front}
 
 -- a token and what follows it, or the others where it is not there
 abbrev pub with_token : {A : Type 0} → A → Option (List ℕ) → Option (A × List ℕ) → Option (A × List ℕ)

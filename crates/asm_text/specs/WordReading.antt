@@ -1,15 +1,10 @@
 -- The words of a line, each as the value that it shows (own). A word is read only where it is what is printed of the value.
-use Rattle.std.specs.Prelude.{ℕ, ◌^◌, false, ◌&&◌, ◌==◌, nat_lt, bytes_eq, if◌then◌else◌, codes, List, take, drop, Option, Some, None, Result, Ok, Err}
-use Rattle.std.specs.List.{position_or_len, find}
-use Rattle.std.specs.Fmt.{digits}
-use Rattle.std.specs.Str.Parse.{digits_value}
-use Rattle.hex.specs.Hex.{encode_lower, decode_of}
-use Rattle.hex.specs.declared.error.FromHexError.{FromHexError}
-use Rattle.pi_base.specs.declared.word.Word.{Word}
+use Rattle.std.specs.Prelude.{ℕ, ◌^◌, false, ◌&&◌, ◌==◌, nat_lt, bytes_eq, if◌then◌else◌, codes, List, take, drop, Option, Some, None, Result, Ok, Err, find}
+use Rattle.std.specs.{List.position_or_len, Fmt.digits, Str.Parse.digits_value}
+use Rattle.hex.specs.{Hex.encode_lower, Hex.decode_of, declared.error.FromHexError.FromHexError}
+use Rattle.pi_base.specs.{declared.word.Word.Word, WordText.word_text}
 use Rattle.act_code.specs.Reading.{◌>>=◌, only_if}
-use Rattle.asm_text.specs.declared.word.TheConstants.{STATUSES}
-use Rattle.asm_text.specs.Front.{behind}
-use Rattle.pi_base.specs.WordText.{word_text}
+use Rattle.asm_text.specs.{declared.word.TheConstants.STATUSES, Front.behind}
 
 -- where the first space stands, or the length
 abbrev pub space_place : List ℕ → ℕ

@@ -2,10 +2,9 @@
 ghost use Rattle.std.specs.Prelude.{◌≡◌, ◌==◌, if◌then◌else◌, ◌++◌, ◌∷◌, [], map, flat_map, decimal, OnOk};
 ghost use Rattle.hex.specs.Hex.{encode_lower};
 ghost use Rattle.pi_base.specs.WordText.{hexadecimal};
-ghost use Rattle.asm_text.specs.Numerals.{register};
+ghost use Rattle.asm_text.specs.{Numerals.register, ScriptText.action_line};
 ghost use Rattle.act_code.specs.Operands.{told};
 ghost use Rattle.asm_text.specs.ActionText.{spaced, small_number, kind_word, guid_words, block_words, last_words, operand_text, operand_words};
-ghost use Rattle.asm_text.specs.ScriptText.{action_line};
 
 use act_code::descriptor_kind::{CALLBACK, PPI};
 use act_code::{Action, Code, GuidArg, Operand, operand_by_operand};

@@ -1,12 +1,9 @@
 // Reading the text of an expression.
 ghost use Rattle.std.specs.Prelude.{◌≡◌, ◌≤◌, ◌<◌, length, option_map, Option, IfOk, IfErr};
-ghost use Rattle.depex_code.specs.declared.depex.Depex.{Depex};
+ghost use Rattle.depex_code.specs.{declared.depex.Depex.Depex, Expression.instructions, Tree.DepexTree};
 ghost use Rattle.depex_code.specs.declared.depex.Depex.TheVariants as depex;
-ghost use Rattle.depex_code.specs.Expression.{instructions};
-ghost use Rattle.depex_code.specs.Tree.{DepexTree};
-ghost use Rattle.asm_text.specs.Front.{guid_word};
+ghost use Rattle.asm_text.specs.{Front.guid_word, ReadTree.IsTreeOf, ReadTree.IsExpressionOf};
 ghost use Rattle.line_words.specs.PrintedWords.{Finds};
-ghost use Rattle.asm_text.specs.ReadTree.{IsTreeOf, IsExpressionOf};
 ghost use Rattle.asm_text.specs.ReadDepex.{IsDepexOf, IsDepexRefused, GivesBack};
 
 use crate::fault::TextFault;

@@ -1,9 +1,7 @@
 // A script that is put together line by line. Its last block may go on.
 ghost use Rattle.std.specs.Prelude.{◌≡◌, ◌-◌, ◌&&◌, ◌++◌, ◌∷◌, [], List, length};
-ghost use Rattle.act_code.specs.declared.action.Action.{Action};
+ghost use Rattle.act_code.specs.{declared.action.Action.Action, Index.names_below, Reading.Gives};
 ghost use Rattle.std.specs.List.{list_all};
-ghost use Rattle.act_code.specs.Index.{names_below};
-ghost use Rattle.act_code.specs.Reading.{Gives};
 ghost use Rattle.asm_text.specs.Drafts.{have_room, is_closed, may_end, may_stand, with_block, with_action, extended, with_line, is_whole};
 ghost use Rattle.asm_text.specs.Walk.{split_last};
 

@@ -1,8 +1,7 @@
 // The line of an action: its name, and its operands.
 ghost use Rattle.std.specs.Prelude.{◌≡◌};
 ghost use Rattle.act_code.specs.Reading.{Gives};
-ghost use Rattle.asm_text.specs.OperandReading.{operands_at};
-ghost use Rattle.asm_text.specs.LineReading.{code_named, action_of};
+ghost use Rattle.asm_text.specs.{OperandReading.operands_at, LineReading.code_named, LineReading.action_of};
 
 use crate::line_source::Line;
 use crate::operand_reading::ended;

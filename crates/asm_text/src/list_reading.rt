@@ -1,7 +1,6 @@
 // The lists among operands, and HOBs. A reader gives a value and what follows it.
 ghost use Rattle.std.specs.Prelude.{◌≡◌};
-ghost use Rattle.act_code.specs.Format.{is_within};
-ghost use Rattle.act_code.specs.Reading.{Gives};
+ghost use Rattle.act_code.specs.{Format.is_within, Reading.Gives};
 ghost use Rattle.asm_text.specs.OperandReading.{bytes_at, registers_within};
 
 use crate::operand_reading::register;

@@ -1,7 +1,6 @@
 // The operands of actions, each behind a space. A reader gives a value and what follows it.
 ghost use Rattle.std.specs.Prelude.{◌≡◌, ◌==◌, length};
-ghost use Rattle.act_code.specs.Format.{is_within};
-ghost use Rattle.act_code.specs.Reading.{Gives, only_if};
+ghost use Rattle.act_code.specs.{Format.is_within, Reading.Gives, Reading.only_if};
 ghost use Rattle.asm_text.specs.WordReading.{number_word, choice_word};
 ghost use Rattle.asm_text.specs.OperandReading.{register_at, within_at, guid_at, block_at, guid_arg_at, last_at, small_word};
 

@@ -1,9 +1,7 @@
 // Reading the text of a script, line by line.
 ghost use Rattle.std.specs.Prelude.{◌≡◌, ◌≤◌, ◌<◌, ◌++◌, length, IfOk, IfErr};
-ghost use Rattle.act_code.specs.Script.{script_bytes};
-ghost use Rattle.act_code.specs.declared.script.Script.{Script};
-ghost use Rattle.asm_text.specs.Drafts.{phase_of};
-ghost use Rattle.asm_text.specs.ScriptText.{line, phase_text};
+ghost use Rattle.act_code.specs.{Script.script_bytes, declared.script.Script.Script};
+ghost use Rattle.asm_text.specs.{Drafts.phase_of, ScriptText.line, ScriptText.phase_text};
 ghost use Rattle.asm_text.specs.ReadScript.{IsScriptOf, IsScriptRefused, GivesScript};
 
 use crate::draft::{add_line, is_whole};

@@ -1,15 +1,10 @@
 // The laws of texts.
 ghost use Rattle.std.specs.Prelude.{◌≡◌, ℕ, List};
 ghost use Rattle.depex_code.specs.declared.depex.Depex.{Depex};
-ghost use Rattle.act_code.specs.declared.script.Script.{Script};
-ghost use Rattle.act_code.specs.Script.{IsScript};
+ghost use Rattle.act_code.specs.{declared.script.Script.Script, Script.IsScript};
 ghost use Rattle.hex.specs.Hex.{IsBytes};
-ghost use Rattle.asm_text.specs.BadLine.{IsBadLine};
-ghost use Rattle.asm_text.specs.ExpressionText.{depex_text};
-ghost use Rattle.asm_text.specs.ScriptText.{script_text};
-ghost use Rattle.asm_text.specs.ReadTree.{IsExpression};
-ghost use Rattle.asm_text.specs.ReadDepex.{IsDepexText};
-ghost use Rattle.asm_text.specs.ReadScript.{IsWellFormed, IsScriptText};
+ghost use Rattle.asm_text.specs.{BadLine.IsBadLine, ExpressionText.depex_text, ScriptText.script_text, ReadTree.IsExpression};
+ghost use Rattle.asm_text.specs.{ReadDepex.IsDepexText, ReadScript.IsWellFormed, ReadScript.IsScriptText};
 
 /// A text is that of one expression, so `parse_depex` gives back what `print_depex` was given.
 pub fn one_expression()

@@ -1,10 +1,8 @@
 // Reading the text of a tree, with a stack of what waits for an operand.
 ghost use Rattle.std.specs.Prelude.{◌≡◌, ◌≤◌, ◌<◌, ◌+◌, ◌*◌, [], List, Some, true, false, codes, length, IfOk, IfSome, MatchBool};
-ghost use Rattle.depex_code.specs.declared.opcode.Opcode.{Opcode};
+ghost use Rattle.depex_code.specs.{declared.opcode.Opcode.Opcode, Tree.DepexTree};
 ghost use Rattle.depex_code.specs.declared.opcode.Opcode.TheVariants as opcode;
-ghost use Rattle.depex_code.specs.Tree.{DepexTree};
-ghost use Rattle.asm_text.specs.declared.token.Waiting.{Waiting};
-ghost use Rattle.asm_text.specs.Front.{behind};
+ghost use Rattle.asm_text.specs.{declared.token.Waiting.Waiting, Front.behind};
 ghost use Rattle.asm_text.specs.Walk.{Goes, turned, opened, closed, resumed, split_last, next_place, token_at, operator_at};
 ghost use Rattle.line_words.specs.PrintedWords.{Finds};
 ghost use Rattle.asm_text.specs.ReadTree.{FindsCode, IsCodeOf, IsTreeOf};

@@ -1,9 +1,7 @@
 // The text of a tree, from its postfix opcodes.
 ghost use Rattle.std.specs.Prelude.{◌≡◌, ◌<◌, ◌≤◌, ◌++◌, ◌∷◌, [], List, ℕ, length, OnOk, IfOk, Some, codes};
-ghost use Rattle.depex_code.specs.Tree.{DepexTree};
-ghost use Rattle.depex_code.specs.TreeCode.{built};
-ghost use Rattle.asm_text.specs.ExpressionText.{bracketed, tree_text};
-ghost use Rattle.asm_text.specs.Texts.{texts_of};
+ghost use Rattle.depex_code.specs.{Tree.DepexTree, TreeCode.built};
+ghost use Rattle.asm_text.specs.{ExpressionText.bracketed, ExpressionText.tree_text, Texts.texts_of};
 
 use depex_code::{Opcode, Tree};
 use pi_base::{OutOfMemory, Seq};

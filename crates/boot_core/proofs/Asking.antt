@@ -1,18 +1,14 @@
 -- What the words ask for, seen from what it leads to.
 use Rattle.std.proofs.Common.{◌≡◌, ℕ, List, Option, refl, ap, subst, inl, inr}
 use Rattle.boot_model.specs.declared.line.Line.{Line}
-use Rattle.boot_core.specs.declared.plan_files.job.Job.{Job}
-use Rattle.boot_core.specs.declared.plan_files.reading.NoJob.{NoJob}
+use Rattle.boot_core.specs.{declared.plan_files.job.Job.Job, declared.plan_files.reading.NoJob.NoJob}
 use Rattle.boot_core.specs.declared.plan_files.reading.NoJob.TheVariants.{Refused, Memory}
 use Rattle.boot_core.specs.Job.{IsRefusal, plan_long, plan_refused, volume_long}
-use Rattle.boot_core.specs.Reading.{FilesTrail, Lacks}
-use Rattle.boot_core.specs.declared.command_line.Command.{Command}
+use Rattle.boot_core.specs.{Reading.FilesTrail, Reading.Lacks, declared.command_line.Command.Command}
 use Rattle.boot_core.specs.declared.command_line.Command.TheVariants.{Boot, Audit}
-use Rattle.boot_core.specs.declared.deciding.Asked.{Asked}
-use Rattle.boot_core.specs.CommandLine.{AskFor, AskForBoot}
+use Rattle.boot_core.specs.{declared.deciding.Asked.Asked, CommandLine.AskFor, CommandLine.AskForBoot, Refusing.refusal_status}
 use Rattle.boot_core.specs.Deciding.{IsAsked, IsBoot, IsRefused, asked_of, job_asked, number_asked, words_refused, job_refused}
 use Rattle.boot_core.specs.Outcome.{OfAnswer, Outcome, kind_of, refusal_told}
-use Rattle.boot_core.specs.Refusing.{refusal_status}
 use Rattle.boot_core.proofs.Ending.{IsDue}
 
 -- why there is nothing, told of more

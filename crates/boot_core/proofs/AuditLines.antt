@@ -1,13 +1,10 @@
 -- An audit's text, as it is put: entry by entry, and in each the modules one by one.
-use Rattle.std.proofs.Common.{◌≡◌, ◌<◌, ℕ, ◌+◌, ◌==◌, List, [], ◌∷◌, ◌++◌, length, sym, ap, ◌∙◌, flat_map, filter, drop, get_or}
-use Rattle.std.proofs.lemmas.List.{append-nil, drop_more}
-use Rattle.std.proofs.lemmas.Grind.{flat_map-append}
-use Rattle.mod_catalog.specs.declared.catalogue.Catalog.{Catalog}
-use Rattle.mod_catalog.specs.declared.catalogue.VolumeEntry.{VolumeEntry}
+use Rattle.std.proofs.Common.{◌≡◌, ◌<◌, ℕ, ◌+◌, ◌==◌, List, [], ◌∷◌, ◌++◌, length, sym, ap, ◌∙◌, flat_map, filter, drop, get_or, append-nil}
+use Rattle.std.proofs.{lemmas.List.drop_more, lemmas.Grind.flat_map-append}
+use Rattle.mod_catalog.specs.{declared.catalogue.Catalog.Catalog, declared.catalogue.VolumeEntry.VolumeEntry}
 use Rattle.mod_catalog.specs.declared.catalogue.Module.{Module}
 use Rattle.boot_model.specs.declared.line.Line.TheVariants as L
-use Rattle.boot_model.specs.declared.line.RunEnd.TheVariants.{Done}
-use Rattle.boot_model.specs.Text.{line_text, text_of}
+use Rattle.boot_model.specs.{declared.line.RunEnd.TheVariants.Done, Text.line_text, Text.text_of}
 use Rattle.boot_model.specs.Audit.{Numbered, numbered, volume_line, module_line, volume_lines}
 use Rattle.boot_core.specs.AuditText.{audit_text, volume_text, module_text, entry_text, entries_text, done_line}
 use Rattle.boot_core.proofs.FlatMaps.{flat_of_flat, flat_of_map, flat_of_filter, flat_same}

@@ -2,32 +2,21 @@
 use Rattle.std.proofs.Common.{◌≡◌, ℕ, Bool, List, [], ◌∷◌, ◌++◌, Option, Result, Ok, Err, refl, sym, ◌∙◌, subst}
 use Rattle.std.specs.Io.KnownBytes.{Appends}
 use Rattle.boot_io.proofs.PutsLaws.{appends_then}
-use Rattle.boot_io.specs.declared.halt.Halt.{Halt}
-use Rattle.boot_io.specs.Sink.{AppendsPart}
+use Rattle.boot_io.specs.{declared.halt.Halt.Halt, Sink.AppendsPart}
 use Rattle.mod_catalog.specs.declared.catalogue.Catalog.{Catalog}
 use Rattle.store_model.specs.HandleState.{HandleState}
-use Rattle.boot_model.specs.declared.line.Line.{Line}
-use Rattle.boot_model.specs.declared.line.RunEnd.{RunEnd}
-use Rattle.boot_model.specs.declared.phase_end.PeiEnd.{PeiEnd}
-use Rattle.boot_model.specs.declared.phase_end.PeiEnd.TheVariants.{Handoff}
-use Rattle.boot_model.specs.BootRun.{dxe_result}
-use Rattle.boot_model.specs.DxeMachine.{DxeMachine}
-use Rattle.boot_model.specs.DxeRun.{dxe_opening}
-use Rattle.boot_model.specs.PeiMachine.{PeiMachine}
-use Rattle.boot_model.specs.Text.{text_of}
+use Rattle.boot_model.specs.{declared.line.Line.Line, declared.line.RunEnd.RunEnd, declared.phase_end.PeiEnd.PeiEnd}
+use Rattle.boot_model.specs.{declared.phase_end.PeiEnd.TheVariants.Handoff, BootRun.dxe_result, DxeMachine.DxeMachine, DxeRun.dxe_opening}
+use Rattle.boot_model.specs.{PeiMachine.PeiMachine, Text.text_of}
 use Rattle.boot_model.proofs.Texts.{text_of-append}
 use Rattle.boot_laws.specs.Naming.{HasPut}
 use Rattle.dxe_dispatch.specs.Choices as D
 use Rattle.pei_dispatch.specs.Ends.{pei_starts}
-use Rattle.dxe_dispatch.specs.declared.boot.Barred.{Barred}
-use Rattle.dxe_dispatch.specs.declared.boot.Ended.{Ended}
-use Rattle.boot_core.specs.declared.whole.behind.Behind.{Behind}
-use Rattle.boot_core.specs.declared.whole.behind.Behind.TheVariants.{Closed}
+use Rattle.dxe_dispatch.specs.{declared.boot.Barred.Barred, declared.boot.Ended.Ended}
+use Rattle.boot_core.specs.{declared.whole.behind.Behind.Behind, declared.whole.behind.Behind.TheVariants.Closed}
 use Rattle.boot_core.specs.Behind.{ComesBehind, HasClosed, HasComeBehind}
 use Rattle.boot_core.specs.ByChoice.{BarsInDxe, ComesInDxe, EndsAfter, StopsBehind, stops_at_last, stops_in_dxe}
-use Rattle.boot_core.specs.Choices.{Choices, NamesBehind}
-use Rattle.boot_core.specs.Closing.{closing, closing_text}
-use Rattle.boot_core.specs.FirstBoot.{Tells}
+use Rattle.boot_core.specs.{Choices.Choices, Choices.NamesBehind, Closing.closing, Closing.closing_text, FirstBoot.Tells}
 use Rattle.boot_core.proofs.ClosingTexts.{closing_is}
 
 -- lines that were put without a failure, and then others

@@ -1,22 +1,13 @@
 -- The lines of a boot by choices, and those of the machine's own, part by part.
-use Rattle.std.proofs.Common.{◌≡◌, ℕ, List, [], ◌++◌, Option, Some, None, refl, sym, ap, ◌∙◌, append_assoc}
-use Rattle.std.proofs.lemmas.List.{append-nil}
+use Rattle.std.proofs.Common.{◌≡◌, ℕ, List, [], ◌++◌, Option, Some, None, refl, sym, ap, ◌∙◌, append_assoc, append-nil}
 use Rattle.mod_catalog.specs.declared.catalogue.Catalog.{Catalog}
-use Rattle.store_model.specs.HandleState.{HandleState, no_handles}
-use Rattle.store_model.specs.StoreState.{StoreState}
-use Rattle.boot_model.specs.declared.line.Line.{Line}
-use Rattle.boot_model.specs.declared.line.RunEnd.{RunEnd}
+use Rattle.store_model.specs.{HandleState.HandleState, HandleState.no_handles, StoreState.StoreState}
+use Rattle.boot_model.specs.{declared.line.Line.Line, declared.line.RunEnd.RunEnd, declared.phase_end.DxeEnd.DxeEnd}
 use Rattle.boot_model.specs.declared.line.RunEnd.TheVariants as E
-use Rattle.boot_model.specs.declared.phase_end.DxeEnd.{DxeEnd}
-use Rattle.boot_model.specs.declared.phase_end.PeiEnd.{PeiEnd}
+use Rattle.boot_model.specs.{declared.phase_end.PeiEnd.PeiEnd, DxeMachine.DxeMachine, DxeRun.dxe_end, PeiMachine.PeiMachine}
 use Rattle.boot_model.specs.declared.phase_end.PeiEnd.TheVariants.{Handoff, NoMemory, NoIpl, Spent, Deep}
 use Rattle.boot_model.specs.BootRun.{both_lines, dxe_result, lines_after, pei_lines}
-use Rattle.boot_model.specs.DxeMachine.{DxeMachine}
-use Rattle.boot_model.specs.DxeRun.{dxe_end}
-use Rattle.boot_model.specs.PeiMachine.{PeiMachine}
-use Rattle.boot_core.specs.ByChoice.{EndsAfter, EndsInPei}
-use Rattle.boot_core.specs.Choices.{Choices}
-use Rattle.boot_core.specs.Closing.{closing}
+use Rattle.boot_core.specs.{ByChoice.EndsAfter, ByChoice.EndsInPei, Choices.Choices, Closing.closing}
 
 -- the same lines, handles and result
 pub same_whole : (s : StoreState) (lines others : List Line) (handles held : HandleState) (end so : RunEnd) → lines ≡ others → handles ≡ held → end ≡ so → lines ++ closing s handles end ≡ others ++ closing s held so

@@ -1,12 +1,10 @@
 -- The lines of the handles and the result, one after the other.
 use Rattle.std.proofs.Common.{ℕ, List, ◌++◌, length, flat_map, Option, Result}
 use Rattle.std.specs.Io.KnownBytes.{Appends}
-use Rattle.boot_io.specs.Sink.{AppendsPart, Puts}
-use Rattle.boot_io.specs.declared.sink.SinkFault.{SinkFault}
+use Rattle.boot_io.specs.{Sink.AppendsPart, Sink.Puts, declared.sink.SinkFault.SinkFault}
 use Rattle.boot_io.proofs.PutsLaws.{part_of_more, part_then, puts_then}
 use Rattle.boot_model.specs.declared.line.Line.TheVariants as L
-use Rattle.boot_model.specs.declared.line.RunEnd.{RunEnd}
-use Rattle.boot_model.specs.Text.{line_text}
+use Rattle.boot_model.specs.{declared.line.RunEnd.RunEnd, Text.line_text}
 use Rattle.store_model.specs.HandleState.{HandleState}
 use Rattle.boot_core.specs.Closing.{interface_text, result_text}
 

@@ -1,15 +1,9 @@
 -- The text of the last lines, part by part.
-use Rattle.std.proofs.Common.{◌≡◌, List, [], ◌∷◌, ◌++◌, length, map, flat_map, append_assoc, refl, ap, ◌∙◌}
-use Rattle.std.proofs.lemmas.List.{append-nil}
+use Rattle.std.proofs.Common.{◌≡◌, List, [], ◌∷◌, ◌++◌, length, map, flat_map, append_assoc, refl, ap, ◌∙◌, append-nil}
 use Rattle.std.proofs.lemmas.Grind.{flat_map-append}
 use Rattle.boot_model.specs.declared.line.Line.TheVariants as L
-use Rattle.boot_model.specs.declared.line.RunEnd.{RunEnd}
-use Rattle.boot_model.specs.BootRun.{handle_lines}
-use Rattle.boot_model.specs.Listing.{store_lines}
-use Rattle.boot_model.specs.Text.{line_text, text_of}
-use Rattle.store_model.specs.HandleState.{HandleState}
-use Rattle.store_model.specs.StoreState.{StoreState}
-use Rattle.store_model.specs.declared.interface.Interface.{Interface}
+use Rattle.boot_model.specs.{declared.line.RunEnd.RunEnd, BootRun.handle_lines, Listing.store_lines, Text.line_text, Text.text_of}
+use Rattle.store_model.specs.{HandleState.HandleState, StoreState.StoreState, declared.interface.Interface.Interface}
 use Rattle.boot_core.specs.Closing.{closing, closing_text, interface_text, result_text}
 
 -- the lines of interfaces

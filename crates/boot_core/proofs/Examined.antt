@@ -2,18 +2,12 @@
 use Rattle.std.proofs.Common.{◌≡◌, ◌≢◌, ℕ, List, None, Result, Ok, Err, refl, subst, sym, inl}
 use Rattle.boot_io.specs.declared.sink.SinkFault.{SinkFault}
 use Rattle.boot_plan.specs.declared.plan.Plan.{Plan}
-use Rattle.mod_catalog.specs.declared.catalogue.Catalog.{Catalog}
-use Rattle.mod_catalog.specs.Catalogue.{IsCatalogue}
-use Rattle.mod_catalog.specs.ImageFault.{IsImageFault}
+use Rattle.mod_catalog.specs.{declared.catalogue.Catalog.Catalog, Catalogue.IsCatalogue, ImageFault.IsImageFault}
 use Rattle.mod_catalog.specs.declared.image_fault.ImageFault.{ImageFault}
 use Rattle.mod_catalog.specs.declared.image_fault.ImageCause.TheVariants as I
-use Rattle.boot_model.specs.declared.line.Line.{Line}
-use Rattle.boot_model.specs.PeiRun.{pei_end}
-use Rattle.boot_model.specs.PlanBoard.{board_of}
-use Rattle.boot_core.specs.declared.plan_files.reading.NoJob.{NoJob}
+use Rattle.boot_model.specs.{declared.line.Line.Line, PeiRun.pei_end, PlanBoard.board_of}
+use Rattle.boot_core.specs.{declared.plan_files.reading.NoJob.NoJob, Reading.Lacks, declared.plan_boot.Booted.Booted}
 use Rattle.boot_core.specs.declared.plan_files.reading.NoJob.TheVariants as N
-use Rattle.boot_core.specs.Reading.{Lacks}
-use Rattle.boot_core.specs.declared.plan_boot.Booted.{Booted}
 use Rattle.boot_core.specs.declared.status.Status.{Status}
 use Rattle.boot_core.specs.Examining.{AreRefused, IsFaultTold, IsImageRefusal}
 use Rattle.boot_core.specs.Handing.{HandsBack, HandsBackOf, StandsWhere}

@@ -2,35 +2,25 @@
 use Rattle.std.proofs.Common.{◌≡◌, ℕ, Bool, true, List, ◌++◌, Option, Some, None, Ok, Err, option_map, sym, ap, ◌∙◌, append_assoc, subst, inl, inr}
 use Rattle.std.specs.Io.KnownBytes.{Appends}
 use Rattle.boot_io.proofs.PutsLaws.{appends_then, part_then}
-use Rattle.boot_io.specs.declared.halt.Halt.{Halt}
+use Rattle.boot_io.specs.{declared.halt.Halt.Halt, Sink.AppendsPart}
 use Rattle.boot_io.specs.declared.halt.Halt.TheVariants as H
-use Rattle.boot_io.specs.Sink.{AppendsPart}
 use Rattle.boot_laws.specs.RunsEnd.{DxeRunsEnd, PeiRunsEnd}
 use Rattle.boot_trace.proofs.Lines.{part_of_longer}
-use Rattle.mod_catalog.specs.declared.catalogue.Catalog.{Catalog}
-use Rattle.mod_catalog.specs.WellFormed.{AreNumbered}
-use Rattle.store_model.specs.HandleState.{HandleState}
-use Rattle.store_model.specs.StoreState.{Board, StoreState}
-use Rattle.boot_model.specs.declared.line.Line.{Line}
-use Rattle.boot_model.specs.declared.line.RunEnd.{RunEnd}
+use Rattle.mod_catalog.specs.{declared.catalogue.Catalog.Catalog, WellFormed.AreNumbered}
+use Rattle.store_model.specs.{HandleState.HandleState, StoreState.Board, StoreState.StoreState}
+use Rattle.boot_model.specs.{declared.line.Line.Line, declared.line.RunEnd.RunEnd, declared.phase_end.PeiEnd.PeiEnd, DxeMachine.DxeMachine}
 use Rattle.boot_model.specs.declared.line.RunEnd.TheVariants as E
-use Rattle.boot_model.specs.declared.phase_end.PeiEnd.{PeiEnd}
 use Rattle.boot_model.specs.declared.phase_end.PeiEnd.TheVariants.{Handoff, NoMemory, NoIpl, Spent, Deep}
 use Rattle.boot_model.specs.BootRun.{both_lines, boot_lines, dxe_result, lines_after}
-use Rattle.boot_model.specs.DxeMachine.{DxeMachine}
 use Rattle.boot_model.specs.DxeRun.{dxe_bound, dxe_end, dxe_opening}
-use Rattle.boot_model.specs.PeiMachine.{PeiMachine}
-use Rattle.boot_model.specs.PeiRun.{pei_end}
-use Rattle.boot_model.specs.Text.{text_of}
+use Rattle.boot_model.specs.{PeiMachine.PeiMachine, PeiRun.pei_end, Text.text_of}
 use Rattle.boot_model.proofs.Texts.{text_of-append}
 use Rattle.pei_dispatch.specs.Ends.{IsLeft}
 use Rattle.pei_dispatch.proofs.FirstRuns as P
 use Rattle.dxe_dispatch.proofs.FirstRuns as D
-use Rattle.boot_core.specs.declared.whole.boot.Ran.{Ran}
+use Rattle.boot_core.specs.{declared.whole.boot.Ran.Ran, Choices.Choices, Choices.choices_of, Closing.closing}
 use Rattle.boot_core.specs.WholeEnd.{boot_text, end_after, end_of}
 use Rattle.boot_core.specs.ByChoice.{BootBy, BootsTo, ComesInDxe, EndsAfter, HasRun, PutsPartBehind, StopsBehind, StopsBehindPei, all_lines, stops_at_last, stops_in_dxe}
-use Rattle.boot_core.specs.Choices.{Choices, choices_of}
-use Rattle.boot_core.specs.Closing.{closing}
 use Rattle.boot_core.specs.FirstBoot.{RunsTo, WantsOutsidePei}
 use Rattle.boot_core.proofs.BootLines.{begins_with_pei, both_first, pei_first, same_whole, whole_of_pei}
 

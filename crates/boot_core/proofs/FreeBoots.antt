@@ -1,34 +1,23 @@
 -- Boots by choices are free ones.
 use Rattle.std.proofs.Common.{◌≡◌, ℕ, Bool, List, [], ◌∷◌, ◌++◌, Option, Some, is_some, refl, sym, ap, ◌∙◌, subst}
 use Rattle.mod_catalog.specs.declared.catalogue.Catalog.{Catalog}
-use Rattle.store_model.specs.HandleState.{HandleState}
-use Rattle.store_model.specs.StoreState.{Board, StoreState}
-use Rattle.boot_model.specs.declared.line.Line.{Line}
-use Rattle.boot_model.specs.declared.line.RunEnd.{RunEnd}
+use Rattle.store_model.specs.{HandleState.HandleState, StoreState.Board, StoreState.StoreState}
+use Rattle.boot_model.specs.{declared.line.Line.Line, declared.line.RunEnd.RunEnd, declared.phase_end.PeiEnd.PeiEnd}
 use Rattle.boot_model.specs.declared.line.RunEnd.TheVariants as E
-use Rattle.boot_model.specs.declared.phase_end.PeiEnd.{PeiEnd}
 use Rattle.boot_model.specs.declared.phase_end.PeiEnd.TheVariants.{Handoff, NoMemory, NoIpl, Spent, Deep}
-use Rattle.boot_model.specs.BootRun.{both_lines, dxe_result}
-use Rattle.boot_model.specs.DxeMachine.{DxeMachine}
-use Rattle.boot_model.specs.DxeRun.{dxe_opening}
-use Rattle.boot_model.specs.DxeStep.{dxe_case_of, dxe_step}
+use Rattle.boot_model.specs.{BootRun.both_lines, BootRun.dxe_result, DxeMachine.DxeMachine, DxeRun.dxe_opening}
+use Rattle.boot_model.specs.{DxeStep.dxe_case_of, DxeStep.dxe_step, PeiMachine.PeiMachine, PeiRun.pei_opening}
 use Rattle.boot_model.specs.FreeRun.{AreFreeDxeLines, AreFreeLines, AreFreeLinesAfter, AreFreePeiLines, IsFreeInDxe}
-use Rattle.boot_model.specs.PeiMachine.{PeiMachine}
-use Rattle.boot_model.specs.PeiRun.{pei_opening}
-use Rattle.boot_laws.specs.DxeAim.{FirstEligibleMayStart, GroupsAreAimed}
-use Rattle.boot_laws.specs.DxeFree.{OwnDxeStepsAreFree}
-use Rattle.boot_laws.specs.PeiAim.{CursorAims}
+use Rattle.boot_laws.specs.{DxeAim.FirstEligibleMayStart, DxeAim.GroupsAreAimed, DxeFree.OwnDxeStepsAreFree, PeiAim.CursorAims}
 use Rattle.boot_laws.specs.PeiFree.{OwnPeiStepsAreFree}
 use Rattle.pei_dispatch.specs.Choices as P
 use Rattle.pei_dispatch.proofs.Chosen.{step_is_free}
 use Rattle.dxe_dispatch.specs.Choices as D
 use Rattle.dxe_dispatch.proofs.Chosen.{Any, target_at}
 use Rattle.dxe_dispatch.proofs.Targets.{Aimed, First, IsTarget, Own}
-use Rattle.boot_core.specs.declared.whole.boot.Booted.{Booted}
+use Rattle.boot_core.specs.{declared.whole.boot.Booted.Booted, Choices.Choices, Closing.closing}
 use Rattle.boot_core.specs.declared.whole.boot.Booted.TheVariants as B
 use Rattle.boot_core.specs.ByChoice.{BootBy, EndsAfter, EndsInDxe, HasCome, all_lines}
-use Rattle.boot_core.specs.Choices.{Choices}
-use Rattle.boot_core.specs.Closing.{closing}
 use Rattle.boot_core.specs.FreeWay.{AreFree, DxeComesTo, GoesFreely, PeiComesTo, came_over}
 use Rattle.boot_core.proofs.BootLines.{same_whole, whole_of_pei}
 

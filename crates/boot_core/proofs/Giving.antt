@@ -4,22 +4,15 @@ use Rattle.boot_io.specs.declared.halt.Halt.{Halt}
 use Rattle.boot_io.specs.declared.halt.Halt.TheVariants as H
 use Rattle.mod_catalog.specs.declared.catalogue.Catalog.{Catalog}
 use Rattle.store_model.specs.StoreState.{Board, StoreState}
-use Rattle.boot_model.specs.declared.line.RunEnd.{RunEnd}
-use Rattle.boot_model.specs.declared.phase_end.PeiEnd.TheVariants.{Handoff}
-use Rattle.boot_model.specs.PeiRun.{pei_opening}
-use Rattle.pei_dispatch.specs.declared.boot.Ended.{Ended}
-use Rattle.pei_dispatch.specs.declared.boot.Left.{Left}
-use Rattle.pei_dispatch.specs.Choices.{BootsBy, HasBooted}
-use Rattle.pei_dispatch.specs.Ends.{IsWantedBefore}
+use Rattle.boot_model.specs.{declared.line.RunEnd.RunEnd, declared.phase_end.PeiEnd.TheVariants.Handoff, PeiRun.pei_opening}
+use Rattle.pei_dispatch.specs.{declared.boot.Ended.Ended, declared.boot.Left.Left, Choices.BootsBy, Choices.HasBooted, Ends.IsWantedBefore}
 use Rattle.boot_core.specs.declared.whole.behind.Behind.{Behind}
 use Rattle.boot_core.specs.declared.whole.behind.Behind.TheVariants.{Closed, Barred}
-use Rattle.boot_core.specs.declared.whole.boot.Booted.{Booted}
+use Rattle.boot_core.specs.{declared.whole.boot.Booted.Booted, FreeWay.AreFree, FreeWay.GoesFreely, Choices.Choices}
 use Rattle.boot_core.specs.Behind.{HasClosed, HasComeBehind, left_by}
-use Rattle.boot_core.specs.FreeWay.{AreFree, GoesFreely}
 use Rattle.boot_core.proofs.FreeBoots.{goes_freely}
 use Rattle.dxe_dispatch.specs.declared.boot.Barred.{Barred as BarredDriver}
 use Rattle.boot_core.specs.ByChoice.{BarsInDxe, BootsTo, HasCome, HasRun, IsBarredInDxe, StopsBehindPei}
-use Rattle.boot_core.specs.Choices.{Choices}
 
 -- it has come to its end
 pub has_run : {M : Type 0} (choices : Choices) (stands : M → StoreState → Type 0) (board : Board) (catalog : Catalog) (fuel : ℕ) (left : Ended M) (end : RunEnd) (old mid new : Option (List ℕ))

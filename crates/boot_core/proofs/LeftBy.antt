@@ -1,9 +1,7 @@
 -- What leaves the program, from what was put.
 use Rattle.std.proofs.Common.{◌≡◌, ℕ, List, Option, Result, Ok, Err, sym, ◌∙◌, ap, inr, subst}
 use Rattle.boot_io.specs.declared.sink.SinkFault.{SinkFault}
-use Rattle.boot_core.specs.declared.status.Status.{Status}
-use Rattle.boot_core.specs.Causes.{ComesExactly, IsStopped}
-use Rattle.boot_core.specs.Outcome.{OfAnswer, kind_of}
+use Rattle.boot_core.specs.{declared.status.Status.Status, Causes.ComesExactly, Causes.IsStopped, Outcome.OfAnswer, Outcome.kind_of}
 use Rattle.boot_core.specs.Refusing.{status_after}
 
 -- a fault or want of memory is no answer, and may stand in the place of one

@@ -1,37 +1,25 @@
 -- Told files lead to one status.
 use Rattle.std.proofs.Common.{◌≡◌, ◌⊎◌, ℕ, List, [], ◌∷◌, ◌++◌, length, Option, Some, None, IsSome, refl, sym, ap, ◌∙◌, arith, subst, inl, inr, true≢false}
 use Rattle.boot_io.specs.Files.{IsTold}
-use Rattle.boot_plan.specs.declared.plan.Plan.{Plan}
-use Rattle.boot_plan.specs.declared.plan.PlanVolume.{PlanVolume}
-use Rattle.boot_plan.specs.declared.fault.PlanFault.{PlanFault}
+use Rattle.boot_plan.specs.{declared.plan.Plan.Plan, declared.plan.PlanVolume.PlanVolume, declared.fault.PlanFault.PlanFault}
 use Rattle.boot_plan.specs.PlanText.{IsPlan, IsPlanFault}
-use Rattle.mod_catalog.specs.declared.catalogue.Catalog.{Catalog}
-use Rattle.mod_catalog.specs.declared.image_fault.ImageFault.{ImageFault}
-use Rattle.mod_catalog.specs.Catalogue.{IsCatalogue}
+use Rattle.mod_catalog.specs.{declared.catalogue.Catalog.Catalog, declared.image_fault.ImageFault.ImageFault, Catalogue.IsCatalogue}
 use Rattle.mod_catalog.specs.ImageFault.{IsImageFault}
-use Rattle.boot_model.specs.PlanBoard.{board_of}
-use Rattle.boot_model.specs.declared.line.Line.{Line}
-use Rattle.boot_model.specs.declared.line.RunEnd.{RunEnd}
-use Rattle.boot_core.specs.declared.plan_files.job.Job.{Job}
+use Rattle.boot_model.specs.{PlanBoard.board_of, declared.line.Line.Line, declared.line.RunEnd.RunEnd}
+use Rattle.boot_core.specs.{declared.plan_files.job.Job.Job, declared.status.Status.Status, declared.command_line.Command.Command}
 use Rattle.boot_core.specs.Job.{IsJob, IsRefusal, plan_long, plan_refused, volume_long}
 use Rattle.boot_core.specs.Reading.{IsRead, IsLong, IsLongVolume, AreImages}
-use Rattle.boot_core.specs.declared.status.Status.{Status}
-use Rattle.boot_core.specs.declared.command_line.Command.{Command}
 use Rattle.boot_core.specs.declared.command_line.Command.TheVariants.{Boot, Audit}
-use Rattle.boot_core.specs.declared.deciding.Asked.{Asked}
+use Rattle.boot_core.specs.{declared.deciding.Asked.Asked, Refusing.refusal_status, declared.generated.TheConstants.FUEL, BootEnd.status_of}
 use Rattle.boot_core.specs.declared.deciding.Asked.TheVariants as A
 use Rattle.boot_core.specs.CommandLine.{AskFor, AskForGenerated, verb_of}
 use Rattle.boot_core.specs.Deciding.{IsAsked, IsRefused, asked_of, job_asked, number_asked, words_refused, job_refused}
 use Rattle.boot_core.specs.Outcome.{Outcome, AskedOutcome, ImagesOutcome, CommandOutcome, Trail, Kind, OfFiles, OfSink, OfMemory, OfAnswer, Ends, EndsBy, Answered, kind_of, refusal_told, asked_done, image_refused, images_sound, BootOutcome}
 use Rattle.boot_core.specs.GeneratedOutcome.{GeneratedOutcome, SummaryOutcome, generated_board, generated_images, generated_plan}
-use Rattle.boot_core.specs.Refusing.{refusal_status}
-use Rattle.boot_core.specs.declared.generated.TheConstants.{FUEL}
 use Rattle.std.proofs.lemmas.Fmt.{decimal_injective}
-use Rattle.boot_core.specs.BootEnd.{status_of}
 use Rattle.boot_core.specs.WholeEnd.{end_of}
 use Rattle.boot_core.specs.Causes.{AreTold, IsToldAsBytes, IsVolumeName, TextNames, LeadsTo, IsStopped, ComesExactly}
-use Rattle.pi_base.specs.Lists.{Each}
-use Rattle.pi_base.specs.Field.{AreBytes}
+use Rattle.pi_base.specs.{Lists.Each, Field.AreBytes}
 
 -- the laws of plans and images: a text has one plan, and never a fault beside it; images have one catalogue, and never a fault beside it
 pub record Laws : Type 0 where

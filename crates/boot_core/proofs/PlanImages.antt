@@ -1,7 +1,6 @@
 -- The images of volumes, and what stands of a file that is refused.
-use Rattle.std.proofs.Common.{◌≡◌, ◌⊎◌, ◌≤◌, ◌<◌, ℕ, suc, ◌+◌, List, [], ◌∷◌, ◌++◌, length, Option, Some, None, Result, Ok, Err, replicate, inl, inr, arith, refl, sym, ap, ◌∙◌, take, drop, get_or, subst}
-use Rattle.std.specs.Prelude.{All, IfSome}
-use Rattle.std.proofs.lemmas.List.{length-replicate, take_more, drop_more, take-append-drop}
+use Rattle.std.proofs.Common.{◌≡◌, ◌⊎◌, ◌≤◌, ◌<◌, ℕ, suc, ◌+◌, List, [], ◌∷◌, ◌++◌, length, Option, Some, None, Result, Ok, Err, replicate, inl, inr, arith, refl, sym, ap, ◌∙◌, take, drop, get_or, subst, All, IfSome, take-append-drop}
+use Rattle.std.proofs.lemmas.List.{length-replicate, take_more, drop_more}
 use Rattle.std.proofs.lemmas.List.Elements.{All-nil, All-cons}
 use Rattle.boot_plan.specs.declared.plan.PlanVolume.{PlanVolume}
 use Rattle.pi_base.specs.Lists.{EachPair}

@@ -2,36 +2,24 @@
 use Rattle.std.proofs.Common.{◌≡◌, ℕ, true, List, Option, Some, None, Result, Ok, Err, is_some, option_map, refl, sym, inl, inr, subst, true≢false}
 use Rattle.std.specs.Prelude.{⊤}
 use Rattle.boot_plan.specs.declared.plan.Plan.{Plan}
-use Rattle.mod_catalog.specs.declared.catalogue.Catalog.{Catalog}
-use Rattle.boot_model.specs.declared.line.RunEnd.{RunEnd}
+use Rattle.mod_catalog.specs.{declared.catalogue.Catalog.Catalog, WellFormed.AreNumbered}
+use Rattle.boot_model.specs.{declared.line.RunEnd.RunEnd, BootRun.dxe_result, declared.phase_end.DxeEnd.DxeEnd, DxeRun.dxe_end}
 use Rattle.boot_model.specs.declared.line.RunEnd.TheVariants as E
-use Rattle.boot_model.specs.BootRun.{dxe_result}
-use Rattle.boot_model.specs.declared.phase_end.DxeEnd.{DxeEnd}
-use Rattle.boot_model.specs.DxeRun.{dxe_end}
-use Rattle.boot_model.specs.PeiMachine.{PeiMachine}
-use Rattle.boot_model.specs.declared.phase_end.PeiEnd.{PeiEnd}
+use Rattle.boot_model.specs.{PeiMachine.PeiMachine, declared.phase_end.PeiEnd.PeiEnd, PeiRun.pei_end, PlanBoard.board_of}
 use Rattle.boot_model.specs.declared.phase_end.PeiEnd.TheVariants.{Handoff, NoMemory, NoIpl, Spent, Deep}
-use Rattle.boot_model.specs.PeiRun.{pei_end}
-use Rattle.boot_model.specs.PlanBoard.{board_of}
 use Rattle.store_model.specs.StoreState.{Board}
-use Rattle.mod_catalog.specs.WellFormed.{AreNumbered}
 use Rattle.boot_laws.specs.RunsEnd.{PeiRunsEnd, DxeRunsEnd}
-use Rattle.boot_core.specs.declared.status.Status.{Status}
-use Rattle.boot_io.specs.declared.halt.Halt.{Halt}
+use Rattle.boot_core.specs.{declared.status.Status.Status, BootEnd.status_of, declared.whole.boot.Ran.Ran, declared.plan_boot.Booted.Booted}
+use Rattle.boot_io.specs.{declared.halt.Halt.Halt, Halted.HaltsAfter}
 use Rattle.boot_io.specs.declared.halt.Halt.TheVariants as H
-use Rattle.boot_core.specs.BootEnd.{status_of}
 use Rattle.boot_core.specs.WholeEnd.{end_after, end_of, boot_text}
 use Rattle.boot_core.specs.Outcome.{Kind, OfAnswer, EndsBy, Ends, Answered, SinkFailed, Begun, BootOutcome, Trail, IsOfRun, kind_of}
 use Rattle.boot_core.specs.Outcome as O
-use Rattle.mem_store.specs.declared.store.MemStore.{MemStore}
-use Rattle.mem_store.specs.MemState.{StandsFor}
-use Rattle.boot_core.specs.declared.whole.boot.Ran.{Ran}
-use Rattle.boot_core.specs.declared.plan_boot.Booted.{Booted}
+use Rattle.mem_store.specs.{declared.store.MemStore.MemStore, MemState.StandsFor}
 use Rattle.boot_core.specs.declared.status.Status.TheVariants as V
 use Rattle.boot_core.specs.Handing.{HandsBack, IsBooted, IsWhereRan, StandsWhere}
 use Rattle.boot_core.specs.FirstBoot.{RunsTo}
 use Rattle.boot_trace.specs.Printing.{Texts}
-use Rattle.boot_io.specs.Halted.{HaltsAfter}
 
 -- each boot has a result
 mapped_end : (ended : Option DxeEnd) → is_some ended ≡ true → (end : RunEnd) × (option_map dxe_result ended ≡ Some end)

@@ -1,13 +1,9 @@
 -- A catalogue of a plan with a volume has one.
-use Rattle.std.proofs.Common.{◌≡◌, ◌≤◌, ◌+◌, ℕ, List, [], ◌∷◌, length, ap, arith}
-use Rattle.std.proofs.lemmas.List.{length-append}
-use Rattle.boot_plan.specs.declared.plan.Plan.{Plan}
-use Rattle.boot_plan.specs.declared.plan.PlanVolume.{PlanVolume}
-use Rattle.mod_catalog.specs.declared.catalogue.Catalog.{Catalog}
-use Rattle.mod_catalog.specs.declared.catalogue.VolumeEntry.{VolumeEntry}
+use Rattle.std.proofs.Common.{◌≡◌, ◌≤◌, ◌+◌, ℕ, List, [], ◌∷◌, length, ap, arith, length-append}
+use Rattle.boot_plan.specs.{declared.plan.Plan.Plan, declared.plan.PlanVolume.PlanVolume}
+use Rattle.mod_catalog.specs.{declared.catalogue.Catalog.Catalog, declared.catalogue.VolumeEntry.VolumeEntry}
 use Rattle.mod_catalog.specs.Catalogue.{IsCatalogue, IsPlaced, PlanHolds}
-use Rattle.mod_catalog.specs.declared.holding.Holding.{Holding}
-use Rattle.mod_catalog.specs.Holding.{joined, nothing}
+use Rattle.mod_catalog.specs.{declared.holding.Holding.Holding, Holding.joined, Holding.nothing}
 
 -- what was held before stays
 held_more : (plan : Plan) (before holding : Holding) (volumes : List PlanVolume) (images : List (List ℕ)) → PlanHolds plan before volumes images holding → length before.volumes ≤ length holding.volumes

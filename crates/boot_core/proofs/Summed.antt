@@ -2,17 +2,12 @@
 use Rattle.std.proofs.Common.{ℕ, List, None, Err, refl, subst, inl}
 use Rattle.boot_plan.specs.declared.plan.Plan.{Plan}
 use Rattle.boot_model.specs.declared.line.Line.{Line}
-use Rattle.boot_core.specs.declared.plan_files.reading.NoJob.{NoJob}
+use Rattle.boot_core.specs.{declared.plan_files.reading.NoJob.NoJob, Reading.Lacks, BootEnd.status_of}
 use Rattle.boot_core.specs.declared.plan_files.reading.NoJob.TheVariants as N
-use Rattle.boot_core.specs.Reading.{Lacks}
-use Rattle.boot_core.specs.BootEnd.{status_of}
-use Rattle.boot_core.specs.Examining.{AreRefused, IsJob}
+use Rattle.boot_core.specs.{Examining.AreRefused, Examining.IsJob, Outcome.images_sound, declared.generated.Summary.Summary}
 use Rattle.boot_core.specs.GeneratedOutcome.{GeneratedOutcome, SummaryOutcome, generated_images, generated_plan, summary_text}
-use Rattle.boot_core.specs.Outcome.{images_sound}
 use Rattle.boot_core.specs.Summing.{IsGeneratedRefusal, IsSummaryOf, SumsUp}
-use Rattle.boot_core.specs.declared.generated.Summary.{Summary}
-use Rattle.boot_core.proofs.Ending.{IsDue}
-use Rattle.boot_core.proofs.Examined.{due_of_image}
+use Rattle.boot_core.proofs.{Ending.IsDue, Examined.due_of_image}
 
 -- a summary is what a generated volume leads to
 pub outcome_of : (n : ℕ) (summary : Summary) → IsSummaryOf n summary → GeneratedOutcome n (status_of summary.«end») (summary_text summary.lines)

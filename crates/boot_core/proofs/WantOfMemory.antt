@@ -1,24 +1,16 @@
 -- Want of memory, from the boot of images up to the words.
 use Rattle.std.proofs.Common.{◌≡◌, ◌⊎◌, ℕ, List, [], Option, inl, inr, subst}
-use Rattle.std.specs.Prelude.{⊤}
-use Rattle.std.specs.Io.KnownBytes.{Appends}
+use Rattle.std.specs.{Prelude.⊤, Io.KnownBytes.Appends}
 use Rattle.boot_plan.specs.declared.plan.Plan.{Plan}
-use Rattle.mod_catalog.specs.declared.catalogue.Catalog.{Catalog}
-use Rattle.mod_catalog.specs.Catalogue.{IsCatalogue}
+use Rattle.mod_catalog.specs.{declared.catalogue.Catalog.Catalog, Catalogue.IsCatalogue}
 use Rattle.boot_model.specs.PlanBoard.{board_of}
 use Rattle.boot_trace.specs.Printing.{Texts}
-use Rattle.boot_core.specs.declared.plan_files.job.Job.{Job}
-use Rattle.boot_core.specs.Job.{IsJob}
-use Rattle.boot_core.specs.declared.command_line.Command.{Command}
+use Rattle.boot_core.specs.{declared.plan_files.job.Job.Job, Job.IsJob, declared.command_line.Command.Command}
 use Rattle.boot_core.specs.declared.command_line.Command.TheVariants.{Boot, Audit}
-use Rattle.boot_core.specs.declared.deciding.Asked.{Asked}
-use Rattle.boot_core.specs.declared.status.Status.{Status}
-use Rattle.boot_core.specs.declared.status.Status.TheVariants.{Memory}
-use Rattle.boot_core.specs.CommandLine.{AskFor}
+use Rattle.boot_core.specs.{declared.deciding.Asked.Asked, declared.status.Status.Status, declared.status.Status.TheVariants.Memory}
+use Rattle.boot_core.specs.{CommandLine.AskFor, Wanting.IsWantedOutsidePeiOf, FirstBoot.IsOutsidePei}
 use Rattle.boot_core.specs.Deciding.{IsAsked, asked_of, job_asked, number_asked}
 use Rattle.boot_core.specs.Outcome.{Begun, CommandOutcome, Ends, ImagesOutcome, IsOfRun, NoMemory, Trail, image_refused, images_sound, kind_of}
-use Rattle.boot_core.specs.Wanting.{IsWantedOutsidePeiOf}
-use Rattle.boot_core.specs.FirstBoot.{IsOutsidePei}
 use Rattle.boot_core.specs.WantOfMemory.{IsPeiPut, IsWantedIn, IsWantedOutside}
 
 -- the texts that a call left

@@ -6,16 +6,11 @@ use Rattle.boot_io.proofs.PutsLaws.{appends_none}
 use Rattle.mod_catalog.specs.declared.catalogue.Catalog.{Catalog}
 use Rattle.store_model.specs.StoreState.{Board}
 use Rattle.mem_store.specs.declared.store.MemStore.{MemStore}
-use Rattle.boot_core.specs.declared.plan_boot.Booted.{Booted}
-use Rattle.boot_core.specs.declared.status.Status.{Status}
-use Rattle.boot_core.specs.Handing.{IsBooted}
+use Rattle.boot_core.specs.{declared.plan_boot.Booted.Booted, declared.status.Status.Status, Handing.IsBooted, Wanting.IsWantedOutsidePei}
 use Rattle.boot_core.specs.Outcome.{EndsBy, Kind, OfFiles, OfSink, OfMemory, OfAnswer, Trail, kind_of}
 use Rattle.boot_trace.specs.Printing.{Texts}
-use Rattle.boot_core.specs.Wanting.{IsWantedOutsidePei}
-use Rattle.boot_core.specs.declared.whole.boot.Ran.{Ran}
-use Rattle.boot_core.specs.FirstBoot.{WantsOutsidePei}
-use Rattle.boot_core.proofs.Causes.{none_of}
-use Rattle.boot_core.proofs.RunEnds.{answer_of}
+use Rattle.boot_core.specs.{declared.whole.boot.Ran.Ran, FirstBoot.WantsOutsidePei}
+use Rattle.boot_core.proofs.{Causes.none_of, RunEnds.answer_of}
 
 -- nothing was put
 pub at_once : (takes : Bool) (board : Board) (catalog : Catalog) (fuel : ℕ) (old : Option (List ℕ))

@@ -1,19 +1,14 @@
 -- The words of a boot of a plan and images without a fault lead to its run alone.
 use Rattle.std.proofs.Common.{◌≡◌, ℕ, List, Option, refl, ap, ◌∙◌, subst, inl, inr}
 use Rattle.boot_plan.specs.declared.plan.Plan.{Plan}
-use Rattle.mod_catalog.specs.declared.catalogue.Catalog.{Catalog}
-use Rattle.mod_catalog.specs.Catalogue.{IsCatalogue}
-use Rattle.pi_base.specs.Field.{AreBytes}
-use Rattle.pi_base.specs.Lists.{Each}
-use Rattle.boot_core.specs.declared.plan_files.job.Job.{Job}
-use Rattle.boot_core.specs.Job.{IsJob, IsRefusal}
-use Rattle.boot_core.specs.declared.status.Status.{Status}
+use Rattle.mod_catalog.specs.{declared.catalogue.Catalog.Catalog, Catalogue.IsCatalogue}
+use Rattle.pi_base.specs.{Field.AreBytes, Lists.Each}
+use Rattle.boot_core.specs.{declared.plan_files.job.Job.Job, Job.IsJob, Job.IsRefusal, declared.status.Status.Status}
 use Rattle.boot_core.specs.declared.status.Status.TheVariants as V
-use Rattle.boot_core.specs.declared.command_line.Command.TheVariants.{Boot}
+use Rattle.boot_core.specs.{declared.command_line.Command.TheVariants.Boot, Causes.AreTold}
 use Rattle.boot_core.specs.declared.deciding.Asked.TheVariants as A
 use Rattle.boot_core.specs.Deciding.{asked_of, job_asked, number_asked, words_refused, job_refused}
 use Rattle.boot_core.specs.Outcome.{Outcome, AskedOutcome, ImagesOutcome, CommandOutcome, BootOutcome, Trail, Ends, Answered, refusal_told, asked_done, image_refused, images_sound}
-use Rattle.boot_core.specs.Causes.{AreTold}
 use Rattle.boot_core.specs.Completeness.{AskForBootOf, HasRun, IsComplete}
 use Rattle.boot_core.proofs.OneStatus.{Laws, job_bytes, job_or_refusal, number_or_plan, one_asked, one_job, one_plan, plan_told}
 

@@ -1,11 +1,9 @@
 -- The text of an audit.
 use Rattle.std.specs.Prelude.{ℕ, ◌==◌, List, [], ◌++◌, flat_map, if◌then◌else◌}
-use Rattle.mod_catalog.specs.declared.catalogue.Catalog.{Catalog}
-use Rattle.mod_catalog.specs.declared.catalogue.VolumeEntry.{VolumeEntry}
+use Rattle.mod_catalog.specs.{declared.catalogue.Catalog.Catalog, declared.catalogue.VolumeEntry.VolumeEntry}
 use Rattle.mod_catalog.specs.declared.catalogue.Module.{Module}
 use Rattle.boot_model.specs.declared.line.Line.TheVariants as L
-use Rattle.boot_model.specs.declared.line.RunEnd.TheVariants.{Done}
-use Rattle.boot_model.specs.Text.{line_text, text_of}
+use Rattle.boot_model.specs.{declared.line.RunEnd.TheVariants.Done, Text.line_text, Text.text_of}
 use Rattle.boot_model.specs.Audit.{Numbered, numbered, volume_line, module_line, audit_lines}
 
 unfoldable pub audit_text : Catalog → List ℕ

@@ -4,24 +4,16 @@ use Rattle.std.specs.Prelude.{◌≡◌, ℕ, Bool, List, ◌++◌, Option, Resu
 use Rattle.std.specs.Io.KnownBytes.{Appends}
 use Rattle.boot_io.specs.declared.halt.Halt.{Halt}
 use Rattle.mod_catalog.specs.declared.catalogue.Catalog.{Catalog}
-use Rattle.store_model.specs.HandleState.{HandleState}
-use Rattle.store_model.specs.StoreState.{StoreState}
-use Rattle.boot_model.specs.declared.line.Line.{Line}
-use Rattle.boot_model.specs.declared.line.RunEnd.{RunEnd}
-use Rattle.boot_model.specs.declared.phase_end.PeiEnd.{PeiEnd}
-use Rattle.boot_model.specs.declared.phase_end.PeiEnd.TheVariants.{Handoff}
-use Rattle.boot_model.specs.PeiMachine.{PeiMachine}
-use Rattle.boot_model.specs.Text.{text_of}
+use Rattle.store_model.specs.{HandleState.HandleState, StoreState.StoreState}
+use Rattle.boot_model.specs.{declared.line.Line.Line, declared.line.RunEnd.RunEnd, declared.phase_end.PeiEnd.PeiEnd}
+use Rattle.boot_model.specs.{declared.phase_end.PeiEnd.TheVariants.Handoff, PeiMachine.PeiMachine, Text.text_of}
 use Rattle.boot_laws.specs.Naming.{HasPut}
-use Rattle.pei_dispatch.specs.declared.boot.Ended.{Ended}
-use Rattle.pei_dispatch.specs.Ends.{IsLeft}
+use Rattle.pei_dispatch.specs.{declared.boot.Ended.Ended, Ends.IsLeft}
 use Rattle.boot_core.specs.declared.whole.behind.Behind.{Behind}
 use Rattle.boot_core.specs.declared.whole.behind.Behind.TheVariants.{Closed, Barred}
-use Rattle.boot_core.specs.declared.whole.boot.Booted.{Booted}
+use Rattle.boot_core.specs.{declared.whole.boot.Booted.Booted, Choices.Choices, Choices.choices_of, Closing.closing}
 use Rattle.boot_core.specs.declared.whole.boot.Booted.TheVariants as B
 use Rattle.boot_core.specs.ByChoice.{BarsInDxe, EndsAfter, StopsBehind}
-use Rattle.boot_core.specs.Choices.{Choices, choices_of}
-use Rattle.boot_core.specs.Closing.{closing}
 
 -- what the boot came to, by what came behind its PEI
 abbrev pub left_by : {M : Type 0} → Ended M → Behind → Booted M

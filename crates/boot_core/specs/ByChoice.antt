@@ -2,35 +2,24 @@
 -- Own; PI 1.8, volumes 1 and 2, leave the order of the modules that may start to the dispatchers.
 use Rattle.std.specs.Prelude.{◌≡◌, ◌⊎◌, ℕ, Bool, false, List, [], ◌++◌, Option, Some, None, Result, Ok, Err}
 use Rattle.std.specs.Io.KnownBytes.{Appends}
-use Rattle.boot_io.specs.declared.halt.Halt.{Halt}
+use Rattle.boot_io.specs.{declared.halt.Halt.Halt, Sink.AppendsPart}
 use Rattle.boot_io.specs.declared.halt.Halt.TheVariants as H
-use Rattle.boot_io.specs.Sink.{AppendsPart}
 use Rattle.mod_catalog.specs.declared.catalogue.Catalog.{Catalog}
 use Rattle.store_model.specs.HandleState.{HandleState, no_handles}
 use Rattle.store_model.specs.StoreState.{Board, StoreState, empty_store}
-use Rattle.boot_model.specs.declared.line.Line.{Line}
-use Rattle.boot_model.specs.declared.line.RunEnd.{RunEnd}
+use Rattle.boot_model.specs.{declared.line.Line.Line, declared.line.RunEnd.RunEnd, declared.phase_end.DxeEnd.DxeEnd}
 use Rattle.boot_model.specs.declared.line.RunEnd.TheVariants as E
-use Rattle.boot_model.specs.declared.phase_end.DxeEnd.{DxeEnd}
-use Rattle.boot_model.specs.declared.phase_end.PeiEnd.{PeiEnd}
+use Rattle.boot_model.specs.{declared.phase_end.PeiEnd.PeiEnd, BootRun.dxe_result, DxeMachine.DxeMachine, DxeRun.dxe_opening}
 use Rattle.boot_model.specs.declared.phase_end.PeiEnd.TheVariants.{Handoff, NoMemory, NoIpl, Spent, Deep}
-use Rattle.boot_model.specs.BootRun.{dxe_result}
-use Rattle.boot_model.specs.DxeMachine.{DxeMachine}
-use Rattle.boot_model.specs.DxeRun.{dxe_opening}
-use Rattle.boot_model.specs.PeiMachine.{PeiMachine}
-use Rattle.boot_model.specs.PeiRun.{pei_opening}
-use Rattle.boot_model.specs.Text.{text_of}
+use Rattle.boot_model.specs.{PeiMachine.PeiMachine, PeiRun.pei_opening, Text.text_of}
 use Rattle.boot_laws.specs.Naming.{HasPut}
-use Rattle.pei_dispatch.specs.declared.boot.Ended.{Ended}
+use Rattle.pei_dispatch.specs.{declared.boot.Ended.Ended, Ends.IsLeft}
 use Rattle.pei_dispatch.specs.Choices.{ComesTo, HasBooted, IsHeldBack, LetsPeims, NamesPeims, StopsForMemory, StopsShort}
-use Rattle.pei_dispatch.specs.Ends.{IsLeft}
 use Rattle.dxe_dispatch.specs.declared.boot.Barred.{Barred}
 use Rattle.dxe_dispatch.specs.Choices as D
-use Rattle.boot_core.specs.declared.whole.boot.Booted.{Booted}
+use Rattle.boot_core.specs.{declared.whole.boot.Booted.Booted, declared.whole.boot.Ran.Ran, Closing.closing}
 use Rattle.boot_core.specs.declared.whole.boot.Booted.TheVariants as B
-use Rattle.boot_core.specs.declared.whole.boot.Ran.{Ran}
 use Rattle.boot_core.specs.Choices.{Choices, choices_of, starts_of}
-use Rattle.boot_core.specs.Closing.{closing}
 
 -- behind this machine of PEI, DXE by choices has come to that one
 pub record ComesInDxe (by : Choices) (catalog : Catalog) (fuel : ℕ) (pei : PeiMachine) (m : DxeMachine) : Type 0 where

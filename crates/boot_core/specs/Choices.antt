@@ -1,11 +1,9 @@
 -- What the choices of a boot may name, and which starts they let.
 -- Own; PI 1.8, volumes 1 and 2, leave the order of the modules that may start to the dispatchers.
 use Rattle.std.specs.Prelude.{◌+◌, ℕ, Bool, length, List, ◌++◌, Option}
-use Rattle.boot_model.specs.DxeMachine.{DxeMachine}
-use Rattle.boot_model.specs.PeiMachine.{PeiMachine}
+use Rattle.boot_model.specs.{DxeMachine.DxeMachine, PeiMachine.PeiMachine}
 use Rattle.boot_laws.specs.Naming.{MayName}
-use Rattle.pei_dispatch.specs.Choices.{LetsPeims, NamesPeims}
-use Rattle.pei_dispatch.specs.Ends.{pei_starts}
+use Rattle.pei_dispatch.specs.{Choices.LetsPeims, Choices.NamesPeims, Ends.pei_starts}
 use Rattle.dxe_dispatch.specs.Choices.{LetsDrivers}
 
 -- in a machine of PEI, and in one of DXE behind the last one of PEI

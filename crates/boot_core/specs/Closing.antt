@@ -1,14 +1,9 @@
 -- The last lines of a boot: the lists of its last store, the handles and the result. Own.
 use Rattle.std.specs.Prelude.{ℕ, List, [], ◌∷◌, ◌++◌, flat_map, length}
-use Rattle.boot_model.specs.declared.line.Line.{Line}
+use Rattle.boot_model.specs.{declared.line.Line.Line, declared.line.RunEnd.RunEnd, BootRun.handle_lines, Listing.store_lines}
 use Rattle.boot_model.specs.declared.line.Line.TheVariants as L
-use Rattle.boot_model.specs.declared.line.RunEnd.{RunEnd}
-use Rattle.boot_model.specs.BootRun.{handle_lines}
-use Rattle.boot_model.specs.Listing.{store_lines}
 use Rattle.boot_model.specs.Text.{line_text, text_of}
-use Rattle.store_model.specs.HandleState.{HandleState}
-use Rattle.store_model.specs.StoreState.{StoreState}
-use Rattle.store_model.specs.declared.interface.Interface.{Interface}
+use Rattle.store_model.specs.{HandleState.HandleState, StoreState.StoreState, declared.interface.Interface.Interface}
 
 -- the last lines over a store
 abbrev pub closing : StoreState → HandleState → RunEnd → List Line

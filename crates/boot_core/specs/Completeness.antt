@@ -4,14 +4,9 @@ use Rattle.std.specs.Prelude.{◌≡◌, ◌⊎◌, ℕ, List, Option}
 use Rattle.std.specs.Io.KnownBytes.{Appends}
 use Rattle.boot_io.specs.Faults.{Rose}
 use Rattle.boot_plan.specs.declared.plan.Plan.{Plan}
-use Rattle.mod_catalog.specs.declared.catalogue.Catalog.{Catalog}
-use Rattle.mod_catalog.specs.Catalogue.{IsCatalogue}
-use Rattle.boot_core.specs.Job.{IsJob}
-use Rattle.boot_core.specs.declared.command_line.Command.TheVariants.{Boot}
-use Rattle.boot_core.specs.declared.status.Status.{Status}
-use Rattle.boot_core.specs.declared.status.Status.TheVariants.{Memory}
-use Rattle.boot_core.specs.Causes.{AreTold}
-use Rattle.boot_core.specs.CommandLine.{AskFor}
+use Rattle.mod_catalog.specs.{declared.catalogue.Catalog.Catalog, Catalogue.IsCatalogue}
+use Rattle.boot_core.specs.{Job.IsJob, declared.command_line.Command.TheVariants.Boot, declared.status.Status.Status}
+use Rattle.boot_core.specs.{declared.status.Status.TheVariants.Memory, Causes.AreTold, CommandLine.AskFor}
 use Rattle.boot_core.specs.Outcome.{BootOutcome, Trail}
 
 -- the words ask for the boot of this plan, whose images have this catalogue

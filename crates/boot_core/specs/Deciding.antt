@@ -5,11 +5,9 @@ use Rattle.fv_volume.specs.declared.build.generated.TheConstants.{MOST_MODULES}
 use Rattle.boot_plan.specs.Range.{IsPlanInRange}
 use Rattle.boot_model.specs.declared.line.Line.{Line}
 use Rattle.boot_model.specs.declared.line.Line.TheVariants as L
-use Rattle.boot_core.specs.declared.plan_files.job.Job.{Job}
+use Rattle.boot_core.specs.{declared.plan_files.job.Job.Job, declared.command_line.Command.Command, declared.deciding.Asked.Asked}
 use Rattle.boot_core.specs.Job.{IsJob, IsNamed, IsRefusal}
-use Rattle.boot_core.specs.declared.command_line.Command.{Command}
 use Rattle.boot_core.specs.declared.command_line.Command.TheVariants as C
-use Rattle.boot_core.specs.declared.deciding.Asked.{Asked}
 use Rattle.boot_core.specs.declared.deciding.Asked.TheVariants as A
 use Rattle.boot_core.specs.CommandLine.{AskFor, AskForGenerated, AskForNothing}
 

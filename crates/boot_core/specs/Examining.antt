@@ -2,21 +2,16 @@
 -- Own.
 use Rattle.std.specs.Prelude.{◌≡◌, ◌≢◌, ◌≤◌, ℕ, List, length, ⊤}
 use Rattle.boot_plan.specs.declared.plan.Plan.{Plan}
-use Rattle.mod_catalog.specs.declared.catalogue.Catalog.{Catalog}
-use Rattle.mod_catalog.specs.declared.image_fault.ImageFault.{ImageFault}
+use Rattle.mod_catalog.specs.{declared.catalogue.Catalog.Catalog, declared.image_fault.ImageFault.ImageFault, Catalogue.IsCatalogue}
 use Rattle.mod_catalog.specs.declared.image_fault.ImageCause.TheVariants as I
-use Rattle.mod_catalog.specs.Catalogue.{IsCatalogue}
-use Rattle.mod_catalog.specs.ImageFault.{IsImageFault}
-use Rattle.mod_catalog.specs.WellFormed.{IsWellFormed}
-use Rattle.boot_model.specs.declared.line.Line.{Line}
-use Rattle.boot_model.specs.PlanBoard.{board_of}
+use Rattle.mod_catalog.specs.{ImageFault.IsImageFault, WellFormed.IsWellFormed}
+use Rattle.boot_model.specs.{declared.line.Line.Line, PlanBoard.board_of}
 use Rattle.boot_core.specs.declared.plan_files.reading.NoJob.{NoJob}
 use Rattle.boot_core.specs.declared.plan_files.reading.NoJob.TheVariants.{Refused, Memory}
 use Rattle.store_model.specs.StateFacts.{IsBoard}
 use Rattle.fv_volume.specs.Generated.{generated}
 use Rattle.pi_base.specs.Field.{AreBytes}
-use Rattle.boot_core.specs.GeneratedOutcome.{generated_images, generated_plan}
-use Rattle.boot_core.specs.Refusing.{image_line}
+use Rattle.boot_core.specs.{GeneratedOutcome.generated_images, GeneratedOutcome.generated_plan, Refusing.image_line}
 
 -- the catalogue of the images, which can be booted
 pub record IsExamined (plan : Plan) (images : List (List ℕ)) (catalog : Catalog) : Type 0 where

@@ -5,21 +5,13 @@ use Rattle.std.specs.Io.KnownBytes.{Appends}
 use Rattle.boot_trace.specs.Printing.{Texts}
 use Rattle.mod_catalog.specs.declared.catalogue.Catalog.{Catalog}
 use Rattle.store_model.specs.StoreState.{Board}
-use Rattle.boot_model.specs.declared.line.Line.{Line}
-use Rattle.boot_model.specs.declared.phase_end.PeiEnd.TheVariants.{Handoff}
-use Rattle.boot_model.specs.DxeMachine.{DxeMachine}
-use Rattle.boot_model.specs.DxeRun.{dxe_opening}
-use Rattle.boot_model.specs.DxeStep.{dxe_case_of}
+use Rattle.boot_model.specs.{declared.line.Line.Line, declared.phase_end.PeiEnd.TheVariants.Handoff, DxeMachine.DxeMachine}
+use Rattle.boot_model.specs.{DxeRun.dxe_opening, DxeStep.dxe_case_of, PeiMachine.PeiMachine, PeiRun.pei_opening, Text.text_of}
 use Rattle.boot_model.specs.FreeRun.{AreFreeLines, IsFreeInDxe, IsFreePeiStep}
-use Rattle.boot_model.specs.PeiMachine.{PeiMachine}
-use Rattle.boot_model.specs.PeiRun.{pei_opening}
-use Rattle.boot_model.specs.Text.{text_of}
 use Rattle.pei_dispatch.specs.Choices as P
 use Rattle.dxe_dispatch.specs.Choices as D
-use Rattle.boot_core.specs.declared.whole.boot.Booted.{Booted}
+use Rattle.boot_core.specs.{declared.whole.boot.Booted.Booted, ByChoice.BootBy, ByChoice.all_lines, Choices.Choices}
 use Rattle.boot_core.specs.declared.whole.boot.Booted.TheVariants.{Ended, BarredInPei, BarredInDxe}
-use Rattle.boot_core.specs.ByChoice.{BootBy, all_lines}
-use Rattle.boot_core.specs.Choices.{Choices}
 
 -- free steps lead from the first machine of PEI to this one, over these, the last of them first
 abbrev pub PeiComesTo : Catalog → ℕ → PeiMachine → List PeiMachine → PeiMachine → Type 0

@@ -9,18 +9,11 @@ use Rattle.fv_volume.specs.Generated.{generated}
 use Rattle.mod_catalog.specs.declared.catalogue.Catalog.{Catalog}
 use Rattle.store_model.specs.StoreState.{Board, next_body}
 use Rattle.boot_model.specs.declared.line.Line.TheVariants as L
-use Rattle.boot_model.specs.declared.line.RunEnd.{RunEnd}
-use Rattle.boot_model.specs.PeiMachine.{PeiMachine}
-use Rattle.boot_model.specs.PeiRun.{pei_end}
-use Rattle.boot_model.specs.PlanBoard.{board_of}
-use Rattle.boot_model.specs.Text.{line_text}
+use Rattle.boot_model.specs.{declared.line.RunEnd.RunEnd, PeiMachine.PeiMachine, PeiRun.pei_end, PlanBoard.board_of, Text.line_text}
 use Rattle.pei_dispatch.specs.LastStart.{last_started}
 use Rattle.boot_core.specs.declared.generated.TheConstants.{TEMP_BASE, TEMP_LEN, RAM_BASE, RAM_LEN, VOLUME_BASE, FUEL}
-use Rattle.boot_core.specs.declared.status.Status.{Status}
-use Rattle.boot_core.specs.declared.summary.SummaryLine.{SummaryLine}
+use Rattle.boot_core.specs.{declared.status.Status.Status, declared.summary.SummaryLine.SummaryLine, BootEnd.status_of, WholeEnd.end_of}
 use Rattle.boot_core.specs.declared.summary.SummaryLine.TheVariants as S
-use Rattle.boot_core.specs.BootEnd.{status_of}
-use Rattle.boot_core.specs.WholeEnd.{end_of}
 use Rattle.boot_core.specs.ImagesOutcome.{ImagesOutcome}
 
 -- the plan of a generated volume: memory, the volume, and the fuel

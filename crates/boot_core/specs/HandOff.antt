@@ -1,16 +1,11 @@
 -- What PEI hands on: the HOB list that DXE gets, or how PEI ended without a hand-off.
 -- PI 1.8, volume 1, "PEI Dispatcher", and volume 3, "HOB List".
-use Rattle.std.specs.Prelude.{◌≡◌, ℕ, List, Option, Some, None}
-use Rattle.std.specs.Option.{option_and_then}
+use Rattle.std.specs.Prelude.{◌≡◌, ℕ, List, Option, Some, None, option_and_then}
 use Rattle.boot_plan.specs.declared.plan.Plan.{Plan}
-use Rattle.mod_catalog.specs.declared.catalogue.Catalog.{Catalog}
-use Rattle.mod_catalog.specs.Catalogue.{IsCatalogue}
-use Rattle.boot_model.specs.declared.line.RunEnd.{RunEnd}
+use Rattle.mod_catalog.specs.{declared.catalogue.Catalog.Catalog, Catalogue.IsCatalogue}
+use Rattle.boot_model.specs.{declared.line.RunEnd.RunEnd, declared.phase_end.PeiEnd.PeiEnd, PeiMachine.PeiMachine, PeiRun.pei_end}
 use Rattle.boot_model.specs.declared.line.RunEnd.TheVariants as E
-use Rattle.boot_model.specs.declared.phase_end.PeiEnd.{PeiEnd}
 use Rattle.boot_model.specs.declared.phase_end.PeiEnd.TheVariants as P
-use Rattle.boot_model.specs.PeiMachine.{PeiMachine}
-use Rattle.boot_model.specs.PeiRun.{pei_end}
 use Rattle.boot_model.specs.PlanBoard.{board_of}
 use Rattle.store_model.specs.HeapImage.{hob_list}
 use Rattle.boot_core.specs.declared.handing_on.HandOff.{HandOff}

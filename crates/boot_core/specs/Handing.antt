@@ -4,18 +4,12 @@ use Rattle.std.specs.Prelude.{◌≡◌, ℕ, List, Option, Some, None, Result, 
 use Rattle.boot_plan.specs.declared.plan.Plan.{Plan}
 use Rattle.boot_io.specs.declared.halt.Halt.{Halt}
 use Rattle.boot_io.specs.declared.halt.Halt.TheVariants as H
-use Rattle.mod_catalog.specs.declared.catalogue.Catalog.{Catalog}
-use Rattle.mod_catalog.specs.Catalogue.{IsCatalogue}
-use Rattle.boot_model.specs.PeiRun.{pei_end}
-use Rattle.boot_model.specs.PlanBoard.{board_of}
+use Rattle.mod_catalog.specs.{declared.catalogue.Catalog.Catalog, Catalogue.IsCatalogue}
+use Rattle.boot_model.specs.{PeiRun.pei_end, PlanBoard.board_of}
 use Rattle.store_model.specs.StoreState.{StoreState}
-use Rattle.mem_store.specs.declared.store.MemStore.{MemStore}
-use Rattle.mem_store.specs.MemState.{StandsFor}
-use Rattle.boot_core.specs.declared.whole.boot.Ran.{Ran}
-use Rattle.boot_core.specs.declared.plan_boot.Booted.{Booted}
-use Rattle.boot_core.specs.declared.status.Status.{Status}
+use Rattle.mem_store.specs.{declared.store.MemStore.MemStore, MemState.StandsFor}
+use Rattle.boot_core.specs.{declared.whole.boot.Ran.Ran, declared.plan_boot.Booted.Booted, declared.status.Status.Status, BootEnd.status_of}
 use Rattle.boot_core.specs.declared.status.Status.TheVariants as V
-use Rattle.boot_core.specs.BootEnd.{status_of}
 use Rattle.boot_core.specs.Outcome.{IsOfRun}
 
 -- the answer of a boot that ran, or of why it did not come to its end

@@ -1,21 +1,14 @@
 -- What the images of a plan lead to: the refusal of their first fault, or what their catalogue leads to.
 use Rattle.std.specs.Prelude.{◌≡◌, ℕ, List, Some}
 use Rattle.boot_plan.specs.declared.plan.Plan.{Plan}
-use Rattle.mod_catalog.specs.declared.catalogue.Catalog.{Catalog}
-use Rattle.mod_catalog.specs.declared.image_fault.ImageFault.{ImageFault}
-use Rattle.mod_catalog.specs.Catalogue.{IsCatalogue}
+use Rattle.mod_catalog.specs.{declared.catalogue.Catalog.Catalog, declared.image_fault.ImageFault.ImageFault, Catalogue.IsCatalogue}
 use Rattle.mod_catalog.specs.ImageFault.{IsImageFault}
-use Rattle.boot_model.specs.declared.line.RunEnd.{RunEnd}
-use Rattle.boot_model.specs.PlanBoard.{board_of}
-use Rattle.boot_model.specs.Text.{line_text}
+use Rattle.boot_model.specs.{declared.line.RunEnd.RunEnd, PlanBoard.board_of, Text.line_text}
 use Rattle.boot_core.specs.declared.status.Status.{Status}
 use Rattle.boot_core.specs.declared.status.Status.TheVariants.{Done, ImageRefused}
 use Rattle.boot_core.specs.declared.command_line.Command.{Command}
 use Rattle.boot_core.specs.declared.command_line.Command.TheVariants.{Boot, Audit}
-use Rattle.boot_core.specs.AuditText.{audit_text}
-use Rattle.boot_core.specs.BootEnd.{status_of}
-use Rattle.boot_core.specs.WholeEnd.{end_of, boot_text}
-use Rattle.boot_core.specs.Refusing.{image_line}
+use Rattle.boot_core.specs.{AuditText.audit_text, BootEnd.status_of, WholeEnd.end_of, WholeEnd.boot_text, Refusing.image_line}
 
 -- what a boot leads to: its result and its whole text, by the plan's board
 pub record BootOutcome (plan : Plan) (catalog : Catalog) (images : List (List ℕ)) (status : Status) (text : List ℕ) : Type 0 where

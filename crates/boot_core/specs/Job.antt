@@ -1,9 +1,7 @@
 -- What the file of a plan leads to: the plan with the images of its volumes, or the line of a refusal.
 -- Own.
 use Rattle.std.specs.Prelude.{◌≡◌, ℕ, List, Option}
-use Rattle.boot_plan.specs.declared.plan.Plan.{Plan}
-use Rattle.boot_plan.specs.declared.fault.PlanFault.{PlanFault}
-use Rattle.boot_plan.specs.PlanText.{IsPlan, IsPlanFault}
+use Rattle.boot_plan.specs.{declared.plan.Plan.Plan, declared.fault.PlanFault.PlanFault, PlanText.IsPlan, PlanText.IsPlanFault}
 use Rattle.boot_model.specs.declared.line.Line.{Line}
 use Rattle.boot_model.specs.declared.line.Line.TheVariants as L
 use Rattle.boot_core.specs.declared.plan_files.job.Job.{Job}

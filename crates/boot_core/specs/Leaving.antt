@@ -1,16 +1,10 @@
 -- What leaves the program of the text that a call has put, by its status.
 -- Own.
 use Rattle.std.specs.Prelude.{◌≡◌, ℕ, List, Option, Result}
-use Rattle.boot_io.specs.declared.sink.SinkFault.{SinkFault}
-use Rattle.boot_io.specs.Output.{HasLeftBy}
-use Rattle.boot_core.specs.Reading.{FilesTrail}
-use Rattle.boot_core.specs.declared.status.Status.{Status}
-use Rattle.boot_core.specs.declared.status.Status.TheVariants.{Memory}
-use Rattle.boot_core.specs.Causes.{ComesExactly}
-use Rattle.boot_core.specs.CommandLine.{AskForBoot}
-use Rattle.boot_core.specs.Deciding.{Names}
+use Rattle.boot_io.specs.{declared.sink.SinkFault.SinkFault, Output.HasLeftBy}
+use Rattle.boot_core.specs.{Reading.FilesTrail, declared.status.Status.Status, declared.status.Status.TheVariants.Memory}
+use Rattle.boot_core.specs.{Causes.ComesExactly, CommandLine.AskForBoot, Deciding.Names, Refusing.status_after}
 use Rattle.boot_core.specs.Outcome.{Ends, OfAnswer, Outcome, kind_of}
-use Rattle.boot_core.specs.Refusing.{status_after}
 use Rattle.boot_core.specs.WantOfMemory.{IsWantedOutside}
 
 -- what the words lead to was put behind a text, into a sink that had counted no fault; where memory was wanting, nothing or all lines of a boot's PEI

@@ -1,8 +1,6 @@
 -- The text of a plan, by what it leads to. Own.
 use Rattle.std.specs.Prelude.{◌≡◌, ℕ, List, Result, Ok, Err, ⊤}
-use Rattle.boot_plan.specs.declared.plan.Plan.{Plan}
-use Rattle.boot_plan.specs.declared.fault.PlanFault.{PlanFault}
-use Rattle.boot_plan.specs.PlanText.{IsPlan, IsPlanFault}
+use Rattle.boot_plan.specs.{declared.plan.Plan.Plan, declared.fault.PlanFault.PlanFault, PlanText.IsPlan, PlanText.IsPlanFault}
 use Rattle.boot_model.specs.declared.line.Line.{Line}
 use Rattle.boot_model.specs.declared.line.Line.TheVariants as L
 use Rattle.boot_core.specs.declared.plan_files.reading.NoJob.{NoJob}

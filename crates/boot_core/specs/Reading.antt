@@ -1,8 +1,7 @@
 -- The files of a boot as they are read: the plan's, and those of its volumes in their order. A file that is longer than its limit ends the reading, and so does one that cannot be read.
 -- Own.
 use Rattle.std.specs.Prelude.{◌≡◌, ◌⊎◌, ℕ, ◌<◌, ◌≤◌, List, ◌∷◌, ◌++◌, length, Option, Some, None, Result, Ok, Err, ⊤}
-use Rattle.boot_io.specs.Faults.{Rose}
-use Rattle.boot_io.specs.Files.{IsTold}
+use Rattle.boot_io.specs.{Faults.Rose, Files.IsTold}
 use Rattle.boot_plan.specs.declared.plan.PlanVolume.{PlanVolume}
 use Rattle.pi_base.specs.Lists.{EachPair}
 use Rattle.boot_model.specs.declared.line.Line.{Line}

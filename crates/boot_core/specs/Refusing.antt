@@ -1,15 +1,12 @@
 -- The refusals: each is the line that it prints, and its line has a status.
 -- Own.
 use Rattle.std.specs.Prelude.{◌≡◌, ℕ, List, Option, Result, Ok, Err}
-use Rattle.boot_io.specs.declared.sink.SinkFault.{SinkFault}
-use Rattle.boot_io.specs.Sink.{Puts, SinkFaultsAfter}
+use Rattle.boot_io.specs.{declared.sink.SinkFault.SinkFault, Sink.Puts, Sink.SinkFaultsAfter}
 use Rattle.mod_catalog.specs.declared.image_fault.ImageFault.{ImageFault}
-use Rattle.boot_model.specs.declared.line.Line.{Line}
+use Rattle.boot_model.specs.{declared.line.Line.Line, Text.line_text}
 use Rattle.boot_model.specs.declared.line.Line.TheVariants as L
-use Rattle.boot_model.specs.Text.{line_text}
-use Rattle.boot_core.specs.declared.plan_files.reading.NoJob.{NoJob}
+use Rattle.boot_core.specs.{declared.plan_files.reading.NoJob.NoJob, declared.status.Status.Status}
 use Rattle.boot_core.specs.declared.plan_files.reading.NoJob.TheVariants as N
-use Rattle.boot_core.specs.declared.status.Status.{Status}
 use Rattle.boot_core.specs.declared.status.Status.TheVariants as V
 
 -- the line of a fault of an image

@@ -3,16 +3,12 @@
 use Rattle.std.specs.Prelude.{◌≡◌, ℕ, Some, Result, Ok, Err, ⊤}
 use Rattle.pi_base.specs.Field.{AreBytes}
 use Rattle.fv_volume.specs.Generated.{generated}
-use Rattle.mod_catalog.specs.declared.catalogue.Catalog.{Catalog}
-use Rattle.mod_catalog.specs.Catalogue.{IsCatalogue}
-use Rattle.boot_model.specs.declared.line.Line.{Line}
-use Rattle.boot_model.specs.PeiRun.{pei_end}
+use Rattle.mod_catalog.specs.{declared.catalogue.Catalog.Catalog, Catalogue.IsCatalogue}
+use Rattle.boot_model.specs.{declared.line.Line.Line, PeiRun.pei_end}
 use Rattle.store_model.specs.StoreState.{Board}
 use Rattle.boot_core.specs.declared.plan_files.reading.NoJob.{NoJob}
 use Rattle.boot_core.specs.declared.plan_files.reading.NoJob.TheVariants.{Refused, Memory}
-use Rattle.boot_core.specs.declared.generated.Summary.{Summary}
-use Rattle.boot_core.specs.declared.generated.TheConstants.{FUEL}
-use Rattle.boot_core.specs.WholeEnd.{end_of}
+use Rattle.boot_core.specs.{declared.generated.Summary.Summary, declared.generated.TheConstants.FUEL, WholeEnd.end_of}
 use Rattle.boot_core.specs.Examining.{IsImageRefusal}
 use Rattle.boot_core.specs.GeneratedOutcome.{generated_board, generated_images, generated_plan, summary_lines}
 

@@ -3,18 +3,12 @@
 use Rattle.std.specs.Prelude.{◌⊎◌, ℕ, List, [], ◌++◌, Option}
 use Rattle.std.specs.Io.KnownBytes.{Appends}
 use Rattle.boot_plan.specs.declared.plan.Plan.{Plan}
-use Rattle.mod_catalog.specs.declared.catalogue.Catalog.{Catalog}
-use Rattle.mod_catalog.specs.Catalogue.{IsCatalogue}
-use Rattle.boot_model.specs.PeiRun.{pei_end}
-use Rattle.boot_model.specs.PlanBoard.{board_of}
-use Rattle.boot_model.specs.Text.{text_of}
+use Rattle.mod_catalog.specs.{declared.catalogue.Catalog.Catalog, Catalogue.IsCatalogue}
+use Rattle.boot_model.specs.{PeiRun.pei_end, PlanBoard.board_of, Text.text_of}
 use Rattle.boot_trace.specs.Printing.{Texts}
-use Rattle.boot_core.specs.declared.plan_files.job.Job.{Job}
-use Rattle.boot_core.specs.Job.{IsJob}
-use Rattle.boot_core.specs.declared.command_line.Command.TheVariants.{Boot}
-use Rattle.boot_core.specs.declared.deciding.Asked.{Asked}
+use Rattle.boot_core.specs.{declared.plan_files.job.Job.Job, Job.IsJob, declared.command_line.Command.TheVariants.Boot}
+use Rattle.boot_core.specs.{declared.deciding.Asked.Asked, CommandLine.AskFor}
 use Rattle.boot_core.specs.declared.deciding.Asked.TheVariants as A
-use Rattle.boot_core.specs.CommandLine.{AskFor}
 
 -- all lines of PEI of the boot of a plan and its images were put, and then a part of what follows
 pub record IsPeiPut (plan : Plan) (images : List (List ℕ)) (t : Texts) : Type 0 where

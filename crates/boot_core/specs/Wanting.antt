@@ -2,8 +2,7 @@
 -- Own.
 use Rattle.std.specs.Prelude.{ℕ, List, ⊤}
 use Rattle.boot_plan.specs.declared.plan.Plan.{Plan}
-use Rattle.mod_catalog.specs.declared.catalogue.Catalog.{Catalog}
-use Rattle.mod_catalog.specs.Catalogue.{IsCatalogue}
+use Rattle.mod_catalog.specs.{declared.catalogue.Catalog.Catalog, Catalogue.IsCatalogue}
 use Rattle.store_model.specs.StoreState.{Board}
 use Rattle.boot_model.specs.PlanBoard.{board_of}
 use Rattle.boot_core.specs.Outcome.{Kind, OfFiles, OfSink, OfMemory, OfAnswer}

@@ -2,16 +2,11 @@
 -- Own; PI 1.8 leaves the end of a boot to what stands above DXE.
 use Rattle.std.specs.Prelude.{ℕ, List, Option, Some, None, option_map}
 use Rattle.mod_catalog.specs.declared.catalogue.Catalog.{Catalog}
-use Rattle.boot_model.specs.declared.line.RunEnd.{RunEnd}
+use Rattle.boot_model.specs.{declared.line.RunEnd.RunEnd, BootRun.boot_lines, BootRun.dxe_result, DxeRun.dxe_end, PeiMachine.PeiMachine}
 use Rattle.boot_model.specs.declared.line.RunEnd.TheVariants as E
-use Rattle.boot_model.specs.BootRun.{boot_lines, dxe_result}
-use Rattle.boot_model.specs.DxeRun.{dxe_end}
-use Rattle.boot_model.specs.PeiMachine.{PeiMachine}
-use Rattle.boot_model.specs.declared.phase_end.PeiEnd.{PeiEnd}
+use Rattle.boot_model.specs.{declared.phase_end.PeiEnd.PeiEnd, PeiRun.pei_end, Text.text_of}
 use Rattle.boot_model.specs.declared.phase_end.PeiEnd.TheVariants.{Handoff, NoMemory, NoIpl, Spent, Deep}
-use Rattle.boot_model.specs.PeiRun.{pei_end}
 use Rattle.store_model.specs.StoreState.{Board}
-use Rattle.boot_model.specs.Text.{text_of}
 
 -- the result behind a PEI that has ended so: that of DXE where PEI handed off
 abbrev pub end_after : Catalog → ℕ → PeiMachine → Option PeiEnd → Option RunEnd

@@ -1,9 +1,8 @@
 // The boot of a generated volume.
 ghost use Rattle.std.specs.Prelude.{◌≡◌, ◌≤◌, None, IfOk, length};
 ghost use Rattle.pi_base.specs.Field.{AreBytes};
-ghost use Rattle.boot_core.specs.Examining.{IsExamined, IsJob};
+ghost use Rattle.boot_core.specs.{Examining.IsExamined, Examining.IsJob, Outcome.Ends};
 ghost use Rattle.boot_core.specs.GeneratedOutcome.{GeneratedOutcome, generated_images, generated_plan};
-ghost use Rattle.boot_core.specs.Outcome.{Ends};
 ghost use Rattle.boot_core.specs.Summing.{IsSummary, IsSummaryBy, SumsUp};
 ghost use Rattle.fv_volume.specs.Generated.{generated};
 ghost use Rattle.mod_catalog.specs.WellFormed.{IsWellFormed};

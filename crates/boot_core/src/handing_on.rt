@@ -1,16 +1,10 @@
 // What PEI hands on in the boot of a plan's images.
 ghost use Rattle.std.specs.Prelude.{◌≡◌, ◌≤◌, Some, IfOk, IfErr, length};
-ghost use Rattle.boot_model.specs.PeiMachine.{PeiMachine};
-ghost use Rattle.boot_model.specs.PeiRun.{pei_end};
-ghost use Rattle.boot_model.specs.PlanBoard.{board_of};
+ghost use Rattle.boot_model.specs.{PeiMachine.PeiMachine, PeiRun.pei_end, PlanBoard.board_of};
 ghost use Rattle.boot_plan.specs.Range.{IsPlanInRange};
 ghost use Rattle.mod_catalog.specs.WellFormed.{IsWellFormed};
-ghost use Rattle.store_model.specs.Service.{Present};
-ghost use Rattle.store_model.specs.StateFacts.{IsBoard};
-ghost use Rattle.store_model.specs.StoreState.{Board, empty_store};
-ghost use Rattle.store_model.specs.StoreCall.{Anything};
-ghost use Rattle.boot_core.specs.Examining.{AreRefused};
-ghost use Rattle.boot_core.specs.HandOff.{HandsOn, IsHandOff};
+ghost use Rattle.store_model.specs.{Service.Present, StateFacts.IsBoard, StoreState.Board, StoreState.empty_store, StoreCall.Anything};
+ghost use Rattle.boot_core.specs.{Examining.AreRefused, HandOff.HandsOn, HandOff.IsHandOff};
 
 use crate::images::examine;
 use crate::nowhere::Nowhere;

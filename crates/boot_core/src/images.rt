@@ -3,9 +3,8 @@ ghost use Rattle.std.specs.Prelude.{◌≡◌, None, IfOk, IfErr, length, ⊤};
 ghost use Rattle.boot_plan.specs.Range.{IsPlanInRange};
 ghost use Rattle.boot_core.specs.declared.command_line.Command.TheVariants.{Audit, Boot};
 ghost use Rattle.boot_core.specs.Examining.{AreRefused, IsExamined, IsFaultTold};
-ghost use Rattle.boot_core.specs.Handing.{HandsBackOf};
+ghost use Rattle.boot_core.specs.{Handing.HandsBackOf, Wanting.IsWantedOutsidePeiOf};
 ghost use Rattle.boot_core.specs.Outcome.{CommandOutcome, Ends, ImagesOutcome, kind_of};
-ghost use Rattle.boot_core.specs.Wanting.{IsWantedOutsidePeiOf};
 
 use crate::answer::answer;
 use crate::audit_print::put_audit;

@@ -1,13 +1,11 @@
 // The boot of a plan whose images have a catalogue.
 ghost use Rattle.std.specs.Prelude.{◌≤◌, IfErr, IfOk, None, false, length, ⊤};
-ghost use Rattle.store_model.specs.StateFacts.{IsBoard};
-ghost use Rattle.store_model.specs.StoreState.{empty_store};
+ghost use Rattle.store_model.specs.{StateFacts.IsBoard, StoreState.empty_store};
 ghost use Rattle.mem_store.specs.MemState.{StandsFor};
 ghost use Rattle.boot_model.specs.PlanBoard.{board_of};
 ghost use Rattle.mod_catalog.specs.WellFormed.{IsWellFormed};
-ghost use Rattle.boot_core.specs.Handing.{HandsBack, IsBooted};
+ghost use Rattle.boot_core.specs.{Handing.HandsBack, Handing.IsBooted, Wanting.IsWantedOutsidePei};
 ghost use Rattle.boot_core.specs.Outcome.{Ends, BootOutcome, kind_of};
-ghost use Rattle.boot_core.specs.Wanting.{IsWantedOutsidePei};
 ghost use Rattle.boot_core.specs.FirstBoot.{RunsTo, WantsOutsidePei};
 ghost use Rattle.boot_io.specs.Halted.{HaltsAfter};
 

@@ -1,10 +1,8 @@
 // The summary of a boot whose lines nobody reads.
 ghost use Rattle.std.specs.Prelude.{◌≡◌, [], ◌∷◌, decimal, option_map};
-ghost use Rattle.boot_io.specs.Line.{line_of};
-ghost use Rattle.boot_io.specs.Sink.{Puts, SinkFaultsAfter};
+ghost use Rattle.boot_io.specs.{Line.line_of, Sink.Puts, Sink.SinkFaultsAfter};
 ghost use Rattle.boot_model.specs.PeiMachine.{PeiMachine};
-ghost use Rattle.store_model.specs.Service.{Present};
-ghost use Rattle.store_model.specs.StoreCall.{Anything};
+ghost use Rattle.store_model.specs.{Service.Present, StoreCall.Anything};
 ghost use Rattle.mod_catalog.specs.declared.catalogue.Catalog.{Catalog};
 ghost use Rattle.pei_dispatch.specs.Ends.{IsLeft};
 ghost use Rattle.boot_core.specs.GeneratedOutcome.{index_text, module_index, summary_line_text, summary_lines, summary_text};

@@ -1,9 +1,7 @@
 -- What holds of a fault of files in memory holds where it failed, and where memory was wanting.
 use Rattle.std.proofs.Common.{◌≡◌, ◌≢◌, List, ℕ, sym, subst, refl}
-use Rattle.boot_io.specs.declared.files.FileFault.{FileFault}
+use Rattle.boot_io.specs.{declared.files.FileFault.FileFault, declared.memory_files.MemFiles.MemFiles, MemFiles.failed_at}
 use Rattle.boot_io.specs.declared.files.FileFault.TheVariants.{Failed, TooLong, Memory}
-use Rattle.boot_io.specs.declared.memory_files.MemFiles.{MemFiles}
-use Rattle.boot_io.specs.MemFiles.{failed_at}
 
 memory_is : Memory ≢ Failed
 memory_is e = cc

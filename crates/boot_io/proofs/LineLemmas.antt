@@ -1,7 +1,6 @@
 -- Words that are gathered in a line.
-use Rattle.std.proofs.Common.{◌≡◌, ◌<◌, ◌≤◌, ℕ, ◌+◌, List, [], ◌∷◌, ◌++◌, length, refl, sym, ap, ◌∙◌, take, drop, get_or, append_assoc, flat_map}
-use Rattle.std.proofs.lemmas.List.{append-nil, take_more, take-append-drop, take_all}
-use Rattle.std.specs.Borrow.{Bor}
+use Rattle.std.proofs.Common.{◌≡◌, ◌<◌, ◌≤◌, ℕ, ◌+◌, List, [], ◌∷◌, ◌++◌, length, refl, sym, ap, ◌∙◌, take, drop, get_or, append_assoc, flat_map, append-nil, take-append-drop, take_all, Bor}
+use Rattle.std.proofs.lemmas.List.{take_more}
 use Rattle.boot_io.specs.Line.{spaced, words_now}
 
 -- the text of words

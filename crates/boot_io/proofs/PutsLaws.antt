@@ -1,11 +1,9 @@
 -- Texts that are put one after another, which callers cite: what is told of a sink after several puts.
-use Rattle.std.proofs.Common.{◌≡◌, ◌<◌, ℕ, ◌+◌, List, [], ◌∷◌, ◌++◌, length, sym, ap, ◌∙◌, take, drop, get_or, append_assoc, flat_map, Option, Some, None, Result, Ok, Err, IsErr, true≢false, subst}
-use Rattle.std.proofs.lemmas.List.{flat_map_more, take_more, drop_more, take-append-drop, append-nil}
+use Rattle.std.proofs.Common.{◌≡◌, ◌<◌, ℕ, ◌+◌, List, [], ◌∷◌, ◌++◌, length, sym, ap, ◌∙◌, take, drop, get_or, append_assoc, flat_map, Option, Some, None, Result, Ok, Err, IsErr, true≢false, subst, take-append-drop, append-nil}
+use Rattle.std.proofs.lemmas.List.{flat_map_more, take_more, drop_more}
 use Rattle.std.specs.Io.KnownBytes.{Appends}
 use Rattle.std.proofs.lemmas.Grind.{flat_map-append}
-use Rattle.boot_io.specs.declared.sink.SinkFault.{SinkFault}
-use Rattle.boot_io.specs.Sink.{Puts, AppendsPart}
-use Rattle.boot_io.specs.Line.{Gathers}
+use Rattle.boot_io.specs.{declared.sink.SinkFault.SinkFault, Sink.Puts, Sink.AppendsPart, Line.Gathers}
 
 -- one text, and then another
 pub appends_then : (old mid new : Option (List ℕ)) (a b : List ℕ) → Appends old mid a → Appends mid new b → Appends old new (a ++ b)

@@ -1,10 +1,6 @@
 -- What was read of a content, where it is told.
-use Rattle.std.proofs.Common.{arith, ◌≡◌, ◌≢◌, ◌<◌, ◌≤◌, ℕ, ◌+◌, List, ◌++◌, length, refl, sym, ap, ◌∙◌, subst, take, drop, append_assoc, Option, Some, None, Err, IfSome}
-use Rattle.std.proofs.lemmas.List.{take-append-drop, append-nil, length-append, length-take, take_all}
-use Rattle.std.specs.Prelude.{option_map}
-use Rattle.std.specs.Io.{StartsWith, appended_bytes}
-use Rattle.std.specs.declared.io.traits.Take.{Take}
-use Rattle.std.specs.Io.Take.{take_inner, take_remaining}
+use Rattle.std.proofs.Common.{arith, ◌≡◌, ◌≢◌, ◌<◌, ◌≤◌, ℕ, ◌+◌, List, ◌++◌, length, refl, sym, ap, ◌∙◌, subst, take, drop, append_assoc, Option, Some, None, Err, IfSome, take-append-drop, append-nil, length-append, length-take, take_all, option_map}
+use Rattle.std.specs.{Io.StartsWith, Io.appended_bytes, declared.io.traits.Take.Take, Io.Take.take_inner, Io.Take.take_remaining}
 use Rattle.std.specs.Io.KnownBytes.{Consumes, IsAtEnd}
 use Rattle.boot_io.specs.declared.files.FileFault.{FileFault}
 use Rattle.boot_io.specs.declared.files.FileFault.TheVariants.{Failed, TooLong, Memory}

@@ -1,8 +1,6 @@
 -- What a part of a boot leaves of the sink's count of faults, by its answer.
 use Rattle.std.specs.Prelude.{◌≡◌, ℕ, ◌≤◌, Result, Ok, Err}
-use Rattle.boot_io.specs.declared.halt.Halt.{Halt}
-use Rattle.boot_io.specs.declared.halt.Halt.TheVariants.{Sink, Memory}
-use Rattle.boot_io.specs.Faults.{Rose}
+use Rattle.boot_io.specs.{declared.halt.Halt.Halt, declared.halt.Halt.TheVariants.Sink, declared.halt.Halt.TheVariants.Memory, Faults.Rose}
 
 -- the count rises where a line could not be put, and nowhere else
 abbrev pub HaltsAfter : {A : Type 0} → Result A Halt → ℕ → ℕ → Type 0

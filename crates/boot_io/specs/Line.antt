@@ -1,9 +1,7 @@
 -- Lines of words: a keyword, each other word after a space, and a line feed. A line is gathered, so that the sink is called once.
 use Rattle.std.specs.Prelude.{◌≡◌, ℕ, List, [], ◌∷◌, ◌++◌, flat_map, Option, Result, Ok, Err}
-use Rattle.std.specs.Borrow.{Bor}
-use Rattle.std.specs.Io.KnownBytes.{Appends}
-use Rattle.boot_io.specs.declared.sink.SinkFault.{SinkFault}
-use Rattle.boot_io.specs.Sink.{AppendsPart}
+use Rattle.std.specs.{Borrow.Bor, Io.KnownBytes.Appends}
+use Rattle.boot_io.specs.{declared.sink.SinkFault.SinkFault, Sink.AppendsPart}
 
 -- a word after a space
 abbrev pub spaced : List ℕ → List ℕ

@@ -1,8 +1,7 @@
 -- What leaves a program of the text that it has put.
 use Rattle.std.specs.Prelude.{ℕ, List, Option, Some, None, Result, Ok, Err, ⊤}
 use Rattle.std.specs.Io.KnownBytes.{Keeps}
-use Rattle.boot_io.specs.declared.sink.SinkFault.{SinkFault}
-use Rattle.boot_io.specs.Faults.{IsPrefix}
+use Rattle.boot_io.specs.{declared.sink.SinkFault.SinkFault, Faults.IsPrefix}
 
 -- what has left begins the text, where both are told
 abbrev pub HasBegun : Option (List ℕ) → Option (List ℕ) → Type 0

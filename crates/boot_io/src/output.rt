@@ -1,7 +1,6 @@
 // The output of a program: its text leaves in large pieces.
 ghost use Rattle.std.specs.Prelude.{◌≡◌, [], OnOk, IfOk};
-ghost use Rattle.std.specs.Io.Buffered.{writer_buffer, writer_contents};
-ghost use Rattle.std.specs.Io.KnownBytes.{Keeps};
+ghost use Rattle.std.specs.{Io.Buffered.writer_buffer, Io.Buffered.writer_contents, Io.KnownBytes.Keeps};
 ghost use Rattle.boot_io.specs.Output.{HasLeftBy};
 
 use crate::again::{TRIES, may_get_through};

@@ -1,8 +1,7 @@
 // What a reader has left, read to where it stays, at any reader of std.
 ghost use Rattle.std.specs.Prelude.{◌≡◌, ◌≢◌, ◌++◌, ℕ, List, OnOk, IfErr};
 ghost use Rattle.std.specs.Io.KnownBytes.{Consumes, IsAtEnd};
-ghost use Rattle.boot_io.specs.declared.files.FileFault.TheVariants.{TooLong};
-ghost use Rattle.boot_io.specs.Files.{IntoAfter};
+ghost use Rattle.boot_io.specs.{declared.files.FileFault.TheVariants.TooLong, Files.IntoAfter};
 
 use crate::FileFault;
 use crate::again::{TRIES, may_get_through};

@@ -1,41 +1,26 @@
 -- What an action of PEI changes of the GUIDs that are installed.
-use Rattle.std.proofs.Common.{◌≡◌, ℕ, ◌∙◌, ap, Bool, true, false, cond, List, [], ◌∷◌, Option, Some, None, refl, Ok, Err, map, ◌||◌, ◌++◌, subst, sym}
-use Rattle.std.specs.Bool.{⊤}
-use Rattle.std.specs.Option.{option_to_list}
-use Rattle.std.specs.Prelude.{◌+◌, not, nat_lt, option_map, unwrap_or, length}
-use Rattle.std.specs.List.{list_all}
-use Rattle.pi_base.specs.declared.guid.Guid.{Guid}
+use Rattle.std.proofs.Common.{◌≡◌, ℕ, ◌∙◌, ap, Bool, true, false, cond, List, [], ◌∷◌, Option, Some, None, refl, Ok, Err, map, ◌||◌, ◌++◌, subst, sym, option_to_list, ◌+◌, not, nat_lt, option_map, unwrap_or, length}
+use Rattle.std.specs.{Bool.⊤, List.list_all}
+use Rattle.pi_base.specs.{declared.guid.Guid.Guid, Lists.Each}
 use Rattle.act_code.specs.declared.action.Action.{Action}
-use Rattle.boot_model.specs.PeiMachine.{Frame}
-use Rattle.boot_model.specs.declared.frame.Register.{Register}
-use Rattle.store_model.specs.declared.store_handle.Desc.{Desc}
-use Rattle.store_model.specs.declared.store_handle.Pool.{Pool}
-use Rattle.store_model.specs.declared.store_handle.Sweep.{Sweep}
+use Rattle.boot_model.specs.{PeiMachine.Frame, declared.frame.Register.Register, MachineFacts.HoldRegisters}
+use Rattle.store_model.specs.{declared.store_handle.Desc.Desc, declared.store_handle.Pool.Pool, declared.store_handle.Sweep.Sweep}
 use Rattle.store_model.specs.declared.store_handle.StoreFault.TheVariants as F
-use Rattle.pi_base.specs.Lists.{Each}
-use Rattle.store_model.specs.StoreState.{StoreState, free}
-use Rattle.store_model.specs.StateFacts.{IsPool, IsStoreState}
-use Rattle.store_model.specs.Service.{Service}
+use Rattle.store_model.specs.{StoreState.StoreState, StoreState.free, StateFacts.IsPool, StateFacts.IsStoreState, Service.Service}
 use Rattle.store_model.specs.Service.Descriptor.{guid_at, kind_at, is_ppi, offsets, desc}
 use Rattle.store_model.specs.Service.Install.{has_ppi, install_pairs, install_sweep, installed, is_installed, node_need, reinstall_pairs, reinstall_sweep, reinstalled, install, reinstall}
 use Rattle.store_model.specs.Service.Memory.{pages, with_boot_mode, set_memory}
-use Rattle.store_model.specs.Service.Pool.{pool}
+use Rattle.store_model.specs.{Service.Pool.pool, Service.Notify.notify, Service.Hob.create_hob}
 use Rattle.boot_model.specs.Registers.{pool_in, descriptor_in, register, both, descriptors_in, is_success}
 use Rattle.boot_model.specs.PeiAction.{Reply, Effect, Wrote, Called, Own, Shadowed, Logged, Skipped, Returned, effect, kind_number}
 use Rattle.boot_model.specs.EvaluationBound.{is_called, action_guids, changed_places}
-use Rattle.boot_model.specs.MachineFacts.{HoldRegisters}
-use Rattle.boot_laws.specs.ChangedGuids.{is_among}
+use Rattle.boot_laws.specs.{ChangedGuids.is_among, EffectForms.EffectHas, EffectForms.RepliesHave}
 use Rattle.boot_model.specs.EventGuids.{placed, placed_guids}
-use Rattle.boot_laws.proofs.GuidLists.{each_among, or_false}
+use Rattle.boot_laws.proofs.{GuidLists.each_among, GuidLists.or_false, EffectForms.effect_has, EffectForms.any_writes}
 use Rattle.boot_laws.proofs.InstalledGuids.{AreThere, installed_has, ppi_is, ppis_are, reinstalled_has, reinstalled_there}
 use Rattle.boot_laws.proofs.LastingGuids.{IsQuiet, named, quiet_has}
 use Rattle.boot_laws.proofs.QuietServices.{KeepsQuiet, OptionQuiet, pool_quiet, desc_quiet, notify_quiet, hob_quiet, memory_quiet, pages_quiet, store_quiet}
-use Rattle.boot_model.proofs.ListFacts.{each_more, has_later}
-use Rattle.boot_model.proofs.Held.{pool_is, is_held as held_at}
-use Rattle.boot_laws.specs.EffectForms.{EffectHas, RepliesHave}
-use Rattle.boot_laws.proofs.EffectForms.{effect_has, any_writes}
-use Rattle.store_model.specs.Service.Notify.{notify}
-use Rattle.store_model.specs.Service.Hob.{create_hob}
+use Rattle.boot_model.proofs.{ListFacts.each_more, ListFacts.has_later, Held.pool_is, Held.is_held as held_at}
 
 -- what changes from one state to another, and what is there then
 pub record Puts (s new : StoreState) (changed placed : List Guid) : Type 0 where

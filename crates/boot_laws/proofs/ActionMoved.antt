@@ -1,19 +1,14 @@
 -- No action of PEI moves the store.
 use Rattle.std.proofs.Common.{◌≡◌, refl, Ok, subst}
 use Rattle.std.specs.Bool.{⊤}
-use Rattle.store_model.specs.Service.Memory.{pages, set_memory}
+use Rattle.store_model.specs.{Service.Memory.pages, Service.Memory.set_memory, StoreState.StoreState, Service.Service, Service.Pool.pool}
 use Rattle.act_code.specs.declared.action.Action.{Action}
-use Rattle.store_model.specs.StoreState.{StoreState}
-use Rattle.store_model.specs.Service.{Service}
-use Rattle.store_model.specs.Service.Pool.{pool}
 use Rattle.boot_model.specs.PeiMachine.{Frame}
 use Rattle.boot_model.specs.PeiAction.{Effect, effect, kind_number}
 use Rattle.boot_laws.proofs.StoreMoved.{KeepsMoved, OptionMoved, pool_moved, desc_moved, install_moved, notify_moved, reinstall_moved, hob_moved, memory_moved, pages_moved, store_moved}
 use Rattle.boot_laws.specs.EffectForms.{EffectHas, RepliesHave}
 use Rattle.boot_laws.proofs.EffectForms.{effect_has, any_writes}
-use Rattle.store_model.specs.Service.Descriptor.{desc}
-use Rattle.store_model.specs.Service.Install.{install, reinstall}
-use Rattle.store_model.specs.Service.Notify.{notify}
+use Rattle.store_model.specs.{Service.Descriptor.desc, Service.Install.install, Service.Install.reinstall, Service.Notify.notify}
 use Rattle.store_model.specs.Service.Hob.{create_hob}
 
 -- an effect leaves the store moved exactly where it was

@@ -1,6 +1,5 @@
 -- A frame that has just begun has no sweep, and a machine that goes on has not ended.
-use Rattle.std.proofs.Common.{◌≡◌, ℕ, ◌+◌, true, Option, Some, None, is_some, arith}
-use Rattle.std.specs.Option.{option_and_then}
+use Rattle.std.proofs.Common.{◌≡◌, ℕ, ◌+◌, true, Option, Some, None, is_some, arith, option_and_then}
 
 -- where a pair fires the frame stands at a later position
 pub not_begun : {A B : Type 0} (f : A → Option B) (n : ℕ) (o : Option A) → (n ≡ 0 → o ≡ None) → is_some (option_and_then f o) ≡ true → n ≡ 0 → ⊥

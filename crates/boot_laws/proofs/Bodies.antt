@@ -1,19 +1,14 @@
 -- What a register may hold may still stand there where a HOB is added, and where bytes are written into a pool.
 use Rattle.std.proofs.Common.{◌≡◌, ◌≢◌, ℕ, ◌+◌, ◌≤◌, Bool, true, false, List, [], ◌∷◌, ◌++◌, length, take, drop, arith, sym, refl, subst, ◌∙◌, Some, ◌==◌}
 use Rattle.std.proofs.lemmas.Bool.Decides.{nat_tests}
-use Rattle.boot_model.specs.declared.frame.Register.{Register}
+use Rattle.boot_model.specs.{declared.frame.Register.Register, MachineFacts.IsHeld, MachineFacts.HoldRegisters}
 use Rattle.boot_model.specs.declared.frame.Register.TheVariants.{Empty, Number, PoolIn, DescriptorIn, HandleIn}
 use Rattle.store_model.specs.declared.store_handle.Pool.{Pool}
 use Rattle.store_model.specs.declared.state.Body.TheVariants.{Bytes, Descriptor}
-use Rattle.store_model.specs.declared.state.HobEntry.{HobEntry}
+use Rattle.store_model.specs.{declared.state.HobEntry.HobEntry, StateFacts.IsPool, Service.Pool.written}
 use Rattle.store_model.specs.StoreState.{StoreState, body_at, body_from, with_body}
-use Rattle.store_model.specs.StateFacts.{IsPool}
-use Rattle.store_model.specs.Service.Pool.{written}
 use Rattle.store_laws.specs.Bodies.{IsGrown}
-use Rattle.store_laws.proofs.BodyLaws.{all_stay}
-use Rattle.store_laws.proofs.Bodies.{here, elsewhere}
-use Rattle.store_laws.proofs.Changed.{written_len}
-use Rattle.boot_model.specs.MachineFacts.{IsHeld, HoldRegisters}
+use Rattle.store_laws.proofs.{BodyLaws.all_stay, Bodies.here, Bodies.elsewhere, Changed.written_len}
 
 -- what may stand in a register may still
 abbrev pub Stays : StoreState → StoreState → Type 0

@@ -1,19 +1,12 @@
 -- The lines of a boot end with its result, since PEI ends, and DXE where PEI hands off.
 use Rattle.std.proofs.Common.{◌≡◌, ℕ, true, List, [], ◌∷◌, ◌++◌, Option, Some, None, refl, sym, subst, is_some, append_assoc}
-use Rattle.mod_catalog.specs.declared.catalogue.Catalog.{Catalog}
-use Rattle.boot_model.specs.declared.line.Line.{Line}
+use Rattle.mod_catalog.specs.{declared.catalogue.Catalog.Catalog, WellFormed.AreNumbered}
+use Rattle.boot_model.specs.{declared.line.Line.Line, declared.line.RunEnd.RunEnd, Listing.store_lines, PeiMachine.PeiMachine}
 use Rattle.boot_model.specs.declared.line.Line.TheVariants as L
-use Rattle.boot_model.specs.declared.line.RunEnd.{RunEnd}
 use Rattle.boot_model.specs.declared.line.RunEnd.TheVariants as E
-use Rattle.mod_catalog.specs.WellFormed.{AreNumbered}
 use Rattle.store_model.specs.HandleState.{HandleState, no_handles}
-use Rattle.boot_model.specs.Listing.{store_lines}
-use Rattle.boot_model.specs.PeiMachine.{PeiMachine}
-use Rattle.boot_model.specs.declared.phase_end.PeiEnd.{PeiEnd}
+use Rattle.boot_model.specs.{declared.phase_end.PeiEnd.PeiEnd, PeiRun.pei_end, DxeMachine.DxeMachine, declared.phase_end.DxeEnd.DxeEnd}
 use Rattle.boot_model.specs.declared.phase_end.PeiEnd.TheVariants.{Handoff, NoMemory, NoIpl, Spent, Deep}
-use Rattle.boot_model.specs.PeiRun.{pei_end}
-use Rattle.boot_model.specs.DxeMachine.{DxeMachine}
-use Rattle.boot_model.specs.declared.phase_end.DxeEnd.{DxeEnd}
 use Rattle.boot_model.specs.DxeRun.{dxe_end}
 use Rattle.boot_model.specs.BootRun.{handle_lines, dxe_result, closing_lines, pei_lines, both_lines, lines_after}
 use Rattle.boot_laws.specs.BootEnds.{EndsWithResult, BootsEnd}

@@ -2,14 +2,9 @@
 use Rattle.std.proofs.Common.{◌≡◌, [], ◌∷◌, refl, subst, Ok, Err}
 use Rattle.std.specs.Bool.{⊤}
 use Rattle.pi_base.specs.declared.known_guid.TheConstants.{MEMORY_PPI}
-use Rattle.store_model.specs.declared.state.TheConstants.{CORE}
-use Rattle.store_model.specs.declared.store_handle.DescKind.TheVariants.{Ppi}
-use Rattle.store_model.specs.declared.store_handle.Desc.{Desc}
-use Rattle.store_model.specs.declared.store_handle.GuidFrom.TheVariants.{Inline}
-use Rattle.store_model.specs.declared.store_handle.Sweep.{Sweep}
-use Rattle.store_model.specs.StoreState.{StoreState}
-use Rattle.store_model.specs.StateFacts.{IsSweepOf}
-use Rattle.store_model.specs.Service.{Service}
+use Rattle.store_model.specs.{declared.state.TheConstants.CORE, declared.store_handle.DescKind.TheVariants.Ppi}
+use Rattle.store_model.specs.{declared.store_handle.Desc.Desc, declared.store_handle.GuidFrom.TheVariants.Inline}
+use Rattle.store_model.specs.{declared.store_handle.Sweep.Sweep, StoreState.StoreState, StateFacts.IsSweepOf, Service.Service}
 use Rattle.store_model.specs.Service.Descriptor.{desc}
 use Rattle.store_model.specs.Service.Install.{install, both_or_full, core_of, core_install}
 use Rattle.boot_laws.proofs.Staying.{install_stays}

@@ -1,31 +1,19 @@
 -- The cursor turns the order, and so tells only which of the parts that may start is the first.
-use Rattle.std.proofs.Common.{◌≡◌, ℕ, false, List, [], ◌∷◌, Option, Some, None, is_some, refl, sym, ap, subst, take}
-use Rattle.std.specs.Prelude.{◌↔◌}
-use Rattle.std.specs.Option.{option_and_then}
+use Rattle.std.proofs.Common.{◌≡◌, ℕ, false, List, [], ◌∷◌, Option, Some, None, is_some, refl, sym, ap, subst, take, ◌↔◌, option_and_then}
 use Rattle.pi_base.specs.declared.phase.Phase.TheVariants.{Pei}
-use Rattle.mod_catalog.specs.declared.catalogue.Catalog.{Catalog}
-use Rattle.mod_catalog.specs.declared.catalogue.Part.{Part}
-use Rattle.mod_catalog.specs.Parts.{part_at}
-use Rattle.store_model.specs.declared.store_handle.Firing.{Firing}
-use Rattle.store_model.specs.declared.store_handle.Sweep.{Sweep}
-use Rattle.store_model.specs.StoreState.{StoreState}
-use Rattle.store_model.specs.Service.Sweep.{next_match}
-use Rattle.store_model.specs.Service.Queue.{queue_pop}
-use Rattle.store_model.specs.Migration.{migration}
-use Rattle.boot_model.specs.declared.line.Line.{Line}
-use Rattle.boot_model.specs.declared.phase_end.PeiEnd.{PeiEnd}
+use Rattle.mod_catalog.specs.{declared.catalogue.Catalog.Catalog, declared.catalogue.Part.Part, Parts.part_at}
+use Rattle.store_model.specs.{declared.store_handle.Firing.Firing, declared.store_handle.Sweep.Sweep, StoreState.StoreState}
+use Rattle.store_model.specs.{Service.Sweep.next_match, Service.Queue.queue_pop, Migration.migration}
+use Rattle.boot_model.specs.{declared.line.Line.Line, declared.phase_end.PeiEnd.PeiEnd, Eligible.is_eligible}
 use Rattle.boot_model.specs.declared.phase_end.PeiEnd.TheVariants.{Handoff, NoMemory, NoIpl, Spent, Deep}
-use Rattle.boot_model.specs.Eligible.{is_eligible}
-use Rattle.boot_model.specs.PeiChoice.{pei_order, next_peim}
-use Rattle.boot_model.specs.PeiMachine.{PeiMachine, Frame}
+use Rattle.boot_model.specs.{PeiChoice.pei_order, PeiChoice.next_peim, PeiMachine.PeiMachine, PeiMachine.Frame}
 use Rattle.boot_model.specs.PeiStep.{PeiCase, Starts, Stops, case_of, in_case, pei_step, started, started_part, stopped, open_sweep}
 use Rattle.boot_model.specs.FreeRun.{MayStart, AreFreeLinesAfter, AreFreePeiLines}
-use Rattle.boot_laws.proofs.PeiCases.{cases}
+use Rattle.boot_laws.proofs.{PeiCases.cases, PeiWays.may_has_part, PeiWays.next_may_start}
 use Rattle.boot_laws.proofs.PeiSteps as P
 use Rattle.boot_laws.specs.PeiFree.{IsOwnCase}
 use Rattle.boot_laws.specs.PeiAim.{with_cursor, IsChoice, CursorAims, CursorIsFree}
 use Rattle.boot_laws.proofs.NumberLists.{each_rotated, each_turned, none_found, finds_none, finds_at}
-use Rattle.boot_laws.proofs.PeiWays.{may_has_part, next_may_start}
 use Rattle.boot_laws.proofs.PeiRuns.{goes_on, starts_freely, ends_so}
 
 -- what a machine that chooses does, by what it finds

@@ -3,12 +3,9 @@ use Rattle.std.proofs.Common.{◌≡◌, ℕ, Some, refl, ◌⊎◌, inl, inr}
 use Rattle.std.specs.Bool.{⊤}
 use Rattle.act_code.specs.declared.action.Action.{Action}
 use Rattle.mod_catalog.specs.declared.catalogue.Catalog.{Catalog}
-use Rattle.boot_model.specs.DxeMachine.{DriverFrame}
-use Rattle.boot_model.specs.Reporting.{newcomers}
-use Rattle.boot_model.specs.DxeMachine.{DxeMachine}
+use Rattle.boot_model.specs.{DxeMachine.DriverFrame, DxeMachine.DxeMachine, Reporting.newcomers}
 use Rattle.boot_model.specs.DxeAction.{DxeEffect, dxe_effect, with_volumes}
-use Rattle.boot_laws.specs.EffectForms.{EffectHas}
-use Rattle.boot_laws.specs.DriverEffectForms.{DriverRepliesHave}
+use Rattle.boot_laws.specs.{EffectForms.EffectHas, DriverEffectForms.DriverRepliesHave}
 use Rattle.boot_laws.proofs.DriverEffectForms.{driver_effect_has}
 
 -- the queue and what it is made from stay

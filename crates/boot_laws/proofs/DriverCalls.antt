@@ -1,15 +1,13 @@
 -- What the calls of DXE keep of the store, the requests, the lines and the actions, and that a refused one changes nothing.
-use Rattle.std.proofs.Common.{◌≡◌, ℕ, List, [], ◌∷◌, ◌++◌, refl, ap, ◌∙◌}
-use Rattle.std.specs.Prelude.{◌≢◌, ⊤}
-use Rattle.pi_base.specs.declared.word.Word.{Word}
-use Rattle.pi_base.specs.declared.word.Word.TheVariants.{Success}
+use Rattle.std.proofs.Common.{◌≡◌, ℕ, List, [], ◌∷◌, ◌++◌, refl, ap, ◌∙◌, ◌≢◌}
+use Rattle.std.specs.Prelude.{⊤}
+use Rattle.pi_base.specs.{declared.word.Word.Word, declared.word.Word.TheVariants.Success}
 use Rattle.act_code.specs.declared.action.Action.{Action}
 use Rattle.mod_catalog.specs.declared.catalogue.Catalog.{Catalog}
 use Rattle.boot_model.specs.DxeMachine.{DxeMachine, DriverFrame}
 use Rattle.boot_model.specs.DxeAction.{DxeReply, DxeEffect, Wrote, Called, Logged, Skipped, Returned, Own, dxe_effect, dxe_refusal}
 use Rattle.boot_laws.specs.DriverSteps.{IsWithoutEffect, BeginsWith, ChangesNothingIfRefused, RefusedCallsChangeNothing}
-use Rattle.boot_laws.specs.EffectForms.{EffectHas}
-use Rattle.boot_laws.specs.DriverEffectForms.{DriverRepliesHave}
+use Rattle.boot_laws.specs.{EffectForms.EffectHas, DriverEffectForms.DriverRepliesHave}
 use Rattle.boot_laws.proofs.DriverEffectForms.{driver_effect_has}
 
 -- what an answer keeps

@@ -1,22 +1,18 @@
 -- What holds of each form of reply holds of every action of DXE: the one list of its actions.
 use Rattle.std.proofs.Common.{◌≡◌, ℕ, zero, suc, ◌+◌, ◌%◌, ◌^◌, Bool, true, false, cond, Option, Some, None, refl, Ok, Err, option_map}
 use Rattle.std.specs.Prelude.{⊤}
-use Rattle.pi_base.specs.declared.guid.Guid.{Guid}
-use Rattle.pi_base.specs.declared.word.Word.{Word}
+use Rattle.pi_base.specs.{declared.guid.Guid.Guid, declared.word.Word.Word}
 use Rattle.pi_base.specs.declared.word.Word.TheVariants.{InvalidParameter, NotFound, AlreadyStarted}
 use Rattle.act_code.specs.declared.action.Action.{Action}
 use Rattle.act_code.specs.declared.action.Action.TheVariants as A
-use Rattle.mod_catalog.specs.declared.catalogue.Catalog.{Catalog}
-use Rattle.mod_catalog.specs.Parts.{has_number, volume_at}
+use Rattle.mod_catalog.specs.{declared.catalogue.Catalog.Catalog, Parts.has_number, Parts.volume_at}
 use Rattle.store_model.specs.MemoryReading.{bytes_at}
 use Rattle.store_model.specs.HandleState.{HandleState, HandleService, install_interface, reinstall_interface, uninstall_interface, locate_handle}
-use Rattle.boot_model.specs.declared.driver.ProtocolSweep.{ProtocolSweep}
+use Rattle.boot_model.specs.{declared.driver.ProtocolSweep.ProtocolSweep, DxeMachine.DxeMachine, DxeMachine.DriverFrame}
 use Rattle.boot_model.specs.declared.line.Extra.TheVariants as X
 use Rattle.boot_model.specs.Registers.{both, handle_in, number_in}
-use Rattle.boot_model.specs.DxeMachine.{DxeMachine, DriverFrame}
 use Rattle.boot_model.specs.DxeAction.{DxeReply, dxe_effect, dxe_told, dxe_where, dxe_refusal, with_handles, protocol_sweep, peek_reply, install_answer, install_target, install_reply, reinstall_answer, reinstall_reply, uninstall_answer, uninstall_reply, locate_reply, unrequested_named, schedule_reply, process_reply, process_volume}
-use Rattle.boot_laws.specs.EffectForms.{EffectHas}
-use Rattle.boot_laws.specs.DriverEffectForms.{DriverRepliesHave}
+use Rattle.boot_laws.specs.{EffectForms.EffectHas, DriverEffectForms.DriverRepliesHave}
 use Rattle.boot_laws.proofs.EffectForms.{number_has}
 
 -- with an argument, or without one

@@ -1,30 +1,21 @@
 -- A step of DXE keeps the store, and adds volumes, requests and drivers behind those that there were.
-use Rattle.std.proofs.Common.{◌≡◌, ℕ, ◌+◌, ◌<◌, Bool, true, false, cond, List, [], ◌∷◌, ◌++◌, length, Option, Some, None, refl, sym, ap, ◌∙◌, inl, inr, map, nat_le, arith, append_assoc}
-use Rattle.std.specs.Prelude.{find, flat_map}
-use Rattle.pi_base.specs.declared.guid.Guid.{Guid}
-use Rattle.pi_base.specs.declared.phase.Phase.TheVariants.{Dxe}
-use Rattle.pi_base.specs.Guids.{same_guid}
-use Rattle.pi_base.specs.Lists.{Each}
-use Rattle.mod_catalog.specs.declared.catalogue.Catalog.{Catalog}
-use Rattle.mod_catalog.specs.declared.catalogue.Part.{Part}
+use Rattle.std.proofs.Common.{◌≡◌, ℕ, ◌+◌, ◌<◌, Bool, true, false, cond, List, [], ◌∷◌, ◌++◌, length, Option, Some, None, refl, sym, ap, ◌∙◌, inl, inr, map, nat_le, arith, append_assoc, find, flat_map}
+use Rattle.pi_base.specs.{declared.guid.Guid.Guid, declared.phase.Phase.TheVariants.Dxe, Guids.same_guid, Lists.Each}
+use Rattle.mod_catalog.specs.{declared.catalogue.Catalog.Catalog, declared.catalogue.Part.Part}
 use Rattle.mod_catalog.specs.Parts.{part_of, part_at, parts_in, module_name}
-use Rattle.boot_model.specs.declared.driver.Scheduled.{Scheduled}
+use Rattle.boot_model.specs.{declared.driver.Scheduled.Scheduled, Reporting.newcomers, DxeMachine.DxeMachine, DxeMachine.DriverFrame}
 use Rattle.boot_model.specs.declared.phase_end.DxeEnd.TheVariants as DxeEnds
-use Rattle.boot_model.specs.Reporting.{newcomers}
-use Rattle.boot_model.specs.DxeMachine.{DxeMachine, DriverFrame}
 use Rattle.boot_model.specs.DxeChoice.{drivers_of, driver_named, discovered_order}
 use Rattle.boot_model.specs.DxeAction.{DxeEffect, Wrote, Called, Logged, Skipped, Returned, Own, dxe_effect}
 use Rattle.boot_model.specs.DxeStep.{DxeCase, DxeFires, DxeActs, DxeStarts, DxeStops, dxe_case_of, in_dxe_case, protocol_begun, after_dxe_effect, with_action, dxe_action_at, driver_started}
-use Rattle.boot_model.specs.DxeRun.{dxe_run, dxe_opening}
-use Rattle.boot_model.specs.DriverLicence.{numbers_of}
+use Rattle.boot_model.specs.{DxeRun.dxe_run, DxeRun.dxe_opening, DriverLicence.numbers_of}
 use Rattle.boot_laws.specs.DriverSteps.{BeginsWith, DriverStepsGrow, AreFewDrivers, DriversAreFew}
 use Rattle.boot_model.proofs.ListFacts.{each_more, each_append, within}
 use Rattle.boot_model.proofs.Distinct.{all_differ, distinct_append, few_below}
 use Rattle.boot_laws.proofs.PartLists.{IsKnown, distinct_of, known_of, drivers_are}
-use Rattle.boot_laws.proofs.Queue.{IsQueued}
+use Rattle.boot_laws.proofs.{Queue.IsQueued, DxeOnce.run_queued, DxeOnce.opens_queued}
 use Rattle.boot_laws.proofs.DriverActions.{Follows, EffectFollows, effect_follows}
 use Rattle.boot_laws.proofs.DriverCalls.{EffectKeeps, effect_keeps, to_end}
-use Rattle.boot_laws.proofs.DxeOnce.{run_queued, opens_queued}
 
 -- the store, the volumes and the requests
 abbrev Grows : DxeMachine → DxeMachine → Type 0

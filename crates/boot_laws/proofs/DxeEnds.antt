@@ -1,23 +1,15 @@
 -- A run of DXE ends.
-use Rattle.std.proofs.Common.{◌≡◌, ℕ, zero, suc, ◌+◌, ◌≤◌, ◌<◌, Bool, true, false, cond, List, [], ◌∷◌, Option, Some, None, refl, ap, subst, nat_le, length, arith, is_some}
-use Rattle.std.specs.Option.{option_and_then}
+use Rattle.std.proofs.Common.{◌≡◌, ℕ, zero, suc, ◌+◌, ◌≤◌, ◌<◌, Bool, true, false, cond, List, [], ◌∷◌, Option, Some, None, refl, ap, subst, nat_le, length, arith, is_some, option_and_then}
 use Rattle.pi_base.specs.declared.phase.Phase.TheVariants.{Dxe}
 use Rattle.act_code.specs.declared.action.Action.{Action}
-use Rattle.mod_catalog.specs.declared.catalogue.Catalog.{Catalog}
-use Rattle.mod_catalog.specs.declared.catalogue.Part.{Part}
-use Rattle.boot_model.specs.DxeMachine.{DriverFrame}
-use Rattle.boot_model.specs.declared.driver.Scheduled.{Scheduled}
-use Rattle.mod_catalog.specs.WellFormed.{AreNumbered}
-use Rattle.mod_catalog.specs.Parts.{part_at}
-use Rattle.boot_model.specs.DxeMachine.{DxeMachine}
+use Rattle.mod_catalog.specs.{declared.catalogue.Catalog.Catalog, declared.catalogue.Part.Part, WellFormed.AreNumbered, Parts.part_at}
+use Rattle.boot_model.specs.{DxeMachine.DriverFrame, DxeMachine.DxeMachine, declared.driver.Scheduled.Scheduled}
 use Rattle.boot_model.specs.declared.phase_end.DxeEnd.TheVariants as DxeEnds
 use Rattle.boot_model.specs.DxeAction.{DxeEffect, Wrote, Called, Logged, Skipped, Returned, Own, dxe_effect}
 use Rattle.boot_model.specs.DxeStep.{DxeCase, DxeFires, DxeActs, DxeStarts, DxeStops, dxe_case_of, in_dxe_case, dxe_step, next_note, protocol_begun, after_dxe_effect, with_action, dxe_action_at, driver_started, start_frames}
 use Rattle.boot_model.specs.DxeRun.{dxe_run, dxe_opening, dxe_bound}
 use Rattle.boot_laws.specs.RunsEnd.{DxeRunsEnd}
-use Rattle.boot_laws.proofs.Counting.{missing_most}
-use Rattle.boot_laws.proofs.DxeCases.{fires_from, acts_from}
-use Rattle.boot_laws.proofs.DxeOnce.{case_queued, opens_queued}
+use Rattle.boot_laws.proofs.{Counting.missing_most, DxeCases.fires_from, DxeCases.acts_from, DxeOnce.case_queued, DxeOnce.opens_queued}
 use Rattle.boot_laws.proofs.DxeSteps.{SweepsAreLater, IsUnderWay, steps_left, steps_run_out}
 
 not_begun : {A B : Type 0} (f : A → Option B) (n : ℕ) (o : Option A) → (n ≡ 0 → o ≡ None) → is_some (option_and_then f o) ≡ true → n ≡ 0 → ⊥

@@ -1,33 +1,22 @@
 -- Along a run of DXE each driver that is scheduled has had its licence.
-use Rattle.std.proofs.Common.{◌≡◌, ℕ, zero, suc, Bool, true, false, cond, List, [], ◌∷◌, ◌++◌, Option, Some, None, refl, sym, subst, inl, inr, is_some, nat_le, length}
-use Rattle.std.specs.Prelude.{flat_map}
-use Rattle.std.specs.Option.{option_and_then}
-use Rattle.pi_base.specs.declared.phase.Phase.TheVariants.{Dxe}
-use Rattle.mod_catalog.specs.declared.catalogue.Catalog.{Catalog}
-use Rattle.mod_catalog.specs.declared.catalogue.Part.{Part}
-use Rattle.boot_model.specs.DxeMachine.{DriverFrame}
-use Rattle.boot_model.specs.declared.driver.Scheduled.{Scheduled}
+use Rattle.std.proofs.Common.{◌≡◌, ℕ, zero, suc, Bool, true, false, cond, List, [], ◌∷◌, ◌++◌, Option, Some, None, refl, sym, subst, inl, inr, is_some, nat_le, length, flat_map, option_and_then}
+use Rattle.pi_base.specs.{declared.phase.Phase.TheVariants.Dxe, Lists.Each}
+use Rattle.mod_catalog.specs.{declared.catalogue.Catalog.Catalog, declared.catalogue.Part.Part}
+use Rattle.boot_model.specs.{DxeMachine.DriverFrame, DxeMachine.DxeMachine, declared.driver.Scheduled.Scheduled, Reporting.newcomers}
 use Rattle.boot_model.specs.declared.licence.Licence.TheVariants as G
-use Rattle.pi_base.specs.Lists.{Each}
 use Rattle.store_model.specs.Service.Reading.{fv_bases}
 use Rattle.mod_catalog.specs.Parts.{part_at, rank_at, module_volume}
-use Rattle.boot_model.specs.Reporting.{newcomers}
-use Rattle.boot_model.specs.Discovery.{discoveries}
-use Rattle.boot_model.specs.DxeMachine.{DxeMachine}
+use Rattle.boot_model.specs.{Discovery.discoveries, DxeRun.dxe_opening, DriverLicence.IsMember}
 use Rattle.boot_model.specs.declared.phase_end.DxeEnd.TheVariants as DxeEnds
 use Rattle.boot_model.specs.DxeChoice.{driver_queue, queue_from, a_priori_drivers}
 use Rattle.boot_model.specs.DxeAction.{DxeEffect, Wrote, Called, Logged, Skipped, Returned, Own, dxe_effect, with_volumes}
 use Rattle.boot_model.specs.DxeStep.{DxeCase, DxeFires, DxeActs, DxeStarts, DxeStops, dxe_case_of, in_dxe_case, dxe_step, protocol_begun, after_dxe_effect, with_action, dxe_action_at, driver_started}
-use Rattle.boot_model.specs.DxeRun.{dxe_opening}
-use Rattle.boot_model.specs.DriverLicence.{IsMember}
 use Rattle.boot_laws.specs.DriverLicences.{OneOf, IsApriori, group_of, IsScheduledFrom, WasLicensed, IsLicensedDxeStep, AlongDxeRun, DriversStartLicensed}
 use Rattle.boot_model.proofs.ListFacts.{each_more, each_append, each_both}
 use Rattle.boot_laws.proofs.PartLists.{IsKnown, known_of, ranked_in, ranked_are, each_flat_ranked}
-use Rattle.boot_laws.proofs.Queue.{has_more, has_behind}
+use Rattle.boot_laws.proofs.{Queue.has_more, Queue.has_behind, DxeCases.starts_from}
 use Rattle.boot_laws.proofs.DriverActions.{Follows, EffectFollows, effect_follows}
-use Rattle.boot_laws.proofs.DxeCases.{starts_from}
-use Rattle.boot_laws.proofs.GroupLicences.{each_of_map, schedules_licensed}
-use Rattle.boot_laws.proofs.DxeStopsIdle.{stops_idle}
+use Rattle.boot_laws.proofs.{GroupLicences.each_of_map, GroupLicences.schedules_licensed, DxeStopsIdle.stops_idle}
 
 -- the drivers that are scheduled in a machine were licensed before it
 abbrev QueueWas : Catalog → List DxeMachine → DxeMachine → Type 0

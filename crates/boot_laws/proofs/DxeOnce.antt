@@ -1,34 +1,20 @@
 -- No driver starts twice: each machine of a run keeps its queue without one.
-use Rattle.std.proofs.Common.{◌≡◌, ℕ, zero, suc, Bool, true, false, cond, List, [], ◌∷◌, ◌++◌, Option, Some, None, refl, sym, subst, ap, ◌∙◌, inl, inr, nat_le, length}
-use Rattle.std.specs.Prelude.{flat_map}
-use Rattle.mod_catalog.specs.declared.catalogue.Catalog.{Catalog}
-use Rattle.mod_catalog.specs.declared.catalogue.Part.{Part}
-use Rattle.boot_model.specs.DxeMachine.{DriverFrame}
-use Rattle.boot_model.specs.declared.driver.Scheduled.{Scheduled}
-use Rattle.pi_base.specs.declared.phase.Phase.TheVariants.{Dxe}
-use Rattle.store_model.specs.StoreState.{StoreState}
-use Rattle.store_model.specs.Service.Reading.{fv_bases}
-use Rattle.pi_base.specs.Lists.{Each}
-use Rattle.mod_catalog.specs.WellFormed.{AreNumbered}
-use Rattle.mod_catalog.specs.Parts.{part_at}
-use Rattle.boot_model.specs.Reporting.{newcomers}
-use Rattle.boot_model.specs.Discovery.{discoveries}
-use Rattle.boot_model.specs.DxeMachine.{DxeMachine}
+use Rattle.std.proofs.Common.{◌≡◌, ℕ, zero, suc, Bool, true, false, cond, List, [], ◌∷◌, ◌++◌, Option, Some, None, refl, sym, subst, ap, ◌∙◌, inl, inr, nat_le, length, flat_map}
+use Rattle.mod_catalog.specs.{declared.catalogue.Catalog.Catalog, declared.catalogue.Part.Part, WellFormed.AreNumbered, Parts.part_at}
+use Rattle.boot_model.specs.{DxeMachine.DriverFrame, DxeMachine.DxeMachine, declared.driver.Scheduled.Scheduled, Reporting.newcomers}
+use Rattle.pi_base.specs.{declared.phase.Phase.TheVariants.Dxe, Lists.Each}
+use Rattle.store_model.specs.{StoreState.StoreState, Service.Reading.fv_bases}
+use Rattle.boot_model.specs.{Discovery.discoveries, DxeChoice.a_priori_drivers, DxeRun.dxe_run, DxeRun.dxe_opening}
 use Rattle.boot_model.specs.declared.phase_end.DxeEnd.TheVariants as DxeEnds
-use Rattle.boot_model.specs.DxeChoice.{a_priori_drivers}
 use Rattle.boot_model.specs.DxeAction.{DxeEffect, Wrote, Called, Logged, Skipped, Returned, Own, dxe_effect, with_volumes}
 use Rattle.boot_model.specs.DxeStep.{DxeCase, DxeFires, DxeActs, DxeStarts, DxeStops, dxe_case_of, in_dxe_case, dxe_step, protocol_begun, after_dxe_effect, with_action, dxe_action_at, driver_started}
-use Rattle.boot_model.specs.DxeRun.{dxe_run, dxe_opening}
-use Rattle.boot_laws.specs.DriverStarts.{DriversStartOnce}
-use Rattle.boot_laws.specs.DiscoveredOrder.{DiscoveredOrderHasEachOnce}
-use Rattle.boot_laws.proofs.EachDriver.{has_each_once}
+use Rattle.boot_laws.specs.{DriverStarts.DriversStartOnce, DiscoveredOrder.DiscoveredOrderHasEachOnce}
+use Rattle.boot_laws.proofs.{EachDriver.has_each_once, PartLists.ranked_in, DxeCases.starts_from}
 use Rattle.boot_model.proofs.Distinct.{Distinct, all_differ}
-use Rattle.boot_laws.proofs.PartLists.{ranked_in}
 use Rattle.boot_laws.proofs.Volumes.{IsNew, newcomers_new, newcomers_differ, discoveries_differ}
 use Rattle.boot_model.specs.DriverLicence.{numbers_of}
 use Rattle.boot_laws.proofs.Queue.{AreQueued, IsQueued, discovered_more, head_dropped, head_started, next_queued, numbers_of_map, numbers_of_append}
 use Rattle.boot_laws.proofs.DriverActions.{Follows, EffectFollows, effect_follows}
-use Rattle.boot_laws.proofs.DxeCases.{starts_from}
 
 -- the numbers of the drivers that volumes schedule
 pub priori_numbers : (catalog : Catalog) (volumes : List ℕ) → numbers_of (a_priori_drivers catalog volumes) ≡ flat_map (ranked_in catalog) volumes

@@ -1,30 +1,19 @@
 -- The lines of the free boots from a machine of DXE, a step at a time.
-use Rattle.std.proofs.Common.{◌≡◌, ℕ, zero, suc, ◌≤◌, ◌<◌, true, List, [], ◌∷◌, ◌++◌, Option, Some, None, refl, sym, ap, subst, ◌∙◌, is_some, arith, append_assoc}
-use Rattle.std.specs.Prelude.{◌≢◌}
+use Rattle.std.proofs.Common.{◌≡◌, ℕ, zero, suc, ◌≤◌, ◌<◌, true, List, [], ◌∷◌, ◌++◌, Option, Some, None, refl, sym, ap, subst, ◌∙◌, is_some, arith, append_assoc, ◌≢◌}
 use Rattle.pi_base.specs.declared.phase.Phase.TheVariants.{Dxe}
-use Rattle.mod_catalog.specs.declared.catalogue.Catalog.{Catalog}
-use Rattle.mod_catalog.specs.Parts.{part_at}
-use Rattle.mod_catalog.specs.WellFormed.{AreNumbered}
-use Rattle.boot_model.specs.declared.driver.Scheduled.{Scheduled}
-use Rattle.boot_model.specs.declared.line.Line.{Line}
+use Rattle.mod_catalog.specs.{declared.catalogue.Catalog.Catalog, Parts.part_at, WellFormed.AreNumbered}
+use Rattle.boot_model.specs.{declared.driver.Scheduled.Scheduled, declared.line.Line.Line, declared.phase_end.DxeEnd.DxeEnd}
 use Rattle.boot_model.specs.declared.line.Line.TheVariants as L
-use Rattle.boot_model.specs.declared.phase_end.DxeEnd.{DxeEnd}
-use Rattle.boot_model.specs.Listing.{store_lines}
-use Rattle.boot_model.specs.PeiMachine.{PeiMachine}
-use Rattle.boot_model.specs.DxeMachine.{DxeMachine}
+use Rattle.boot_model.specs.{Listing.store_lines, PeiMachine.PeiMachine, DxeMachine.DxeMachine, DxeRun.dxe_run}
 use Rattle.boot_model.specs.DxeChoice.{group_scheduled, queue_from, first_eligible, driver_queue}
 use Rattle.boot_model.specs.DxeStep.{DxeCase, DxeFires, DxeActs, DxeStarts, DxeStops, dxe_case_of, in_dxe_case, dxe_step, driver_started}
-use Rattle.boot_model.specs.DxeRun.{dxe_run}
 use Rattle.boot_model.specs.BootRun.{handle_lines, dxe_result, both_lines}
 use Rattle.boot_model.specs.FreeRun.{IsStarted, IsFreeStart, IsFreeInDxe, IsFreeDxeRun, last_of_dxe, AreFreeDxeLines}
-use Rattle.boot_laws.proofs.DxeCases.{starts_from}
+use Rattle.boot_laws.proofs.{DxeCases.starts_from, Begun.going_not, WholeLines.lines_behind, WholeLines.fewer_printed}
 use Rattle.boot_laws.proofs.DxeSteps as D
-use Rattle.boot_laws.specs.PeiFree.{AreLinesBehind}
-use Rattle.boot_laws.specs.DxeUnderWay.{steps_left}
+use Rattle.boot_laws.specs.{PeiFree.AreLinesBehind, DxeUnderWay.steps_left}
 use Rattle.boot_laws.specs.DxeFree.{IsOwnCase, DxeGoesOn, DxeEndsSo, DxeLinesGrow, DxeEndsFreely, OwnDxeStepsAreFree}
 use Rattle.boot_laws.specs.DxeAim.{aimed, IsChoosing, AimIsFree, DxeStartsFreely}
-use Rattle.boot_laws.proofs.Begun.{going_not}
-use Rattle.boot_laws.proofs.WholeLines.{lines_behind, fewer_printed}
 use Rattle.boot_laws.proofs.DxeGrowing.{Told, silent, start_told, case_told}
 use Rattle.boot_laws.proofs.DxeWays.{way_to, step_way, found_may, started_is, scheduled_first, aimed_step, case_starts, queue_starts, left_same, has_ended}
 

@@ -1,27 +1,18 @@
 -- Each step of DXE but the last brings the end of the run nearer.
 -- An action pays for two steps: itself, and a notification that begins behind it. A frame that has just begun owes its first action.
-use Rattle.std.proofs.Common.{◌≡◌, ℕ, zero, suc, ◌+◌, ◌-◌, ◌*◌, ◌≤◌, ◌<◌, Bool, true, false, cond, List, [], ◌∷◌, Option, Some, None, refl, ap, subst, ◌∙◌, nat_le, length, arith, is_some, lit≤, inl, inr}
-use Rattle.std.specs.Option.{option_and_then}
+use Rattle.std.proofs.Common.{◌≡◌, ℕ, zero, suc, ◌+◌, ◌-◌, ◌*◌, ◌≤◌, ◌<◌, Bool, true, false, cond, List, [], ◌∷◌, Option, Some, None, refl, ap, subst, ◌∙◌, nat_le, length, arith, is_some, lit≤, inl, inr, option_and_then}
 use Rattle.std.proofs.lemmas.Bool.Decides.{nat_tests}
-use Rattle.pi_base.specs.declared.phase.Phase.TheVariants.{Dxe}
-use Rattle.mod_catalog.specs.declared.catalogue.Catalog.{Catalog}
-use Rattle.mod_catalog.specs.declared.catalogue.Part.{Part}
-use Rattle.boot_model.specs.DxeMachine.{DriverFrame}
-use Rattle.boot_model.specs.declared.driver.Scheduled.{Scheduled}
-use Rattle.pi_base.specs.Lists.{numbers}
-use Rattle.mod_catalog.specs.WellFormed.{part_of}
+use Rattle.pi_base.specs.{declared.phase.Phase.TheVariants.Dxe, Lists.numbers}
+use Rattle.mod_catalog.specs.{declared.catalogue.Catalog.Catalog, declared.catalogue.Part.Part, WellFormed.part_of}
+use Rattle.boot_model.specs.{DxeMachine.DriverFrame, DxeMachine.DxeMachine, declared.driver.Scheduled.Scheduled}
 use Rattle.mod_catalog.specs.Parts.{has_number, part_at}
-use Rattle.boot_model.specs.DxeMachine.{DxeMachine}
 use Rattle.boot_model.specs.declared.phase_end.DxeEnd.TheVariants as DxeEnds
 use Rattle.boot_model.specs.DxeAction.{DxeEffect, Wrote, Called, Logged, Skipped, Returned, Own, dxe_effect}
 use Rattle.boot_model.specs.DxeStep.{DxeCase, DxeFires, DxeActs, DxeStarts, DxeStops, dxe_case_of, in_dxe_case, dxe_step, next_note, protocol_begun, after_dxe_effect, with_action, dxe_action_at, driver_started, start_frames}
 use Rattle.boot_laws.proofs.Counting.{missing, In, in_numbers, fewer}
-use Rattle.boot_model.proofs.ListFacts.{within}
-use Rattle.boot_model.proofs.Distinct.{is_absent}
-use Rattle.boot_laws.proofs.Queue.{IsQueued}
+use Rattle.boot_model.proofs.{ListFacts.within, Distinct.is_absent}
+use Rattle.boot_laws.proofs.{Queue.IsQueued, DxeCases.fires_from, DxeCases.starts_from, DxeOnce.queue_is}
 use Rattle.boot_laws.proofs.DriverActions.{Follows, EffectFollows, effect_follows}
-use Rattle.boot_laws.proofs.DxeCases.{fires_from, starts_from}
-use Rattle.boot_laws.proofs.DxeOnce.{queue_is}
 
 -- 0 where a frame has just begun and owes an action
 abbrev pub between_actions : List DriverFrame → ℕ

@@ -1,19 +1,12 @@
 -- DXE stops only where nothing is scheduled and no driver of a discovered volume that has not started may start.
-use Rattle.std.proofs.Common.{◌≡◌, ℕ, zero, suc, ◌==◌, Bool, true, false, not, ◌&&◌, ◌||◌, cond, List, [], ◌∷◌, ◌++◌, Option, Some, None, refl, ap, ◌∙◌, length}
-use Rattle.std.specs.Prelude.{find, flat_map}
+use Rattle.std.proofs.Common.{◌≡◌, ℕ, zero, suc, ◌==◌, Bool, true, false, not, ◌&&◌, ◌||◌, cond, List, [], ◌∷◌, ◌++◌, Option, Some, None, refl, ap, ◌∙◌, length, find, flat_map}
 use Rattle.std.specs.List.{list_any}
 use Rattle.pi_base.specs.Lists.{Each}
-use Rattle.mod_catalog.specs.declared.catalogue.Catalog.{Catalog}
-use Rattle.mod_catalog.specs.Parts.{has_number}
-use Rattle.boot_model.specs.declared.driver.Scheduled.{Scheduled}
-use Rattle.boot_model.specs.DxeMachine.{DxeMachine}
+use Rattle.mod_catalog.specs.{declared.catalogue.Catalog.Catalog, Parts.has_number}
+use Rattle.boot_model.specs.{declared.driver.Scheduled.Scheduled, DxeMachine.DxeMachine, DriverLicence.DxeStopsIdle}
 use Rattle.boot_model.specs.DxeChoice.{discovered_order, is_scheduled, is_waiting, queue_from, waiting, group_within, befores, afters, schedule_of, group_scheduled, first_eligible, is_eligible_driver}
-use Rattle.boot_model.specs.DriverLicence.{DxeStopsIdle}
-use Rattle.boot_model.proofs.ListFacts.{each_at}
-use Rattle.boot_model.proofs.Distinct.{neither}
-use Rattle.boot_laws.proofs.PeiOrders.{has_filtered}
-use Rattle.boot_laws.proofs.DxeCases.{stops_from}
-use Rattle.boot_laws.proofs.EachDriver.{order_has}
+use Rattle.boot_model.proofs.{ListFacts.each_at, Distinct.neither}
+use Rattle.boot_laws.proofs.{PeiOrders.has_filtered, DxeCases.stops_from, EachDriver.order_has}
 
 no_queue : (queue group : List Scheduled) → queue_from queue group ≡ [] → (queue ≡ []) × (group ≡ [])
 no_queue [] group h = (refl, h)

@@ -1,20 +1,14 @@
 -- A free boot in DXE stays under way, and each free step brings its end nearer.
-use Rattle.std.proofs.Common.{◌≡◌, ℕ, zero, suc, ◌≤◌, ◌<◌, Bool, true, false, cond, List, [], ◌∷◌, ◌++◌, Option, Some, None, refl, sym, ap, subst, ◌∙◌, nat_le, length, arith, is_some, lit≤}
-use Rattle.std.specs.Prelude.{flat_map, filter}
-use Rattle.pi_base.specs.declared.phase.Phase.TheVariants.{Dxe}
-use Rattle.pi_base.specs.Lists.{Each, numbers}
+use Rattle.std.proofs.Common.{◌≡◌, ℕ, zero, suc, ◌≤◌, ◌<◌, Bool, true, false, cond, List, [], ◌∷◌, ◌++◌, Option, Some, None, refl, sym, ap, subst, ◌∙◌, nat_le, length, arith, is_some, lit≤, flat_map, filter}
+use Rattle.pi_base.specs.{declared.phase.Phase.TheVariants.Dxe, Lists.Each, Lists.numbers}
 use Rattle.act_code.specs.declared.action.Action.{Action}
-use Rattle.mod_catalog.specs.declared.catalogue.Catalog.{Catalog}
-use Rattle.mod_catalog.specs.declared.catalogue.Part.{Part}
+use Rattle.mod_catalog.specs.{declared.catalogue.Catalog.Catalog, declared.catalogue.Part.Part, WellFormed.AreNumbered}
 use Rattle.mod_catalog.specs.Parts.{has_number, part_of, part_at, parts_in}
-use Rattle.mod_catalog.specs.WellFormed.{AreNumbered}
-use Rattle.boot_model.specs.declared.driver.Scheduled.{Scheduled}
+use Rattle.boot_model.specs.{declared.driver.Scheduled.Scheduled, DxeMachine.DxeMachine, DxeMachine.DriverFrame, DxeRun.dxe_opening}
 use Rattle.boot_model.specs.declared.phase_end.DxeEnd.TheVariants as DxeEnds
-use Rattle.boot_model.specs.DxeMachine.{DxeMachine, DriverFrame}
 use Rattle.boot_model.specs.DxeChoice.{discovered_order, waiting, is_waiting, is_eligible_driver, group_within, befores, afters, companion_group, group_scheduled, schedule_of, queue_from, first_eligible, head_of}
 use Rattle.boot_model.specs.DxeAction.{DxeEffect, Wrote, Called, Logged, Skipped, Returned, Own, dxe_effect}
 use Rattle.boot_model.specs.DxeStep.{DxeCase, DxeFires, DxeActs, DxeStarts, DxeStops, dxe_case_of, dxe_case_in, queue_case, in_dxe_case, dxe_step, next_note, protocol_begun, after_dxe_effect, with_action, dxe_action_at, driver_started, start_frames}
-use Rattle.boot_model.specs.DxeRun.{dxe_opening}
 use Rattle.boot_model.specs.FreeRun.{MaySchedule, IsStarted, IsFreeStart, IsFreeInDxe}
 use Rattle.boot_model.proofs.ListFacts.{each_more, each_at, each_has, each_found, found_passes, within}
 use Rattle.boot_model.proofs.Distinct.{all_differ, few_below}
@@ -22,11 +16,10 @@ use Rattle.boot_laws.proofs.Counting as C
 use Rattle.boot_laws.proofs.PartLists.{IsKnown, distinct_of, known_of, drivers_are}
 use Rattle.boot_laws.proofs.Queue.{AreQueued, IsQueued, group_queued, numbers_of_map}
 use Rattle.boot_laws.proofs.DxeCases.{fires_from, acts_from, starts_from}
-use Rattle.boot_laws.proofs.DxeOnce.{case_queued, opens_queued}
+use Rattle.boot_laws.proofs.{DxeOnce.case_queued, DxeOnce.opens_queued, Begun.not_begun, Begun.not_zero}
 use Rattle.boot_laws.proofs.DxeSteps as D
 use Rattle.boot_laws.specs.DxeUnderWay.{SweepsAreLater, IsUnderWay, between_actions, steps_before_end, steps_left, DxeOpensUnderWay, DxeStepsRunOut, DxeHasEnded, FewDriversWait}
 use Rattle.boot_laws.specs.DxeAim.{aimed, IsChoosing, StartsFirstOf, GroupsAreAimed, FirstEligibleMayStart}
-use Rattle.boot_laws.proofs.Begun.{not_begun, not_zero}
 use Rattle.boot_laws.proofs.NumberLists.{missing_same, finds_some}
 
 -- the facts of a run are those of the laws of the machine's own run

@@ -3,12 +3,9 @@ use Rattle.std.proofs.Common.{◌≡◌, ℕ, true}
 use Rattle.pi_base.specs.declared.phase.Phase.TheVariants.{Dxe}
 use Rattle.mod_catalog.specs.declared.catalogue.Catalog.{Catalog}
 use Rattle.mod_catalog.specs.Parts.{has_number, module_volume, parts_in}
-use Rattle.boot_model.specs.DxeMachine.{DxeMachine}
-use Rattle.boot_model.specs.DxeChoice.{discovered_order}
-use Rattle.boot_model.specs.DriverLicence.{IsDiscovered}
+use Rattle.boot_model.specs.{DxeMachine.DxeMachine, DxeChoice.discovered_order, DriverLicence.IsDiscovered}
 use Rattle.boot_laws.specs.DiscoveredOrder.{HasEachOnce}
-use Rattle.boot_model.proofs.ListFacts.{each_at}
-use Rattle.boot_model.proofs.Distinct.{Distinct, all_differ}
+use Rattle.boot_model.proofs.{ListFacts.each_at, Distinct.Distinct, Distinct.all_differ}
 use Rattle.boot_laws.proofs.PartLists.{distinct_of, known_of, drivers_are}
 use Rattle.boot_laws.proofs.PeiOrders.{has_flat, part_in_volume}
 

@@ -1,54 +1,35 @@
 -- What an action of a script leaves: a store with its facts, and registers of numbers that fit.
-use Rattle.std.proofs.Common.{◌≡◌, ℕ, zero, suc, ◌+◌, ◌-◌, ◌*◌, ◌%◌, ◌^◌, ◌≤◌, ◌<◌, ◌==◌, ◌&&◌, Bool, true, false, cond, List, [], ◌∷◌, arith, sym, refl, subst, Option, Some, None, Ok, Err, nat_lt}
-use Rattle.std.specs.Bool.{⊤}
-use Rattle.std.specs.Prelude.{IfSome, slice_set, slice_get, filter}
-use Rattle.std.specs.List.{list_all}
-use Rattle.std.specs.Option.{option_map}
+use Rattle.std.proofs.Common.{◌≡◌, ℕ, zero, suc, ◌+◌, ◌-◌, ◌*◌, ◌%◌, ◌^◌, ◌≤◌, ◌<◌, ◌==◌, ◌&&◌, Bool, true, false, cond, List, [], ◌∷◌, arith, sym, refl, subst, Option, Some, None, Ok, Err, nat_lt, IfSome, slice_set, slice_get, filter, option_map}
+use Rattle.std.specs.{Bool.⊤, List.list_all}
 use Rattle.std.proofs.lemmas.Bool.Decides.{nat_tests}
-use Rattle.pi_base.specs.Lists.{Each}
-use Rattle.hob_codec.specs.HobReading.{hob_of}
-use Rattle.hob_codec.specs.HobValue.{HobValue}
-use Rattle.hob_codec.specs.HobBytes.{length_of}
-use Rattle.act_code.specs.declared.action.Action.{Action}
+use Rattle.pi_base.specs.{Lists.Each, declared.phase.Phase.TheVariants.Pei}
+use Rattle.hob_codec.specs.{HobReading.hob_of, HobValue.HobValue, HobBytes.length_of}
+use Rattle.act_code.specs.{declared.action.Action.Action, declared.action.GuidArg.GuidArg, Format.IsGuidArg}
 use Rattle.act_code.specs.declared.action.Action.TheVariants as A
-use Rattle.act_code.specs.declared.action.GuidArg.{GuidArg}
 use Rattle.act_code.specs.declared.action.GuidArg.TheVariants as G
-use Rattle.act_code.specs.Format.{IsGuidArg}
-use Rattle.store_model.specs.declared.state.Entry.{Entry}
-use Rattle.store_model.specs.declared.store_handle.DescKind.{DescKind}
+use Rattle.store_model.specs.{declared.state.Entry.Entry, declared.store_handle.DescKind.DescKind, declared.store_handle.Desc.Desc}
 use Rattle.store_model.specs.declared.store_handle.DescKind.TheVariants.{Ppi, Callback, Dispatch}
-use Rattle.store_model.specs.declared.store_handle.Desc.{Desc}
 use Rattle.store_model.specs.declared.store_handle.GuidFrom.{GuidFrom}
 use Rattle.store_model.specs.declared.store_handle.GuidFrom.TheVariants.{Inline, At}
-use Rattle.store_model.specs.declared.store_handle.StoreFault.{StoreFault}
+use Rattle.store_model.specs.{declared.store_handle.StoreFault.StoreFault, Service.Service, Service.in_room, Service.Reading.ppis_of}
 use Rattle.store_model.specs.declared.store_handle.StoreFault.TheVariants as F
 use Rattle.store_model.specs.StoreState.{StoreState, free, appended, end_place}
 use Rattle.store_model.specs.StateFacts.{IsStoreState, IsEntry, IsNumberOf}
-use Rattle.store_model.specs.Service.{Service, in_room}
-use Rattle.store_model.specs.Service.Reading.{ppis_of}
-use Rattle.store_model.specs.Service.Pool.{pool}
-use Rattle.store_model.specs.Service.Descriptor.{desc, number_at}
-use Rattle.store_model.specs.Service.Install.{install, reinstall}
-use Rattle.store_model.specs.Service.Notify.{notify}
+use Rattle.store_model.specs.{Service.Pool.pool, Service.Descriptor.desc, Service.Descriptor.number_at}
+use Rattle.store_model.specs.{Service.Install.install, Service.Install.reinstall, Service.Notify.notify}
 use Rattle.store_model.specs.Service.Hob.{create_hob, hob_entry}
 use Rattle.store_model.specs.Service.Memory.{set_memory, pages, pages_taken, early_pages, allocation_len, with_pages, page_len}
 use Rattle.store_laws.specs.Keeping.{Keeps, IsWholeGuid, IsMade, IsWord}
-use Rattle.boot_model.specs.declared.frame.Register.{Register}
+use Rattle.boot_model.specs.{declared.frame.Register.Register, MachineFacts.HoldRegisters, MachineFacts.IsModuleNumber, PeiMachine.Frame}
 use Rattle.boot_model.specs.declared.frame.Register.TheVariants.{Empty, Number, PoolIn, DescriptorIn, HandleIn}
-use Rattle.boot_model.specs.MachineFacts.{HoldRegisters, IsModuleNumber}
-use Rattle.boot_model.specs.PeiMachine.{Frame}
 use Rattle.boot_model.specs.Registers.{register, number_of, number_in, offset_of, both}
 use Rattle.boot_model.specs.PeiAction.{Reply, Effect, effect, guid_arg, desc_number, kind_number}
 use Rattle.boot_model.proofs.Held.{held_pool, held_place, held_list, held_two}
 use Rattle.boot_laws.specs.RunFacts.{IsFitting, FitRegisters}
-use Rattle.boot_laws.proofs.Firings.{number_of as number_is}
-use Rattle.pi_base.specs.declared.phase.Phase.TheVariants.{Pei}
-use Rattle.boot_model.proofs.ScriptActions.{IsOfScript}
-use Rattle.boot_model.proofs.ScriptHobs.{script_hob}
+use Rattle.boot_laws.proofs.{Firings.number_of as number_is, StoreLaws.StoreLaws, EffectForms.effect_has, EffectForms.given}
+use Rattle.boot_model.proofs.{ScriptActions.IsOfScript, ScriptHobs.script_hob}
 use Rattle.store_laws.proofs.Hobs.{script_entry}
-use Rattle.boot_laws.proofs.StoreLaws.{StoreLaws}
 use Rattle.boot_laws.specs.EffectForms.{EffectHas, RepliesHave, WritesHave}
-use Rattle.boot_laws.proofs.EffectForms.{effect_has, given}
 
 pub record FitsReply (reply : Reply) : Type 0 where
   pub store : IsStoreState reply.store

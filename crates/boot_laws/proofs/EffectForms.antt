@@ -1,32 +1,19 @@
 -- What holds of each form of reply and of written registers holds of every action of PEI: the one list of its actions.
-use Rattle.std.proofs.Common.{◌≡◌, ℕ, zero, suc, ◌^◌, Bool, true, false, cond, List, [], ◌∷◌, Option, Some, None, refl, Ok, Err}
-use Rattle.std.specs.Prelude.{◌==◌, ◌&&◌, not, nat_lt, slice_set, ⊤}
-use Rattle.std.specs.Option.{option_and_then}
-use Rattle.pi_base.specs.declared.word.Word.{Word}
-use Rattle.pi_base.specs.declared.word.Word.TheVariants.{InvalidParameter, NotFound}
+use Rattle.std.proofs.Common.{◌≡◌, ℕ, zero, suc, ◌^◌, Bool, true, false, cond, List, [], ◌∷◌, Option, Some, None, refl, Ok, Err, ◌==◌, ◌&&◌, not, nat_lt, slice_set, option_and_then}
+use Rattle.std.specs.Prelude.{⊤}
+use Rattle.pi_base.specs.{declared.word.Word.Word, declared.word.Word.TheVariants.InvalidParameter, declared.word.Word.TheVariants.NotFound}
 use Rattle.hob_codec.specs.HobReading.{hob_of}
 use Rattle.act_code.specs.declared.action.Action.{Action}
 use Rattle.act_code.specs.declared.action.Action.TheVariants as A
-use Rattle.store_model.specs.declared.store_handle.Pool.{Pool}
-use Rattle.store_model.specs.declared.store_handle.Sweep.{Sweep}
-use Rattle.store_model.specs.declared.store_handle.StoreFault.{StoreFault}
+use Rattle.store_model.specs.{declared.store_handle.Pool.Pool, declared.store_handle.Sweep.Sweep}
+use Rattle.store_model.specs.{declared.store_handle.StoreFault.StoreFault, MemoryReading.bytes_at, StoreState.StoreState, Service.Service}
 use Rattle.store_model.specs.declared.store_handle.StoreFault.TheVariants as F
-use Rattle.store_model.specs.MemoryReading.{bytes_at}
-use Rattle.store_model.specs.StoreState.{StoreState}
-use Rattle.store_model.specs.Service.{Service}
-use Rattle.store_model.specs.Service.Descriptor.{desc, offsets}
-use Rattle.store_model.specs.Service.Hob.{create_hob}
-use Rattle.store_model.specs.Service.Install.{install, reinstall}
-use Rattle.store_model.specs.Service.Memory.{pages, set_memory}
-use Rattle.store_model.specs.Service.Notify.{notify}
-use Rattle.store_model.specs.Service.Pool.{pool, store}
-use Rattle.store_model.specs.Service.Reading.{nth_ppi}
-use Rattle.boot_model.specs.declared.frame.Register.{Register}
-use Rattle.boot_model.specs.declared.frame.Register.TheVariants.{Number}
-use Rattle.boot_model.specs.declared.line.Extra.{Extra}
+use Rattle.store_model.specs.{Service.Descriptor.desc, Service.Descriptor.offsets, Service.Hob.create_hob}
+use Rattle.store_model.specs.{Service.Install.install, Service.Install.reinstall, Service.Memory.pages, Service.Memory.set_memory}
+use Rattle.store_model.specs.{Service.Notify.notify, Service.Pool.pool, Service.Pool.store, Service.Reading.nth_ppi}
+use Rattle.boot_model.specs.{declared.frame.Register.Register, declared.frame.Register.TheVariants.Number, declared.line.Extra.Extra}
 use Rattle.boot_model.specs.declared.line.Extra.TheVariants as X
-use Rattle.boot_model.specs.Effect.{Effect as OfEach}
-use Rattle.boot_model.specs.PeiMachine.{Frame}
+use Rattle.boot_model.specs.{Effect.Effect as OfEach, PeiMachine.Frame}
 use Rattle.boot_model.specs.Registers.{both, descriptor_in, descriptors_in, is_success, number_in, pool_in}
 use Rattle.boot_model.specs.PeiAction.{Reply, PeiOwn, Wrote, Called, Logged, Skipped, Returned, Own, effect, refusal, told, status_of, answer_reply, sweep_reply, reply_where, peek_reply, desc_argument, desc_reply, kind_number, install_reply, reinstall_reply, notify_reply, locate_reply, hob_reply, memory_reply, is_memory_type, set_mode_reply, mode_reply, number_written, store_reply}
 use Rattle.boot_laws.specs.EffectForms.{EffectHas, WritesHave, RepliesHave}

@@ -1,18 +1,12 @@
 -- The GUIDs of an event are the one that is taken away, and those that are put in.
-use Rattle.std.proofs.Common.{◌≡◌, ℕ, Bool, true, false, cond, List, [], ◌++◌, refl, Option, Some, None, map, nat_le}
-use Rattle.std.specs.Prelude.{option_map}
-use Rattle.std.specs.Option.{option_to_list}
+use Rattle.std.proofs.Common.{◌≡◌, ℕ, Bool, true, false, cond, List, [], ◌++◌, refl, Option, Some, None, map, nat_le, option_map, option_to_list}
 use Rattle.pi_base.specs.declared.guid.Guid.{Guid}
 use Rattle.act_code.specs.declared.action.Action.{Action}
 use Rattle.act_code.specs.declared.action.Action.TheVariants as A
 use Rattle.mod_catalog.specs.declared.catalogue.Catalog.{Catalog}
-use Rattle.boot_model.specs.PeiMachine.{Frame}
-use Rattle.store_model.specs.declared.store_handle.Desc.{Desc}
-use Rattle.store_model.specs.StoreState.{StoreState}
+use Rattle.boot_model.specs.{PeiMachine.Frame, PeiMachine.PeiMachine, Registers.descriptor_in, PeiAction.effect}
+use Rattle.store_model.specs.{declared.store_handle.Desc.Desc, StoreState.StoreState}
 use Rattle.store_model.specs.Service.Descriptor.{guid_at, offsets}
-use Rattle.boot_model.specs.Registers.{descriptor_in}
-use Rattle.boot_model.specs.PeiMachine.{PeiMachine}
-use Rattle.boot_model.specs.PeiAction.{effect}
 use Rattle.boot_model.specs.PeiStep.{PeiCase, Fires, Acts, Moves, Pops, Starts, Stops, action_at}
 use Rattle.boot_model.specs.EvaluationBound.{action_guids, case_guids, changed_places, is_called}
 use Rattle.boot_model.specs.EventGuids.{case_placed, case_taken, placed, placed_guids, taken_guid, taken_place}

@@ -1,23 +1,15 @@
 -- What fires is a notification of a module, and its PPI is there.
-use Rattle.std.proofs.Common.{◌≡◌, ◌≢◌, ℕ, zero, suc, ◌+◌, Bool, true, false, cond, List, [], ◌∷◌, sym, refl, subst, ◌∙◌, Option, Some, None}
+use Rattle.std.proofs.Common.{◌≡◌, ◌≢◌, ℕ, zero, suc, ◌+◌, Bool, true, false, cond, List, [], ◌∷◌, sym, refl, subst, ◌∙◌, Option, Some, None, slice_get, option_map, option_and_then}
 use Rattle.std.specs.Bool.{⊤}
-use Rattle.std.specs.Prelude.{slice_get}
-use Rattle.std.specs.Option.{option_map, option_and_then}
-use Rattle.store_model.specs.declared.state.Body.TheVariants.{Descriptor, Node}
-use Rattle.store_model.specs.declared.state.Entry.{Entry}
-use Rattle.store_model.specs.declared.state.Pending.{Pending}
-use Rattle.store_model.specs.declared.store_handle.DescKind.{DescKind}
+use Rattle.store_model.specs.{declared.state.Body.TheVariants.Descriptor, declared.state.Body.TheVariants.Node, declared.state.Entry.Entry}
+use Rattle.store_model.specs.{declared.state.Pending.Pending, declared.store_handle.DescKind.DescKind, declared.store_handle.Firing.Firing}
 use Rattle.store_model.specs.declared.store_handle.DescKind.TheVariants.{Ppi, Callback, Dispatch}
-use Rattle.store_model.specs.declared.store_handle.Firing.{Firing}
-use Rattle.store_model.specs.declared.store_handle.Sweep.{Sweep}
+use Rattle.store_model.specs.{declared.store_handle.Sweep.Sweep, StoreState.StoreState, StoreState.body_at, Service.Descriptor.number_at}
 use Rattle.pi_base.specs.Lists.{Each}
-use Rattle.store_model.specs.StoreState.{StoreState, body_at}
 use Rattle.store_model.specs.StateFacts.{IsStoreState, IsDescriptorAt, IsNumberOf, IsEntry, IsPending, IsSweepOf}
-use Rattle.store_model.specs.Service.Descriptor.{number_at}
 use Rattle.store_model.specs.Service.Sweep.{next_match, first_firing, firing_at, firing_of, have_one_guid, places_at, pairs_left}
 use Rattle.store_model.specs.Service.Queue.{queue_pop, popped, zeroed}
-use Rattle.store_laws.proofs.Bodies.{elsewhere}
-use Rattle.store_laws.proofs.Named.{named}
+use Rattle.store_laws.proofs.{Bodies.elsewhere, Named.named}
 use Rattle.boot_model.specs.MachineFacts.{IsFiring}
 use Rattle.boot_laws.specs.SoundRuns.{MatchesAreSound, PopsAreSound}
 

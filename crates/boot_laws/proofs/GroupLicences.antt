@@ -1,24 +1,16 @@
 -- Each driver of a group has its licence: the eligible one over the handles, each companion beside the one that it names.
-use Rattle.std.proofs.Common.{◌≡◌, ℕ, true, false, not, inl, inr, List, [], ◌∷◌, Option, Some, None, refl, sym, subst, ap, length, map}
-use Rattle.std.specs.Option.{option_and_then}
-use Rattle.pi_base.specs.declared.guid.Guid.{Guid}
-use Rattle.pi_base.specs.declared.phase.Phase.TheVariants.{Dxe}
-use Rattle.pi_base.specs.Lists.{Each}
+use Rattle.std.proofs.Common.{◌≡◌, ℕ, true, false, not, inl, inr, List, [], ◌∷◌, Option, Some, None, refl, sym, subst, ap, length, map, option_and_then}
+use Rattle.pi_base.specs.{declared.guid.Guid.Guid, declared.phase.Phase.TheVariants.Dxe, Lists.Each}
 use Rattle.depex_code.specs.declared.depex.Depex.TheVariants as D
-use Rattle.mod_catalog.specs.declared.catalogue.Catalog.{Catalog}
-use Rattle.mod_catalog.specs.declared.catalogue.Part.{Part}
-use Rattle.mod_catalog.specs.declared.catalogue.PartExpr.{PartExpr}
+use Rattle.mod_catalog.specs.{declared.catalogue.Catalog.Catalog, declared.catalogue.Part.Part, declared.catalogue.PartExpr.PartExpr}
 use Rattle.mod_catalog.specs.declared.catalogue.PartExpr.TheVariants as E
 use Rattle.mod_catalog.specs.Parts.{part_at}
-use Rattle.boot_model.specs.declared.licence.Licence.{Licence}
+use Rattle.boot_model.specs.{declared.licence.Licence.Licence, DxeMachine.DxeMachine}
 use Rattle.boot_model.specs.declared.licence.Licence.TheVariants as G
-use Rattle.boot_model.specs.DxeMachine.{DxeMachine}
 use Rattle.boot_model.specs.DxeChoice.{waiting, driver_named, before_of, after_of, companion_group, lets_driver_start, driver_may_start, is_eligible_driver, is_unrequested, licence_in_group, driver_licence, schedule_of, group_scheduled, first_eligible}
 use Rattle.boot_model.specs.DriverLicence.{IsDriverLicensed, IsMember, SchedulesLicensed, numbers_of}
 use Rattle.boot_model.proofs.ListFacts.{each_more, found_passes}
-use Rattle.boot_laws.proofs.PartLists.{both_of}
-use Rattle.boot_laws.proofs.Volumes.{not_true}
-use Rattle.boot_laws.proofs.Beside.{IsRootOrPlaced, all_placed}
+use Rattle.boot_laws.proofs.{PartLists.both_of, Volumes.not_true, Beside.IsRootOrPlaced, Beside.all_placed}
 
 -- a part with the licence that it has in a group
 abbrev HasLicence : Option Part → Licence → Type 0

@@ -1,11 +1,9 @@
 -- Each driver of a group stands over its root, at a height of no more than the group is deep.
-use Rattle.std.proofs.Common.{◌≡◌, ℕ, zero, suc, ◌≤◌, List, ◌∷◌, Option, Some, None, refl, ap, subst, ◌∙◌, length, arith, lit≤}
-use Rattle.std.specs.Prelude.{flat_map}
+use Rattle.std.proofs.Common.{◌≡◌, ℕ, zero, suc, ◌≤◌, List, ◌∷◌, Option, Some, None, refl, ap, subst, ◌∙◌, length, arith, lit≤, flat_map}
 use Rattle.pi_base.specs.Lists.{Each}
 use Rattle.mod_catalog.specs.declared.catalogue.Catalog.{Catalog}
-use Rattle.boot_model.specs.DxeMachine.{DxeMachine}
+use Rattle.boot_model.specs.{DxeMachine.DxeMachine, DriverLicence.target_of, DriverLicence.Leads}
 use Rattle.boot_model.specs.DxeChoice.{waiting, befores, afters, group_within}
-use Rattle.boot_model.specs.DriverLicence.{target_of, Leads}
 use Rattle.boot_model.proofs.ListFacts.{each_more, each_append, each_flat}
 use Rattle.boot_laws.proofs.Chains.{plus, plus_is, leads_on}
 use Rattle.boot_laws.proofs.Groups.{IsBefore, IsAfter, are_before, are_after, before_names, after_names, eligible_names_none}

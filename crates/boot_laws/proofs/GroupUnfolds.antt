@@ -1,19 +1,14 @@
 -- Groups unfold: a chain of companions over an eligible driver is no longer than the drivers that wait, so the depth that the definition counts always suffices.
-use Rattle.std.proofs.Common.{◌≡◌, ℕ, zero, suc, ◌+◌, ◌≤◌, ◌==◌, true, false, ◌||◌, List, [], ◌∷◌, ◌++◌, None, refl, sym, subst, ap, ◌∙◌, length, arith, lit≤, inl, inr}
-use Rattle.std.specs.Prelude.{◌≢◌, flat_map}
+use Rattle.std.proofs.Common.{◌≡◌, ℕ, zero, suc, ◌+◌, ◌≤◌, ◌==◌, true, false, ◌||◌, List, [], ◌∷◌, ◌++◌, None, refl, sym, subst, ap, ◌∙◌, length, arith, lit≤, inl, inr, ◌≢◌, flat_map}
 use Rattle.std.proofs.lemmas.Bool.Decides.{nat_tests}
 use Rattle.pi_base.specs.Lists.{Each}
-use Rattle.mod_catalog.specs.declared.catalogue.Catalog.{Catalog}
-use Rattle.mod_catalog.specs.Parts.{has_number}
-use Rattle.boot_model.specs.Licence.{AllDiffer}
-use Rattle.boot_model.specs.DxeMachine.{DxeMachine}
+use Rattle.mod_catalog.specs.{declared.catalogue.Catalog.Catalog, Parts.has_number}
+use Rattle.boot_model.specs.{Licence.AllDiffer, DxeMachine.DxeMachine, DriverLicence.target_of, DriverLicence.Leads}
 use Rattle.boot_model.specs.DxeChoice.{waiting, befores, afters, group_within, companion_group}
-use Rattle.boot_model.specs.DriverLicence.{target_of, Leads}
 use Rattle.boot_laws.specs.GroupUnfolds.{StandsOver, IsOver, GroupsUnfold, GroupsAreSmall}
 use Rattle.boot_model.proofs.ListFacts.{each_more, each_both, each_filter, each_has}
 use Rattle.boot_model.proofs.Distinct.{Distinct, all_differ, all_distinct, distinct_filter}
-use Rattle.boot_laws.proofs.PartLists.{distinct_of, drivers_are}
-use Rattle.boot_laws.proofs.Chains.{one_height}
+use Rattle.boot_laws.proofs.{PartLists.distinct_of, PartLists.drivers_are, Chains.one_height}
 use Rattle.boot_laws.proofs.Counting.{missing, In, fewer}
 use Rattle.boot_laws.proofs.Groups.{are_before, are_after, IsBefore, IsAfter, before_names, after_names, eligible_names_none, each_of_group, distinct_group}
 

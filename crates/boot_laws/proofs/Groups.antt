@@ -1,15 +1,9 @@
 -- In the group of an eligible driver no driver stands twice: each companion names one driver, and the eligible one names none.
-use Rattle.std.proofs.Common.{◌≡◌, ℕ, zero, suc, ◌==◌, Bool, true, false, not, List, ◌∷◌, ◌++◌, Option, Some, None, refl, sym, subst, ap, ◌∙◌, is_some}
-use Rattle.std.specs.Prelude.{◌≢◌, flat_map}
-use Rattle.std.specs.Option.{option_and_then}
-use Rattle.pi_base.specs.declared.guid.Guid.{Guid}
-use Rattle.pi_base.specs.declared.phase.Phase.TheVariants.{Dxe}
+use Rattle.std.proofs.Common.{◌≡◌, ℕ, zero, suc, ◌==◌, Bool, true, false, not, List, ◌∷◌, ◌++◌, Option, Some, None, refl, sym, subst, ap, ◌∙◌, is_some, ◌≢◌, flat_map, option_and_then}
+use Rattle.pi_base.specs.{declared.guid.Guid.Guid, declared.phase.Phase.TheVariants.Dxe, Lists.Each}
 use Rattle.depex_code.specs.declared.depex.Depex.TheVariants as D
-use Rattle.mod_catalog.specs.declared.catalogue.Catalog.{Catalog}
-use Rattle.mod_catalog.specs.declared.catalogue.Part.{Part}
-use Rattle.mod_catalog.specs.declared.catalogue.PartExpr.{PartExpr}
+use Rattle.mod_catalog.specs.{declared.catalogue.Catalog.Catalog, declared.catalogue.Part.Part, declared.catalogue.PartExpr.PartExpr}
 use Rattle.mod_catalog.specs.declared.catalogue.PartExpr.TheVariants as E
-use Rattle.pi_base.specs.Lists.{Each}
 use Rattle.store_model.specs.HandleState.{HandleState}
 use Rattle.boot_model.specs.DxeMachine.{DxeMachine}
 use Rattle.mod_catalog.specs.Parts.{part_at}

@@ -1,12 +1,8 @@
 -- Which GUIDs are among others.
-use Rattle.std.proofs.Common.{◌≡◌, ℕ, Bool, true, false, cond, List, [], ◌∷◌, ◌∙◌, ap, sym, refl, ◌||◌, map}
-use Rattle.std.specs.Prelude.{filter, not}
+use Rattle.std.proofs.Common.{◌≡◌, ℕ, Bool, true, false, cond, List, [], ◌∷◌, ◌∙◌, ap, sym, refl, ◌||◌, map, filter, not}
 use Rattle.std.proofs.lemmas.Cmp.{nat_list_eq_equiv}
-use Rattle.pi_base.specs.declared.guid.Guid.{Guid}
-use Rattle.pi_base.specs.Guids.{same_guid}
-use Rattle.pi_base.specs.Lists.{Each, firsts}
-use Rattle.store_model.specs.StoreState.{StoreState}
-use Rattle.store_model.specs.Service.Descriptor.{guid_at}
+use Rattle.pi_base.specs.{declared.guid.Guid.Guid, Guids.same_guid, Lists.Each, Lists.firsts}
+use Rattle.store_model.specs.{StoreState.StoreState, Service.Descriptor.guid_at}
 use Rattle.boot_model.proofs.ListFacts.{each_more, has_later, has_here}
 use Rattle.boot_laws.specs.ChangedGuids.{is_among}
 use Rattle.boot_laws.proofs.LastingGuids.{has_in}

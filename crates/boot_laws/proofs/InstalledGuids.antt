@@ -1,29 +1,19 @@
 -- Behind an install the GUIDs of its descriptors are installed, and every other is as it was; behind a reinstall the new one's is, and every other but the old one's is as it was.
-use Rattle.std.proofs.Common.{◌≡◌, ℕ, Bool, true, false, cond, List, [], ◌∷◌, ◌++◌, ◌∙◌, ap, sym, refl, Option, Some, None, map, ◌||◌, ◌&&◌, ◌==◌, arith}
-use Rattle.std.specs.Prelude.{unwrap_or, fold}
+use Rattle.std.proofs.Common.{◌≡◌, ℕ, Bool, true, false, cond, List, [], ◌∷◌, ◌++◌, ◌∙◌, ap, sym, refl, Option, Some, None, map, ◌||◌, ◌&&◌, ◌==◌, arith, unwrap_or, fold, option_map}
 use Rattle.std.specs.List.{list_any, list_all}
-use Rattle.std.specs.Option.{option_map}
-use Rattle.std.proofs.lemmas.Bool.Decides.{nat_tests}
-use Rattle.std.proofs.lemmas.List.{map-append}
-use Rattle.std.proofs.lemmas.List.Folds.{list_any-append}
-use Rattle.pi_base.specs.declared.guid.Guid.{Guid}
-use Rattle.store_model.specs.declared.state.Body.{Body}
+use Rattle.std.proofs.{lemmas.Bool.Decides.nat_tests, lemmas.List.map-append, lemmas.List.Folds.list_any-append}
+use Rattle.pi_base.specs.{declared.guid.Guid.Guid, Guids.same_guid, Lists.Each}
+use Rattle.store_model.specs.{declared.state.Body.Body, declared.state.Entry.Entry, declared.store_handle.Desc.Desc}
 use Rattle.store_model.specs.declared.state.Body.TheVariants.{Bytes, Descriptor, Node, Allocation}
-use Rattle.store_model.specs.declared.state.Entry.{Entry}
-use Rattle.store_model.specs.declared.store_handle.Desc.{Desc}
 use Rattle.store_model.specs.declared.store_handle.DescKind.TheVariants.{Dispatch}
-use Rattle.pi_base.specs.Guids.{same_guid}
-use Rattle.pi_base.specs.Lists.{Each}
 use Rattle.store_model.specs.StoreState.{StoreState, body_at, pool_of}
 use Rattle.store_model.specs.Service.Descriptor.{guid_at, kind_at, is_ppi, descriptor_in, descriptors, offsets}
 use Rattle.store_model.specs.Service.Install.{has_ppi, installed, install_pairs, reinstalled, reinstall_pairs, renamed, with_ppi, is_installed}
 use Rattle.boot_model.proofs.ListFacts.{has_later}
-use Rattle.boot_laws.proofs.Bodies.{added_grows}
-use Rattle.boot_laws.proofs.Later.{pendings_ppis, ppis_added}
+use Rattle.boot_laws.proofs.{Bodies.added_grows, Later.pendings_ppis, Later.ppis_added, QuietServices.pendings_quiet}
 use Rattle.boot_laws.specs.ChangedGuids.{is_among}
 use Rattle.boot_laws.proofs.GuidLists.{among_places, or_left, or_right, same_self}
 use Rattle.boot_laws.proofs.LastingGuids.{Lasts, HasDescriptor, has_in, has_lasts, by_places}
-use Rattle.boot_laws.proofs.QuietServices.{pendings_quiet}
 
 -- what every PPI names is there
 abbrev pub AreThere : StoreState → Type 0

@@ -1,18 +1,10 @@
 -- Descriptors that stay where they are keep which GUIDs are installed.
-use Rattle.std.proofs.Common.{◌≡◌, ℕ, Bool, List, [], ◌∷◌, ◌++◌, ◌∙◌, ap, sym, refl, Option, Some, ◌||◌}
-use Rattle.std.specs.Prelude.{unwrap_or}
+use Rattle.std.proofs.Common.{◌≡◌, ℕ, Bool, List, [], ◌∷◌, ◌++◌, ◌∙◌, ap, sym, refl, Option, Some, ◌||◌, unwrap_or, option_map}
 use Rattle.std.specs.List.{list_any}
-use Rattle.std.specs.Option.{option_map}
-use Rattle.pi_base.specs.declared.guid.Guid.{Guid}
-use Rattle.store_model.specs.declared.state.Body.TheVariants.{Descriptor}
-use Rattle.store_model.specs.declared.state.DescriptorBody.{DescriptorBody}
-use Rattle.store_model.specs.declared.state.Entry.{Entry}
-use Rattle.store_model.specs.declared.state.HobEntry.{HobEntry}
-use Rattle.store_model.specs.declared.store_handle.DescKind.TheVariants.{Ppi}
-use Rattle.pi_base.specs.Guids.{same_guid}
-use Rattle.pi_base.specs.Lists.{Each}
-use Rattle.store_model.specs.StoreState.{StoreState, body_at}
-use Rattle.store_model.specs.StateFacts.{IsEntry, IsStoreState}
+use Rattle.pi_base.specs.{declared.guid.Guid.Guid, Guids.same_guid, Lists.Each}
+use Rattle.store_model.specs.{declared.state.Body.TheVariants.Descriptor, declared.state.DescriptorBody.DescriptorBody}
+use Rattle.store_model.specs.{declared.state.Entry.Entry, declared.state.HobEntry.HobEntry, declared.store_handle.DescKind.TheVariants.Ppi}
+use Rattle.store_model.specs.{StoreState.StoreState, StoreState.body_at, StateFacts.IsEntry, StateFacts.IsStoreState}
 use Rattle.store_model.specs.Service.Descriptor.{guid_at, no_guid, descriptor_in, descriptors}
 use Rattle.store_model.specs.Service.Install.{has_ppi}
 use Rattle.boot_laws.proofs.Bodies.{added_grows}

@@ -1,17 +1,11 @@
 -- A later state has the bodies of the one before it, and its lists are no shorter; a call that installs or registers makes the lists as long as its sweep says.
-use Rattle.std.proofs.Common.{◌≡◌, ℕ, suc, ◌+◌, ◌-◌, ◌<◌, Bool, true, false, cond, List, [], ◌∷◌, ◌++◌, length, take, drop, arith, sym, refl, ap, subst, ◌∙◌, ◌==◌, length-append, append-nil, append_assoc, ◌||◌}
-use Rattle.std.specs.Prelude.{fold, unwrap_or}
+use Rattle.std.proofs.Common.{◌≡◌, ℕ, suc, ◌+◌, ◌-◌, ◌<◌, Bool, true, false, cond, List, [], ◌∷◌, ◌++◌, length, take, drop, arith, sym, refl, ap, subst, ◌∙◌, ◌==◌, length-append, append-nil, append_assoc, ◌||◌, fold, unwrap_or, option_map, take_at, drop_at}
 use Rattle.std.specs.List.{list_any}
-use Rattle.std.specs.Option.{option_map}
-use Rattle.std.proofs.lemmas.List.{take_at, drop_at}
-use Rattle.store_model.specs.declared.state.Entry.{Entry}
-use Rattle.store_model.specs.declared.state.Body.TheVariants.{Node, Descriptor}
-use Rattle.store_model.specs.declared.store_handle.DescKind.{DescKind}
+use Rattle.store_model.specs.{declared.state.Entry.Entry, declared.state.Body.TheVariants.Node, declared.state.Body.TheVariants.Descriptor}
+use Rattle.store_model.specs.{declared.store_handle.DescKind.DescKind, declared.store_handle.Desc.Desc, StateFacts.IsDesc}
 use Rattle.store_model.specs.declared.store_handle.DescKind.TheVariants.{Ppi, Callback, Dispatch}
-use Rattle.store_model.specs.declared.store_handle.Desc.{Desc}
 use Rattle.pi_base.specs.Lists.{Each}
 use Rattle.store_model.specs.StoreState.{StoreState, pool_of, next_body}
-use Rattle.store_model.specs.StateFacts.{IsDesc}
 use Rattle.store_model.specs.Service.Descriptor.{offsets, descriptors, kind_at, is_callback, descriptor_in}
 use Rattle.store_model.specs.Service.Install.{with_ppi, with_pending, renamed, place_of}
 use Rattle.store_model.specs.Service.Notify.{with_note, with_note_of, new_callbacks, note_entry}

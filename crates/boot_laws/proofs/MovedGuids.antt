@@ -1,31 +1,19 @@
 -- The move keeps which GUIDs are installed, and behind the core's install that of permanent memory is.
-use Rattle.std.proofs.Common.{◌≡◌, ℕ, ◌+◌, Bool, true, false, cond, List, [], ◌∷◌, ◌∙◌, ap, sym, refl, Option, Some, None, Ok, Err, ◌||◌, length}
-use Rattle.std.specs.Bool.{⊤}
-use Rattle.std.specs.Prelude.{nat_lt, not}
-use Rattle.std.specs.List.{list_all}
-use Rattle.std.specs.Option.{option_map}
-use Rattle.pi_base.specs.declared.guid.Guid.{Guid}
-use Rattle.pi_base.specs.declared.known_guid.TheConstants.{MEMORY_PPI}
-use Rattle.store_model.specs.declared.state.TheConstants.{CORE}
-use Rattle.store_model.specs.declared.state.Body.TheVariants.{Descriptor}
-use Rattle.store_model.specs.declared.state.Entry.{Entry}
-use Rattle.store_model.specs.declared.state.HobEntry.{HobEntry}
-use Rattle.store_model.specs.declared.store_handle.Desc.{Desc}
-use Rattle.store_model.specs.declared.store_handle.DescKind.TheVariants.{Ppi}
+use Rattle.std.proofs.Common.{◌≡◌, ℕ, ◌+◌, Bool, true, false, cond, List, [], ◌∷◌, ◌∙◌, ap, sym, refl, Option, Some, None, Ok, Err, ◌||◌, length, nat_lt, not, option_map}
+use Rattle.std.specs.{Bool.⊤, List.list_all}
+use Rattle.pi_base.specs.{declared.guid.Guid.Guid, declared.known_guid.TheConstants.MEMORY_PPI, Guids.same_guid, Lists.Each}
+use Rattle.store_model.specs.{declared.state.TheConstants.CORE, declared.state.Body.TheVariants.Descriptor, declared.state.Entry.Entry}
+use Rattle.store_model.specs.{declared.state.HobEntry.HobEntry, declared.store_handle.Desc.Desc}
+use Rattle.store_model.specs.{declared.store_handle.DescKind.TheVariants.Ppi, declared.store_handle.Sweep.Sweep, StateFacts.IsStoreState}
 use Rattle.store_model.specs.declared.store_handle.StoreFault.TheVariants as F
-use Rattle.store_model.specs.declared.store_handle.Sweep.{Sweep}
-use Rattle.pi_base.specs.Guids.{same_guid}
-use Rattle.pi_base.specs.Lists.{Each}
 use Rattle.store_model.specs.StoreState.{StoreState, Range, appended, free, header_len, next_body, pool_of, descriptor_len}
-use Rattle.store_model.specs.StateFacts.{IsStoreState}
 use Rattle.store_model.specs.Migration.{migration, migrated_to, moved_descriptor}
 use Rattle.store_model.specs.Service.{Service}
 use Rattle.store_model.specs.Service.Descriptor.{descriptors, descriptor_in, guid_at, is_named, is_ppi, kind_at}
 use Rattle.store_model.specs.Service.Install.{both_or_full, core_install, core_of, has_ppi, install_pairs, install_sweep, installed, node_need}
 use Rattle.boot_model.specs.EvaluationBound.{core_guids}
 use Rattle.boot_model.proofs.ListFacts.{each_both, each_more}
-use Rattle.boot_laws.proofs.MovedHobs.{moved_named}
-use Rattle.boot_laws.proofs.Unmoved.{entries_named}
+use Rattle.boot_laws.proofs.{MovedHobs.moved_named, Unmoved.entries_named}
 use Rattle.store_laws.proofs.Bodies.{new_body}
 use Rattle.boot_laws.specs.ChangedGuids.{is_among}
 use Rattle.boot_laws.proofs.ActionGuids.{Puts, puts_nothing, puts_these}

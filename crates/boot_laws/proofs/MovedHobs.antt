@@ -1,17 +1,13 @@
 -- The move keeps HOBs' types and lengths, and so their places; the body at a place is that of before, moved.
-use Rattle.std.proofs.Common.{◌≡◌, ℕ, ◌+◌, true, cond, List, [], ◌∷◌, Some, refl, ap, ◌∙◌, map}
-use Rattle.std.specs.Option.{option_map}
+use Rattle.std.proofs.Common.{◌≡◌, ℕ, ◌+◌, true, cond, List, [], ◌∷◌, Some, refl, ap, ◌∙◌, map, option_map}
 use Rattle.store_model.specs.declared.state.Body.TheVariants.{Bytes, Descriptor}
-use Rattle.store_model.specs.declared.state.DescriptorBody.{DescriptorBody}
-use Rattle.store_model.specs.declared.state.HobEntry.{HobEntry}
+use Rattle.store_model.specs.{declared.state.DescriptorBody.DescriptorBody, declared.state.HobEntry.HobEntry, HeapImage.descriptor_bytes}
 use Rattle.pi_base.specs.Lists.{Each}
 use Rattle.store_model.specs.StoreState.{StoreState, Range, hob_len, header_len, handoff_len, body_at}
 use Rattle.store_model.specs.StateFacts.{IsStoreState, IsBoard, IsHobEntry}
-use Rattle.store_model.specs.HeapImage.{descriptor_bytes}
 use Rattle.store_model.specs.Migration.{migrated_to, moved_hobs, moved_body, moved_descriptor}
 use Rattle.store_model.specs.Service.Descriptor.{is_named}
-use Rattle.store_laws.proofs.BodyLaws.{all_stay}
-use Rattle.store_laws.proofs.Moved.{moved_len}
+use Rattle.store_laws.proofs.{BodyLaws.all_stay, Moved.moved_len}
 
 pub kinds_stay : (s : StoreState) (to : Range) (at : ℕ) (hobs : List HobEntry) → map (λ hob. hob.kind) (moved_hobs s to at hobs) ≡ map (λ hob. hob.kind) hobs
 kinds_stay s to at [] = refl

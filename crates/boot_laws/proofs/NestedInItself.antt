@@ -1,11 +1,8 @@
 -- Why each volume's parent must come before it: a catalogue whose one volume is nested in itself discovers it twice, and its a priori driver starts twice.
-use Rattle.std.proofs.Common.{◌≡◌, ℕ, [], ◌∷◌, Some, None, refl}
-use Rattle.std.specs.Prelude.{replicate}
+use Rattle.std.proofs.Common.{◌≡◌, ℕ, [], ◌∷◌, Some, None, refl, replicate}
 use Rattle.pi_base.specs.declared.phase.Phase.TheVariants.{Dxe}
 use Rattle.hob_codec.specs.declared.kind.TheConstants.{VOLUME}
-use Rattle.mod_catalog.specs.FileType.{DRIVER as FILE_DRIVER}
-use Rattle.mod_catalog.specs.declared.catalogue.Catalog.{Catalog}
-use Rattle.mod_catalog.specs.declared.catalogue.Module.{Module}
+use Rattle.mod_catalog.specs.{FileType.DRIVER as FILE_DRIVER, declared.catalogue.Catalog.Catalog, declared.catalogue.Module.Module}
 use Rattle.mod_catalog.specs.declared.catalogue.PartExpr.TheVariants.{Absent}
 use Rattle.store_model.specs.declared.state.Body.TheVariants.{Bytes}
 use Rattle.store_model.specs.StoreState.{Board, StoreState, empty_store}

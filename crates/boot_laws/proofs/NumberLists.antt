@@ -1,6 +1,5 @@
 -- Lists of numbers: what holds of each of a list that is read from a place on, what is found in it, and how many are missing from another.
-use Rattle.std.proofs.Common.{take-append-drop, ◌≡◌, ℕ, zero, suc, ◌+◌, ◌==◌, Bool, true, false, not, ◌||◌, cond, List, [], ◌∷◌, ◌++◌, Option, Some, None, refl, sym, ap, ◌∙◌, subst, drop, take}
-use Rattle.std.specs.Prelude.{find, slice_get}
+use Rattle.std.proofs.Common.{take-append-drop, ◌≡◌, ℕ, zero, suc, ◌+◌, ◌==◌, Bool, true, false, not, ◌||◌, cond, List, [], ◌∷◌, ◌++◌, Option, Some, None, refl, sym, ap, ◌∙◌, subst, drop, take, find, slice_get}
 use Rattle.pi_base.specs.Lists.{Each}
 use Rattle.mod_catalog.specs.Parts.{has_number}
 use Rattle.boot_model.specs.PeiChoice.{rotated}

@@ -1,14 +1,8 @@
 -- The drivers of a volume, by place and by rank: none stands twice, and each is a part of the volume.
-use Rattle.std.proofs.Common.{◌≡◌, ℕ, suc, ◌+◌, ◌≤◌, ◌==◌, Bool, true, false, ◌&&◌, cond, List, [], ◌∷◌, ◌++◌, Option, Some, None, refl, sym, subst, ap, ◌∙◌, arith, is_some, option_map, length}
-use Rattle.std.specs.Prelude.{◌≢◌, filter, flat_map, slice_get, unwrap_or}
-use Rattle.std.specs.Option.{option_and_then}
+use Rattle.std.proofs.Common.{◌≡◌, ℕ, suc, ◌+◌, ◌≤◌, ◌==◌, Bool, true, false, ◌&&◌, cond, List, [], ◌∷◌, ◌++◌, Option, Some, None, refl, sym, subst, ap, ◌∙◌, arith, is_some, option_map, length, ◌≢◌, filter, flat_map, slice_get, unwrap_or, option_and_then}
 use Rattle.std.proofs.lemmas.Bool.Decides.{nat_tests}
-use Rattle.pi_base.specs.declared.phase.Phase.{Phase}
-use Rattle.pi_base.specs.declared.phase.Phase.TheVariants.{Dxe}
-use Rattle.mod_catalog.specs.declared.catalogue.Catalog.{Catalog}
-use Rattle.mod_catalog.specs.declared.catalogue.Module.{Module}
-use Rattle.pi_base.specs.Lists.{Each, numbers}
-use Rattle.mod_catalog.specs.WellFormed.{part_of}
+use Rattle.pi_base.specs.{declared.phase.Phase.Phase, declared.phase.Phase.TheVariants.Dxe, Lists.Each, Lists.numbers}
+use Rattle.mod_catalog.specs.{declared.catalogue.Catalog.Catalog, declared.catalogue.Module.Module, WellFormed.part_of}
 use Rattle.mod_catalog.specs.Parts.{has_number, part_at, rank_at, module_volume, is_part_in, parts_from, parts_in}
 use Rattle.boot_model.specs.PeiChoice.{is_rank, ranked}
 use Rattle.boot_model.proofs.ListFacts.{each_more, each_filter, each_flat, each_has}

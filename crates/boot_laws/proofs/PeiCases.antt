@@ -2,11 +2,8 @@
 use Rattle.std.proofs.Common.{◌≡◌, ℕ, Bool, true, false, cond, List, [], ◌∷◌, Option, Some, None, refl, subst, option_map, is_some}
 use Rattle.std.specs.Bool.{⊤}
 use Rattle.boot_model.specs.PeiMachine.{Frame}
-use Rattle.store_model.specs.declared.store_handle.Firing.{Firing}
-use Rattle.store_model.specs.declared.store_handle.Sweep.{Sweep}
-use Rattle.store_model.specs.declared.state.Pending.{Pending}
-use Rattle.store_model.specs.StoreState.{StoreState, Range}
-use Rattle.store_model.specs.Migration.{migration, migrated_to}
+use Rattle.store_model.specs.{declared.store_handle.Firing.Firing, declared.store_handle.Sweep.Sweep, declared.state.Pending.Pending}
+use Rattle.store_model.specs.{StoreState.StoreState, StoreState.Range, Migration.migration, Migration.migrated_to}
 use Rattle.store_model.specs.Service.Queue.{queue_pop, popped}
 use Rattle.boot_model.specs.PeiStep.{PeiCase, Fires, Acts, Moves, Pops, Starts, first_that_applies, acts}
 

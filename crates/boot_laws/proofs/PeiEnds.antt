@@ -1,23 +1,13 @@
 -- A run of PEI ends.
-use Rattle.std.proofs.Common.{◌≡◌, ℕ, zero, suc, ◌+◌, ◌≤◌, ◌<◌, Bool, true, false, cond, List, [], ◌∷◌, Option, Some, None, refl, ap, Ok, Err, nat_le, length, arith, is_some}
-use Rattle.std.specs.Option.{option_and_then}
-use Rattle.pi_base.specs.declared.phase.Phase.TheVariants.{Pei}
+use Rattle.std.proofs.Common.{◌≡◌, ℕ, zero, suc, ◌+◌, ◌≤◌, ◌<◌, Bool, true, false, cond, List, [], ◌∷◌, Option, Some, None, refl, ap, Ok, Err, nat_le, length, arith, is_some, option_and_then}
+use Rattle.pi_base.specs.{declared.phase.Phase.TheVariants.Pei, Lists.Each}
 use Rattle.act_code.specs.declared.action.Action.{Action}
-use Rattle.mod_catalog.specs.declared.catalogue.Catalog.{Catalog}
-use Rattle.mod_catalog.specs.declared.catalogue.Part.{Part}
-use Rattle.boot_model.specs.PeiMachine.{Frame}
+use Rattle.mod_catalog.specs.{declared.catalogue.Catalog.Catalog, declared.catalogue.Part.Part, Parts.has_number, Parts.part_at}
+use Rattle.boot_model.specs.PeiMachine.{Frame, PeiMachine, printed}
 use Rattle.boot_model.specs.declared.line.Line.TheVariants as L
-use Rattle.store_model.specs.declared.store_handle.Sweep.{Sweep}
-use Rattle.pi_base.specs.Lists.{Each}
-use Rattle.store_model.specs.Service.{Service}
-use Rattle.store_model.specs.Service.Sweep.{next_match}
-use Rattle.store_model.specs.Service.Queue.{queue_pop}
-use Rattle.store_model.specs.Service.Install.{core_install}
-use Rattle.store_model.specs.Migration.{migration}
-use Rattle.boot_model.specs.PeiMachine.{PeiMachine, printed}
-use Rattle.boot_model.specs.declared.phase_end.PeiEnd.TheVariants.{Spent, Deep}
-use Rattle.mod_catalog.specs.Parts.{has_number, part_at}
-use Rattle.boot_model.specs.PeiChoice.{next_peim}
+use Rattle.store_model.specs.{declared.store_handle.Sweep.Sweep, Service.Service, Service.Sweep.next_match, Service.Queue.queue_pop}
+use Rattle.store_model.specs.{Service.Install.core_install, Migration.migration}
+use Rattle.boot_model.specs.{declared.phase_end.PeiEnd.TheVariants.Spent, declared.phase_end.PeiEnd.TheVariants.Deep, PeiChoice.next_peim}
 use Rattle.boot_model.specs.PeiAction.{Effect, Wrote, Called, Own, Shadowed, Logged, Skipped, Returned, effect}
 use Rattle.boot_model.specs.PeiStep.{PeiCase, Fires, Acts, Moves, Pops, Starts, Stops, case_of, in_case, pei_step, callback_begun, action_at, after_effect, core_called, started_part, start_frames, open_sweep, swept}
 use Rattle.boot_model.specs.PeiRun.{pei_run, pei_opening, pei_bound}

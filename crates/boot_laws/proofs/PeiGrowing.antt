@@ -1,19 +1,13 @@
 -- A step of PEI adds lines and takes none away.
 use Rattle.std.proofs.Common.{◌≡◌, ℕ, ◌+◌, Bool, true, false, cond, List, [], ◌∷◌, Option, Some, None, refl, sym, subst, append_assoc, Ok, Err, nat_le, length}
 use Rattle.pi_base.specs.declared.phase.Phase.TheVariants.{Pei}
-use Rattle.mod_catalog.specs.declared.catalogue.Catalog.{Catalog}
-use Rattle.mod_catalog.specs.declared.catalogue.Part.{Part}
-use Rattle.mod_catalog.specs.Parts.{has_number, part_at}
-use Rattle.store_model.specs.declared.store_handle.Sweep.{Sweep}
-use Rattle.store_model.specs.Service.{Service}
-use Rattle.store_model.specs.Service.Install.{core_install}
-use Rattle.store_model.specs.StoreState.{StoreState}
-use Rattle.boot_model.specs.declared.line.Line.{Line}
+use Rattle.mod_catalog.specs.{declared.catalogue.Catalog.Catalog, declared.catalogue.Part.Part, Parts.has_number, Parts.part_at}
+use Rattle.store_model.specs.{declared.store_handle.Sweep.Sweep, Service.Service, Service.Install.core_install, StoreState.StoreState}
+use Rattle.boot_model.specs.{declared.line.Line.Line, FreeRun.IsFreeIn}
 use Rattle.boot_model.specs.declared.line.Line.TheVariants as L
 use Rattle.boot_model.specs.PeiAction.{Effect, Wrote, Called, Own, Shadowed, Logged, Skipped, Returned, effect}
 use Rattle.boot_model.specs.PeiMachine.{PeiMachine, Frame, printed}
 use Rattle.boot_model.specs.PeiStep.{PeiCase, Fires, Acts, Moves, Pops, Starts, Stops, in_case, action_at, after_effect, core_called, started_part}
-use Rattle.boot_model.specs.FreeRun.{IsFreeIn}
 use Rattle.boot_laws.proofs.DxeGrowing.{Told, silent}
 
 either_told : (lines : List Line) (b : Bool) (one other : PeiMachine) → Told lines one.lines → Told lines other.lines → Told lines (cond b one other).lines

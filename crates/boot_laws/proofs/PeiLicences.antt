@@ -1,15 +1,10 @@
 -- In every run of PEI, over a well-formed catalogue and a board with its facts, each step keeps its licences.
 use Rattle.std.proofs.Common.{ℕ, zero, suc, Some, None}
-use Rattle.mod_catalog.specs.declared.catalogue.Catalog.{Catalog}
-use Rattle.mod_catalog.specs.WellFormed.{IsWellFormed}
+use Rattle.mod_catalog.specs.{declared.catalogue.Catalog.Catalog, WellFormed.IsWellFormed}
 use Rattle.boot_model.specs.Licence.{AlongRun, IsLicensedStep, IsLicensedRun}
-use Rattle.boot_model.specs.PeiMachine.{PeiMachine}
-use Rattle.boot_model.specs.PeiStep.{pei_step}
-use Rattle.boot_model.specs.PeiRun.{pei_opening}
+use Rattle.boot_model.specs.{PeiMachine.PeiMachine, PeiStep.pei_step, PeiRun.pei_opening}
 use Rattle.boot_laws.specs.RunFacts.{HasFacts}
-use Rattle.boot_laws.proofs.StoreLaws.{StoreLaws}
-use Rattle.boot_laws.proofs.RunFacts.{opening_has_facts, step_has_facts}
-use Rattle.boot_laws.proofs.PeiStarts.{licensed_step}
+use Rattle.boot_laws.proofs.{StoreLaws.StoreLaws, RunFacts.opening_has_facts, RunFacts.step_has_facts, PeiStarts.licensed_step}
 
 licensed_from : StoreLaws → (catalog : Catalog) (fuel n : ℕ) (m : PeiMachine) → IsWellFormed catalog → HasFacts m → AlongRun catalog fuel (IsLicensedStep catalog) n m
 licensed_from laws catalog fuel zero m well has = tt

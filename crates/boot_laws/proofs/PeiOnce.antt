@@ -1,21 +1,12 @@
 -- No part of PEI starts twice, but one that registered for shadow, and that one after the move.
-use Rattle.std.proofs.Common.{◌≡◌, ℕ, zero, suc, ◌+◌, ◌==◌, Bool, true, false, ◌||◌, cond, List, [], ◌∷◌, ◌++◌, Option, Some, None, refl, sym, subst, ◌∙◌, nat_le, length, Ok, Err}
-use Rattle.pi_base.specs.declared.phase.Phase.TheVariants.{Pei}
-use Rattle.mod_catalog.specs.declared.catalogue.Catalog.{Catalog}
-use Rattle.mod_catalog.specs.declared.catalogue.Part.{Part}
+use Rattle.std.proofs.Common.{◌≡◌, ℕ, zero, suc, ◌+◌, ◌==◌, Bool, true, false, ◌||◌, cond, List, [], ◌∷◌, ◌++◌, Option, Some, None, refl, sym, subst, ◌∙◌, nat_le, length, Ok, Err, option_and_then}
+use Rattle.pi_base.specs.{declared.phase.Phase.TheVariants.Pei, Lists.Each}
+use Rattle.mod_catalog.specs.{declared.catalogue.Catalog.Catalog, declared.catalogue.Part.Part, Parts.has_number, Parts.part_at}
 use Rattle.boot_model.specs.declared.line.Line.TheVariants as L
-use Rattle.store_model.specs.declared.store_handle.Firing.{Firing}
-use Rattle.store_model.specs.declared.store_handle.Sweep.{Sweep}
-use Rattle.pi_base.specs.Lists.{Each}
-use Rattle.store_model.specs.Service.{Service}
-use Rattle.store_model.specs.Service.Install.{core_install}
-use Rattle.store_model.specs.Service.Sweep.{next_match}
-use Rattle.store_model.specs.Service.Queue.{queue_pop}
-use Rattle.store_model.specs.Migration.{migration}
-use Rattle.std.specs.Option.{option_and_then}
+use Rattle.store_model.specs.{declared.store_handle.Firing.Firing, declared.store_handle.Sweep.Sweep, Service.Service}
+use Rattle.store_model.specs.{Service.Install.core_install, Service.Sweep.next_match, Service.Queue.queue_pop, Migration.migration}
 use Rattle.boot_model.specs.PeiMachine.{PeiMachine, Frame, printed}
 use Rattle.boot_model.specs.declared.phase_end.PeiEnd.TheVariants.{Spent, Deep}
-use Rattle.mod_catalog.specs.Parts.{has_number, part_at}
 use Rattle.boot_model.specs.Eligible.{is_eligible, may_start, may_start_again}
 use Rattle.boot_model.specs.PeiChoice.{pei_order, rotated, next_peim}
 use Rattle.boot_model.specs.PeiAction.{Effect, Wrote, Called, Own, Shadowed, Logged, Skipped, Returned, effect}

@@ -1,14 +1,8 @@
 -- The PEI order of volumes that differ: no part stands twice, and each part of the volumes is there.
-use Rattle.std.proofs.Common.{◌≡◌, ℕ, zero, suc, ◌+◌, ◌<◌, ◌≤◌, ◌==◌, Bool, true, false, ◌||◌, cond, List, [], ◌∷◌, ◌++◌, length, Option, Some, None, is_some, refl, sym, ap, ◌∙◌, subst, arith}
-use Rattle.std.specs.Prelude.{◌≢◌, filter, flat_map, is_none, slice_get, unwrap_or, IfSome}
-use Rattle.std.specs.Option.{option_and_then, option_map}
+use Rattle.std.proofs.Common.{◌≡◌, ℕ, zero, suc, ◌+◌, ◌<◌, ◌≤◌, ◌==◌, Bool, true, false, ◌||◌, cond, List, [], ◌∷◌, ◌++◌, length, Option, Some, None, is_some, refl, sym, ap, ◌∙◌, subst, arith, ◌≢◌, filter, flat_map, is_none, slice_get, unwrap_or, IfSome, option_and_then, option_map}
 use Rattle.std.proofs.lemmas.Bool.Decides.{nat_tests}
-use Rattle.pi_base.specs.declared.phase.Phase.{Phase}
-use Rattle.pi_base.specs.declared.phase.Phase.TheVariants.{Pei}
-use Rattle.pi_base.specs.Lists.{Each, numbers}
-use Rattle.mod_catalog.specs.declared.catalogue.Catalog.{Catalog}
-use Rattle.mod_catalog.specs.declared.catalogue.Module.{Module}
-use Rattle.mod_catalog.specs.declared.catalogue.Part.{Part}
+use Rattle.pi_base.specs.{declared.phase.Phase.Phase, declared.phase.Phase.TheVariants.Pei, Lists.Each, Lists.numbers}
+use Rattle.mod_catalog.specs.{declared.catalogue.Catalog.Catalog, declared.catalogue.Module.Module, declared.catalogue.Part.Part}
 use Rattle.mod_catalog.specs.Parts.{has_number, part_of, part_at, rank_at, module_volume, is_part_in, parts_from, parts_in}
 use Rattle.mod_catalog.specs.WellFormed.{IsWellFormed, IsRankWithin}
 use Rattle.boot_model.specs.PeiChoice.{is_rank, ranked, volume_order, pei_order}

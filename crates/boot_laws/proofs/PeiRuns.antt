@@ -1,36 +1,23 @@
 -- The lines of the free boots from a machine of PEI, a step at a time.
-use Rattle.std.proofs.Common.{◌≡◌, ℕ, zero, suc, ◌≤◌, ◌<◌, true, List, [], ◌∷◌, ◌++◌, Option, Some, None, refl, sym, ap, subst, is_some, arith}
-use Rattle.store_model.specs.Service.Sweep.{next_match}
-use Rattle.store_model.specs.Service.Queue.{queue_pop}
-use Rattle.std.specs.Option.{option_and_then}
-use Rattle.store_model.specs.Migration.{migration}
-use Rattle.store_model.specs.HandleState.{no_handles}
-use Rattle.mod_catalog.specs.declared.catalogue.Catalog.{Catalog}
-use Rattle.mod_catalog.specs.WellFormed.{AreNumbered}
-use Rattle.boot_model.specs.declared.line.Line.{Line}
+use Rattle.std.proofs.Common.{◌≡◌, ℕ, zero, suc, ◌≤◌, ◌<◌, true, List, [], ◌∷◌, ◌++◌, Option, Some, None, refl, sym, ap, subst, is_some, arith, option_and_then}
+use Rattle.store_model.specs.{Service.Sweep.next_match, Service.Queue.queue_pop, Migration.migration, HandleState.no_handles}
+use Rattle.mod_catalog.specs.{declared.catalogue.Catalog.Catalog, WellFormed.AreNumbered}
+use Rattle.boot_model.specs.{declared.line.Line.Line, declared.line.RunEnd.RunEnd, declared.phase_end.PeiEnd.PeiEnd, Listing.store_lines}
 use Rattle.boot_model.specs.declared.line.Line.TheVariants as L
-use Rattle.boot_model.specs.declared.line.RunEnd.{RunEnd}
 use Rattle.boot_model.specs.declared.line.RunEnd.TheVariants as E
-use Rattle.boot_model.specs.declared.phase_end.PeiEnd.{PeiEnd}
 use Rattle.boot_model.specs.declared.phase_end.PeiEnd.TheVariants.{Handoff, NoMemory, NoIpl, Spent, Deep}
-use Rattle.boot_model.specs.Listing.{store_lines}
-use Rattle.boot_model.specs.PeiMachine.{PeiMachine}
-use Rattle.boot_model.specs.PeiChoice.{next_peim}
+use Rattle.boot_model.specs.{PeiMachine.PeiMachine, PeiChoice.next_peim, DxeRun.dxe_opening, DxeRun.dxe_bound}
 use Rattle.boot_model.specs.PeiStep.{PeiCase, Fires, Acts, Moves, Pops, Starts, Stops, case_of, in_case, pei_step, started, open_sweep}
 use Rattle.boot_model.specs.PeiRun.{pei_run, pei_opening, pei_bound, last_machine}
-use Rattle.boot_model.specs.DxeRun.{dxe_opening, dxe_bound}
 use Rattle.boot_model.specs.BootRun.{handle_lines, pei_lines, lines_after}
 use Rattle.boot_model.specs.FreeRun.{IsFreeIn, IsFreePeiStep, IsFreePeiRun, AreFreeLinesAfter, AreFreePeiLines}
-use Rattle.boot_laws.proofs.PeiCases.{starts_from}
+use Rattle.boot_laws.proofs.{PeiCases.starts_from, Begun.going_not, WholeLines.lines_behind, WholeLines.fewer_printed}
 use Rattle.boot_laws.proofs.PeiSteps as P
 use Rattle.boot_laws.specs.PeiUnderWay.{steps_left}
 use Rattle.boot_laws.specs.PeiFree.{IsOwnCase, PeiGoesOn, PeiStartsFreely, PeiEndsSo, AreLinesBehind, PeiLinesGrow, PeiEndsFreely, OwnPeiStepsAreFree, BootIsFree}
-use Rattle.boot_laws.proofs.Begun.{going_not}
-use Rattle.boot_laws.proofs.WholeLines.{lines_behind, fewer_printed}
-use Rattle.boot_laws.proofs.DxeGrowing.{Told, silent}
+use Rattle.boot_laws.proofs.{DxeGrowing.Told, DxeGrowing.silent, PeiGrowing.free_told}
 use Rattle.boot_laws.proofs.DxeWays as W
 use Rattle.boot_laws.proofs.DxeRuns as D
-use Rattle.boot_laws.proofs.PeiGrowing.{free_told}
 use Rattle.boot_laws.proofs.PeiWays.{way_to, left_same, step_way, next_may_start, has_ended, opens_under_way}
 
 -- a step, and what goes on from there

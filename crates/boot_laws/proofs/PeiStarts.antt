@@ -1,27 +1,19 @@
 -- From a machine of PEI each start has its licence, the move changes no PPI, notification or other HOB, and PEI stops only where none may start.
-use Rattle.std.proofs.Common.{take-append-drop, ◌≡◌, ℕ, Bool, true, false, not, ◌&&◌, ◌||◌, cond, List, [], ◌∷◌, ◌++◌, Option, Some, None, refl, sym, ap, subst, ◌∙◌, option_map, is_some, drop, take, ◌==◌, arith}
-use Rattle.std.specs.Prelude.{find}
+use Rattle.std.proofs.Common.{take-append-drop, ◌≡◌, ℕ, Bool, true, false, not, ◌&&◌, ◌||◌, cond, List, [], ◌∷◌, ◌++◌, Option, Some, None, refl, sym, ap, subst, ◌∙◌, option_map, is_some, drop, take, ◌==◌, arith, find}
 use Rattle.std.specs.List.{list_any}
-use Rattle.mod_catalog.specs.declared.catalogue.Catalog.{Catalog}
-use Rattle.mod_catalog.specs.declared.catalogue.Part.{Part}
-use Rattle.mod_catalog.specs.declared.catalogue.PartExpr.{PartExpr}
+use Rattle.mod_catalog.specs.{declared.catalogue.Catalog.Catalog, declared.catalogue.Part.Part, declared.catalogue.PartExpr.PartExpr}
 use Rattle.mod_catalog.specs.declared.catalogue.PartExpr.TheVariants as E
 use Rattle.boot_model.specs.declared.licence.Licence.TheVariants as G
-use Rattle.store_model.specs.declared.store_handle.Firing.{Firing}
-use Rattle.store_model.specs.declared.store_handle.Sweep.{Sweep}
-use Rattle.store_model.specs.StoreState.{StoreState}
-use Rattle.store_model.specs.StateFacts.{IsStoreState}
-use Rattle.store_model.specs.Migration.{migration}
+use Rattle.store_model.specs.{declared.store_handle.Firing.Firing, declared.store_handle.Sweep.Sweep, StoreState.StoreState}
+use Rattle.store_model.specs.{StateFacts.IsStoreState, Migration.migration}
 use Rattle.boot_model.specs.PeiMachine.{PeiMachine, Frame}
 use Rattle.std.proofs.lemmas.Bool.Decides.{nat_tests}
-use Rattle.mod_catalog.specs.WellFormed.{IsWellFormed}
-use Rattle.mod_catalog.specs.Parts.{has_number}
+use Rattle.mod_catalog.specs.{WellFormed.IsWellFormed, Parts.has_number}
 use Rattle.boot_model.specs.Eligible.{is_eligible, may_start, may_start_again, lets_start, licence_by}
 use Rattle.boot_model.specs.PeiChoice.{pei_order, rotated, next_peim}
 use Rattle.boot_model.specs.PeiStep.{Fires, Moves, Pops, Starts, Stops, first_that_applies, acts}
 use Rattle.boot_model.proofs.ListFacts.{found_passes}
-use Rattle.boot_laws.proofs.PeiOrders.{in_pei_order}
-use Rattle.boot_laws.proofs.Unmoved.{moves_change_nothing}
+use Rattle.boot_laws.proofs.{PeiOrders.in_pei_order, Unmoved.moves_change_nothing}
 use Rattle.boot_model.specs.Licence.{IsLicensed, StartsLicensed, MovesUnchanged, StopsIdle, IsLicensedStep}
 
 -- the last case but one, and the last

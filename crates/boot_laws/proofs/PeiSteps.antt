@@ -1,25 +1,14 @@
 -- Each step of PEI but the last brings the end of the run nearer.
 -- An action pays for two steps: itself, and a notification that begins behind it. A frame that has just begun owes its first action.
-use Rattle.std.proofs.Common.{◌≡◌, ℕ, zero, suc, ◌+◌, ◌-◌, ◌*◌, ◌≤◌, ◌<◌, Bool, true, false, not, ◌&&◌, cond, List, [], ◌∷◌, Option, Some, None, refl, ap, Ok, Err, nat_le, length, arith, is_some, lit≤}
-use Rattle.std.specs.Option.{option_and_then}
+use Rattle.std.proofs.Common.{◌≡◌, ℕ, zero, suc, ◌+◌, ◌-◌, ◌*◌, ◌≤◌, ◌<◌, Bool, true, false, not, ◌&&◌, cond, List, [], ◌∷◌, Option, Some, None, refl, ap, Ok, Err, nat_le, length, arith, is_some, lit≤, option_and_then}
 use Rattle.std.proofs.lemmas.Bool.Decides.{nat_tests}
-use Rattle.pi_base.specs.declared.phase.Phase.{Phase}
-use Rattle.pi_base.specs.declared.phase.Phase.TheVariants.{Pei}
-use Rattle.mod_catalog.specs.declared.catalogue.Catalog.{Catalog}
-use Rattle.mod_catalog.specs.declared.catalogue.Part.{Part}
-use Rattle.boot_model.specs.PeiMachine.{Frame}
+use Rattle.pi_base.specs.{declared.phase.Phase.Phase, declared.phase.Phase.TheVariants.Pei, Lists.Each, Lists.numbers}
+use Rattle.mod_catalog.specs.{declared.catalogue.Catalog.Catalog, declared.catalogue.Part.Part, Parts.has_number, Parts.part_at}
+use Rattle.boot_model.specs.PeiMachine.{Frame, PeiMachine, printed}
 use Rattle.boot_model.specs.declared.line.Line.TheVariants as L
-use Rattle.store_model.specs.declared.store_handle.Sweep.{Sweep}
-use Rattle.pi_base.specs.Lists.{Each, numbers}
-use Rattle.store_model.specs.StoreState.{StoreState}
-use Rattle.store_model.specs.Service.{Service}
-use Rattle.store_model.specs.Service.Sweep.{next_match}
-use Rattle.store_model.specs.Service.Queue.{queue_pop}
-use Rattle.store_model.specs.Service.Install.{core_install}
-use Rattle.store_model.specs.Migration.{migration}
-use Rattle.boot_model.specs.PeiMachine.{PeiMachine, printed}
+use Rattle.store_model.specs.{declared.store_handle.Sweep.Sweep, StoreState.StoreState, Service.Service, Service.Sweep.next_match}
+use Rattle.store_model.specs.{Service.Queue.queue_pop, Service.Install.core_install, Migration.migration}
 use Rattle.boot_model.specs.declared.phase_end.PeiEnd.TheVariants.{Spent, Deep}
-use Rattle.mod_catalog.specs.Parts.{has_number, part_at}
 use Rattle.mod_catalog.specs.WellFormed.{part_of}
 use Rattle.boot_model.specs.Eligible.{is_eligible, may_start, may_start_again}
 use Rattle.boot_model.specs.PeiChoice.{pei_order, rotated, next_peim}
@@ -27,8 +16,7 @@ use Rattle.boot_model.specs.PeiAction.{Effect, Wrote, Called, Own, Shadowed, Log
 use Rattle.boot_model.specs.PeiStep.{PeiCase, Fires, Acts, Moves, Pops, Starts, Stops, case_of, in_case, pei_step, callback_begun, action_at, after_effect, core_called, popped_to, started_part, start_frames, open_sweep, past}
 use Rattle.boot_laws.proofs.Counting.{one_if, missing, In, in_numbers, fewer}
 use Rattle.boot_model.proofs.ListFacts.{each_at, within, found_passes}
-use Rattle.boot_laws.proofs.StoreMoved.{KeepsMoved, core_moved}
-use Rattle.boot_laws.proofs.ActionMoved.{EffectKeeps, effect_keeps}
+use Rattle.boot_laws.proofs.{StoreMoved.KeepsMoved, StoreMoved.core_moved, ActionMoved.EffectKeeps, ActionMoved.effect_keeps}
 use Rattle.boot_laws.proofs.PeiCases.{fires_from, moves_from, migrated_is, pops_from, popped_is, starts_from}
 
 -- 0 where a frame has just begun and owes an action

@@ -1,35 +1,25 @@
 -- A free boot in PEI stays under way, and each free step brings its end nearer.
-use Rattle.std.proofs.Common.{◌≡◌, ℕ, ◌+◌, ◌≤◌, ◌<◌, Bool, true, false, not, ◌&&◌, cond, List, [], ◌∷◌, Option, Some, None, refl, sym, ap, subst, ◌∙◌, Ok, Err, nat_le, length, arith, is_some}
-use Rattle.std.specs.Option.{option_and_then}
-use Rattle.pi_base.specs.declared.phase.Phase.TheVariants.{Pei}
-use Rattle.pi_base.specs.Lists.{Each, numbers}
+use Rattle.std.proofs.Common.{◌≡◌, ℕ, ◌+◌, ◌≤◌, ◌<◌, Bool, true, false, not, ◌&&◌, cond, List, [], ◌∷◌, Option, Some, None, refl, sym, ap, subst, ◌∙◌, Ok, Err, nat_le, length, arith, is_some, option_and_then}
+use Rattle.pi_base.specs.{declared.phase.Phase.TheVariants.Pei, Lists.Each, Lists.numbers}
 use Rattle.act_code.specs.declared.action.Action.{Action}
-use Rattle.mod_catalog.specs.declared.catalogue.Catalog.{Catalog}
-use Rattle.mod_catalog.specs.declared.catalogue.Part.{Part}
+use Rattle.mod_catalog.specs.{declared.catalogue.Catalog.Catalog, declared.catalogue.Part.Part}
 use Rattle.mod_catalog.specs.Parts.{has_number, part_of, part_at}
-use Rattle.store_model.specs.declared.store_handle.Sweep.{Sweep}
-use Rattle.store_model.specs.Service.{Service}
-use Rattle.store_model.specs.Service.Sweep.{next_match}
-use Rattle.store_model.specs.Service.Queue.{queue_pop}
-use Rattle.store_model.specs.Service.Install.{core_install}
-use Rattle.store_model.specs.Migration.{migration}
+use Rattle.store_model.specs.{declared.store_handle.Sweep.Sweep, Service.Service, Service.Sweep.next_match, Service.Queue.queue_pop}
+use Rattle.store_model.specs.{Service.Install.core_install, Migration.migration}
 use Rattle.boot_model.specs.declared.line.Line.TheVariants as L
 use Rattle.boot_model.specs.declared.phase_end.PeiEnd.TheVariants.{Spent, Deep}
-use Rattle.boot_model.specs.Eligible.{is_eligible, may_start_again}
+use Rattle.boot_model.specs.{Eligible.is_eligible, Eligible.may_start_again, FreeRun.MayStart, FreeRun.IsFreeIn}
 use Rattle.boot_model.specs.PeiChoice.{volume_order, pei_order, rotated, next_peim}
 use Rattle.boot_model.specs.PeiMachine.{PeiMachine, Frame, printed}
 use Rattle.boot_model.specs.PeiAction.{Effect, Wrote, Called, Own, Shadowed, Logged, Skipped, Returned, effect}
 use Rattle.boot_model.specs.PeiStep.{PeiCase, Fires, Acts, Moves, Pops, Starts, Stops, case_of, in_case, pei_step, started, callback_begun, action_at, after_effect, core_called, started_part, start_frames, open_sweep, swept}
-use Rattle.boot_model.specs.FreeRun.{MayStart, IsFreeIn}
 use Rattle.boot_model.proofs.ListFacts.{each_flat, each_more, each_at, each_has, each_found, within}
 use Rattle.boot_laws.proofs.Counting as C
-use Rattle.boot_laws.proofs.PartLists.{IsPartOfVolume, each_of}
+use Rattle.boot_laws.proofs.{PartLists.IsPartOfVolume, PartLists.each_of, Begun.not_begun, Begun.not_zero, PeiOrders.volume_parts_are}
 use Rattle.boot_laws.proofs.PeiCases.{fires_from, acts_from, starts_from}
 use Rattle.boot_laws.proofs.PeiSteps as P
 use Rattle.boot_laws.specs.PeiUnderWay.{SweepsAreLater, IsUnderWay, between_actions, steps_before_end, steps_left, PeiOpensUnderWay, PeiStepsRunOut, PeiHasEnded}
-use Rattle.boot_laws.proofs.Begun.{not_begun, not_zero}
 use Rattle.boot_laws.proofs.NumberLists.{one_if_same, missing_same, each_rotated}
-use Rattle.boot_laws.proofs.PeiOrders.{volume_parts_are}
 
 -- the facts of a run are those of the laws of the machine's own run
 sweeps_to : (frames : List Frame) → SweepsAreLater frames → P.SweepsAreLater frames

@@ -1,22 +1,13 @@
 -- The volumes of a plan lie apart from each other and from memory.
-use Rattle.std.proofs.Common.{◌≡◌, ℕ, zero, suc, ◌+◌, ◌<◌, ◌≤◌, Bool, true, false, ◌&&◌, cond, List, [], ◌∷◌, ◌++◌, length, take, Option, Some, None, is_some, refl, sym, ap, subst, ◌∙◌, arith, inl, inr, nat_le, append_assoc, append-nil, length-take}
-use Rattle.std.specs.Prelude.{filter, is_none}
+use Rattle.std.proofs.Common.{◌≡◌, ℕ, zero, suc, ◌+◌, ◌<◌, ◌≤◌, Bool, true, false, ◌&&◌, cond, List, [], ◌∷◌, ◌++◌, length, take, Option, Some, None, is_some, refl, sym, ap, subst, ◌∙◌, arith, inl, inr, nat_le, append_assoc, append-nil, length-take, filter, is_none, leb-true}
 use Rattle.std.specs.List.{list_all}
-use Rattle.std.proofs.lemmas.Bool.{and_parts, or_cases, leb-true}
-use Rattle.std.proofs.lemmas.Bool.Decides.{nat_tests}
-use Rattle.pi_base.specs.declared.span.Span.{Span}
-use Rattle.pi_base.specs.Span.{AreDisjoint}
-use Rattle.pi_base.specs.Lists.{Each, Ordered}
+use Rattle.std.proofs.{lemmas.Bool.and_parts, lemmas.Bool.or_cases, lemmas.Bool.Decides.nat_tests}
+use Rattle.pi_base.specs.{declared.span.Span.Span, Span.AreDisjoint, Lists.Each, Lists.Ordered}
 use Rattle.pi_base.proofs.ListFacts.{each_more, each_append}
-use Rattle.boot_plan.specs.declared.plan.Plan.{Plan}
-use Rattle.boot_plan.specs.declared.plan.PlanVolume.{PlanVolume}
-use Rattle.boot_plan.specs.declared.limits.TheConstants.{MOST_END}
+use Rattle.boot_plan.specs.{declared.plan.Plan.Plan, declared.plan.PlanVolume.PlanVolume, declared.limits.TheConstants.MOST_END}
 use Rattle.phys_mem.specs.declared.rom.Rom.{Rom}
-use Rattle.mod_catalog.specs.declared.catalogue.Catalog.{Catalog}
-use Rattle.mod_catalog.specs.declared.catalogue.VolumeEntry.{VolumeEntry}
-use Rattle.mod_catalog.specs.declared.read_file.Stretch.{Stretch}
-use Rattle.mod_catalog.specs.declared.holding.Holding.{Holding}
-use Rattle.mod_catalog.specs.Holding.{joined, nothing}
+use Rattle.mod_catalog.specs.{declared.catalogue.Catalog.Catalog, declared.catalogue.VolumeEntry.VolumeEntry}
+use Rattle.mod_catalog.specs.{declared.read_file.Stretch.Stretch, declared.holding.Holding.Holding, Holding.joined, Holding.nothing}
 use Rattle.mod_catalog.specs.VolumeTree.{Image, Holds, AreNested, nested_image, nested_stretches, entry_of}
 use Rattle.mod_catalog.specs.Catalogue.{are_apart, has_place, plan_image, IsPlaced, PlanHolds}
 use Rattle.store_model.specs.StateFacts.{AreApart, IsMapped, rom_range}

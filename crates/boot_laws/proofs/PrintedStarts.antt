@@ -1,45 +1,29 @@
 -- Each line that a step prints tells no start but the line of a start, so the lines of a run tell its starts.
-use Rattle.std.proofs.Common.{◌≡◌, ℕ, zero, suc, ◌+◌, Bool, true, false, cond, List, [], ◌∷◌, ◌++◌, length, Option, Some, None, Ok, Err, inl, inr, refl, sym, ap, ◌∙◌, map, nat_le}
-use Rattle.std.specs.Prelude.{flat_map, reverse}
-use Rattle.std.specs.Option.{option_to_list, option_map}
-use Rattle.std.proofs.lemmas.Grind.{flat_map-append, reverse_onto}
-use Rattle.std.proofs.lemmas.List.{map-append}
-use Rattle.pi_base.specs.declared.guid.Guid.{Guid}
-use Rattle.pi_base.specs.declared.phase.Phase.TheVariants.{Pei, Dxe}
+use Rattle.std.proofs.Common.{◌≡◌, ℕ, zero, suc, ◌+◌, Bool, true, false, cond, List, [], ◌∷◌, ◌++◌, length, Option, Some, None, Ok, Err, inl, inr, refl, sym, ap, ◌∙◌, map, nat_le, flat_map, reverse, option_to_list, option_map}
+use Rattle.std.proofs.{lemmas.Grind.flat_map-append, lemmas.Grind.reverse_onto, lemmas.List.map-append}
+use Rattle.pi_base.specs.{declared.guid.Guid.Guid, declared.phase.Phase.TheVariants.Pei, declared.phase.Phase.TheVariants.Dxe}
 use Rattle.pi_base.specs.declared.word.Word.TheVariants.{Success, AlreadyStarted}
 use Rattle.act_code.specs.declared.action.Action.{Action}
-use Rattle.mod_catalog.specs.declared.catalogue.Catalog.{Catalog}
-use Rattle.mod_catalog.specs.declared.catalogue.Part.{Part}
-use Rattle.mod_catalog.specs.declared.catalogue.PartExpr.{PartExpr}
+use Rattle.mod_catalog.specs.{declared.catalogue.Catalog.Catalog, declared.catalogue.Part.Part, declared.catalogue.PartExpr.PartExpr}
 use Rattle.mod_catalog.specs.declared.catalogue.PartExpr.TheVariants as E
 use Rattle.mod_catalog.specs.Parts.{has_number, part_at, module_name, module_volume}
-use Rattle.store_model.specs.declared.state.HobEntry.{HobEntry}
-use Rattle.store_model.specs.declared.store_handle.Sweep.{Sweep}
-use Rattle.store_model.specs.Service.{Service}
-use Rattle.store_model.specs.Service.Install.{core_install}
+use Rattle.store_model.specs.{declared.state.HobEntry.HobEntry, declared.store_handle.Sweep.Sweep, Service.Service}
+use Rattle.store_model.specs.{Service.Install.core_install, HandleState.HandleState, HandleState.no_handles}
 use Rattle.store_model.specs.StoreState.{StoreState, handoff_len, hob_len}
-use Rattle.store_model.specs.HandleState.{HandleState, no_handles}
-use Rattle.boot_model.specs.declared.driver.Scheduled.{Scheduled}
+use Rattle.boot_model.specs.{declared.driver.Scheduled.Scheduled, declared.line.Line.Line, declared.line.RunEnd.RunEnd}
 use Rattle.boot_model.specs.declared.line.CallName.TheVariants as C
 use Rattle.boot_model.specs.declared.line.Extra.TheVariants as X
-use Rattle.boot_model.specs.declared.line.Line.{Line}
 use Rattle.boot_model.specs.declared.line.Line.TheVariants as L
-use Rattle.boot_model.specs.declared.line.RunEnd.{RunEnd}
 use Rattle.boot_model.specs.declared.line.RunEnd.TheVariants as R
 use Rattle.boot_model.specs.declared.licence.Licence.TheVariants as G
-use Rattle.boot_model.specs.declared.phase_end.PeiEnd.{PeiEnd}
+use Rattle.boot_model.specs.{declared.phase_end.PeiEnd.PeiEnd, declared.phase_end.DxeEnd.DxeEnd, Eligible.licence_by, Reporting.reports}
 use Rattle.boot_model.specs.declared.phase_end.PeiEnd.TheVariants.{Handoff, NoMemory, NoIpl, Spent, Deep}
-use Rattle.boot_model.specs.declared.phase_end.DxeEnd.{DxeEnd}
 use Rattle.boot_model.specs.declared.phase_end.DxeEnd.TheVariants as DxeEnds
-use Rattle.boot_model.specs.Eligible.{licence_by}
-use Rattle.boot_model.specs.Reporting.{reports}
 use Rattle.boot_model.specs.PeiMachine.{PeiMachine, Frame, printed}
 use Rattle.boot_model.specs.PeiAction.{status_of, Effect, Wrote, Called, Own, Shadowed, Logged, Skipped, Returned, effect}
 use Rattle.boot_model.specs.PeiStep.{callback_line, dispatch_line, stopped, PeiCase, Fires, Acts, Moves, Pops, Starts, Stops, case_of, in_case, pei_step, callback_begun, report_lines, after_effect, action_at, core_called, popped_to, start_lines, started_part, waiting_line, waiting_lines, outcome_of, handoff_lines, past}
 use Rattle.boot_model.specs.PeiRun.{pei_run, pei_opening, pei_bound, pei_end}
-use Rattle.boot_model.specs.DxeMachine.{DxeMachine, DriverFrame}
-use Rattle.boot_model.specs.DxeChoice.{waiting}
-use Rattle.boot_model.specs.DxeAction.{DxeEffect, dxe_effect}
+use Rattle.boot_model.specs.{DxeMachine.DxeMachine, DxeMachine.DriverFrame, DxeChoice.waiting, DxeAction.DxeEffect, DxeAction.dxe_effect}
 use Rattle.boot_model.specs.DxeAction as D
 use Rattle.boot_model.specs.DxeStep.{protocol_line, dxe_stopped, DxeCase, DxeFires, DxeActs, DxeStarts, DxeStops, dxe_case_of, in_dxe_case, dxe_step, protocol_begun, after_dxe_effect, with_action, dxe_action_at, driver_started, driver_waiting_line}
 use Rattle.boot_model.specs.DxeRun.{dxe_run, dxe_opening, dxe_bound, dxe_end}

@@ -1,14 +1,10 @@
 -- What a run of DXE keeps of its queue: no driver stands twice among those scheduled and started, and each is of a discovered volume.
-use Rattle.std.proofs.Common.{◌≡◌, ℕ, Bool, true, false, not, ◌||◌, List, [], ◌∷◌, ◌++◌, Option, Some, None, refl, sym, subst, ap, ◌∙◌, map, length}
-use Rattle.std.specs.Prelude.{◌≢◌, flat_map}
-use Rattle.pi_base.specs.declared.phase.Phase.TheVariants.{Dxe}
+use Rattle.std.proofs.Common.{◌≡◌, ℕ, Bool, true, false, not, ◌||◌, List, [], ◌∷◌, ◌++◌, Option, Some, None, refl, sym, subst, ap, ◌∙◌, map, length, ◌≢◌, flat_map}
+use Rattle.pi_base.specs.{declared.phase.Phase.TheVariants.Dxe, Lists.Each}
 use Rattle.mod_catalog.specs.declared.catalogue.Catalog.{Catalog}
-use Rattle.boot_model.specs.declared.driver.Scheduled.{Scheduled}
-use Rattle.pi_base.specs.Lists.{Each}
+use Rattle.boot_model.specs.{declared.driver.Scheduled.Scheduled, DxeMachine.DxeMachine, DriverLicence.numbers_of}
 use Rattle.mod_catalog.specs.Parts.{has_number, parts_in, module_volume}
-use Rattle.boot_model.specs.DxeMachine.{DxeMachine}
 use Rattle.boot_model.specs.DxeChoice.{discovered_order, is_waiting, is_scheduled, waiting, is_eligible_driver, companion_group, queue_from, first_eligible, group_scheduled, driver_queue}
-use Rattle.boot_model.specs.DriverLicence.{numbers_of}
 use Rattle.boot_model.proofs.ListFacts.{each_more, each_append, each_filter, each_both, each_cross, each_at, each_found, found_passes, has_later}
 use Rattle.boot_model.proofs.Distinct.{Apart, AllApart, Distinct, absent, distinct_append, distinct_filter}
 use Rattle.boot_laws.proofs.PartLists.{IsKnown, both_of, passed, distinct_of, known_of, drivers_are, ranked_in, ranked_are}

@@ -1,23 +1,15 @@
 -- A step puts new drivers behind the queue or starts its head, so what stands in a queue starts in order.
-use Rattle.std.proofs.Common.{◌≡◌, ℕ, zero, suc, Bool, true, false, cond, ◌||◌, List, [], ◌∷◌, ◌++◌, length, Option, Some, None, refl, sym, ap, subst, ◌∙◌, inl, inr, ◌⊎◌, is_some, nat_le, append_assoc, arith}
-use Rattle.std.specs.Prelude.{◌≢◌, ◌==◌, reverse}
-use Rattle.std.proofs.lemmas.Bool.Decides.{nat_tests}
-use Rattle.std.proofs.lemmas.Grind.{reverse_onto}
-use Rattle.pi_base.specs.declared.phase.Phase.TheVariants.{Dxe}
-use Rattle.pi_base.specs.Lists.{Each}
-use Rattle.mod_catalog.specs.declared.catalogue.Catalog.{Catalog}
-use Rattle.mod_catalog.specs.declared.catalogue.Part.{Part}
-use Rattle.mod_catalog.specs.Parts.{has_number, part_at}
+use Rattle.std.proofs.Common.{◌≡◌, ℕ, zero, suc, Bool, true, false, cond, ◌||◌, List, [], ◌∷◌, ◌++◌, length, Option, Some, None, refl, sym, ap, subst, ◌∙◌, inl, inr, ◌⊎◌, is_some, nat_le, append_assoc, arith, ◌≢◌, ◌==◌, reverse}
+use Rattle.std.proofs.{lemmas.Bool.Decides.nat_tests, lemmas.Grind.reverse_onto}
+use Rattle.pi_base.specs.{declared.phase.Phase.TheVariants.Dxe, Lists.Each}
+use Rattle.mod_catalog.specs.{declared.catalogue.Catalog.Catalog, declared.catalogue.Part.Part, Parts.has_number, Parts.part_at}
 use Rattle.mod_catalog.specs.WellFormed.{AreNumbered}
-use Rattle.boot_model.specs.declared.driver.Scheduled.{Scheduled}
-use Rattle.boot_model.specs.declared.phase_end.DxeEnd.{DxeEnd}
+use Rattle.boot_model.specs.{declared.driver.Scheduled.Scheduled, declared.phase_end.DxeEnd.DxeEnd, Reporting.newcomers}
 use Rattle.boot_model.specs.declared.phase_end.DxeEnd.TheVariants as DxeEnds
-use Rattle.boot_model.specs.Reporting.{newcomers}
-use Rattle.boot_model.specs.DxeMachine.{DxeMachine, DriverFrame}
+use Rattle.boot_model.specs.{DxeMachine.DxeMachine, DxeMachine.DriverFrame, DxeRun.dxe_run, DxeRun.dxe_opening}
 use Rattle.boot_model.specs.DxeChoice.{a_priori_drivers, driver_queue, head_of, queue_from}
 use Rattle.boot_model.specs.DxeAction.{DxeEffect, Wrote, Called, Logged, Skipped, Returned, Own, dxe_effect}
 use Rattle.boot_model.specs.DxeStep.{DxeCase, DxeFires, DxeActs, DxeStarts, DxeStops, dxe_case_in, dxe_case_of, in_dxe_case, dxe_step, protocol_begun, queue_case, after_dxe_effect, with_action, dxe_action_at, driver_started}
-use Rattle.boot_model.specs.DxeRun.{dxe_run, dxe_opening}
 use Rattle.boot_model.specs.DriverLicence.{numbers_of, IsCompanionOf, StandBeside}
 use Rattle.boot_model.proofs.ListFacts.{each_append}
 use Rattle.boot_model.proofs.Distinct.{Apart, Distinct, is_absent}

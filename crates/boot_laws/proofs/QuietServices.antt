@@ -1,33 +1,23 @@
 -- The services that install nothing leave the descriptors and the PPIs as they are.
-use Rattle.std.proofs.Common.{◌≡◌, ◌≢◌, ℕ, ◌+◌, ◌*◌, ◌≤◌, Bool, true, false, cond, List, [], ◌∷◌, ◌∙◌, refl, subst, Option, Some, None, Ok, Err, length, arith}
+use Rattle.std.proofs.Common.{◌≡◌, ◌≢◌, ℕ, ◌+◌, ◌*◌, ◌≤◌, Bool, true, false, cond, List, [], ◌∷◌, ◌∙◌, refl, subst, Option, Some, None, Ok, Err, length, arith, fold, nat_lt, replicate}
 use Rattle.std.specs.Bool.{⊤}
-use Rattle.std.specs.Prelude.{fold, nat_lt, replicate}
 use Rattle.std.proofs.lemmas.Bool.Decides.{nat_tests}
-use Rattle.pi_base.specs.declared.guid.Guid.{Guid}
+use Rattle.pi_base.specs.{declared.guid.Guid.Guid, Lists.Each}
 use Rattle.hob_codec.specs.HobValue.{HobValue}
 use Rattle.store_model.specs.declared.state.Body.TheVariants.{Bytes, Descriptor, Node}
-use Rattle.store_model.specs.declared.state.Pending.{Pending}
-use Rattle.store_model.specs.declared.store_handle.DescKind.{DescKind}
+use Rattle.store_model.specs.{declared.state.Pending.Pending, declared.store_handle.DescKind.DescKind, declared.store_handle.Desc.Desc}
 use Rattle.store_model.specs.declared.store_handle.DescKind.TheVariants.{Ppi, Callback, Dispatch}
-use Rattle.store_model.specs.declared.store_handle.Desc.{Desc}
-use Rattle.store_model.specs.declared.store_handle.Firing.{Firing}
-use Rattle.store_model.specs.declared.store_handle.GuidFrom.{GuidFrom}
-use Rattle.store_model.specs.declared.store_handle.Pool.{Pool}
-use Rattle.store_model.specs.declared.store_handle.StoreFault.{StoreFault}
-use Rattle.pi_base.specs.Lists.{Each}
-use Rattle.store_model.specs.declared.state.HobEntry.{HobEntry}
+use Rattle.store_model.specs.{declared.store_handle.Firing.Firing, declared.store_handle.GuidFrom.GuidFrom, declared.store_handle.Pool.Pool}
+use Rattle.store_model.specs.{declared.store_handle.StoreFault.StoreFault, declared.state.HobEntry.HobEntry, Service.Service}
 use Rattle.store_model.specs.StoreState.{StoreState, body_at, pool_of, rounded, appended}
 use Rattle.store_model.specs.StateFacts.{IsPending, IsPool, IsStoreState}
-use Rattle.store_model.specs.Service.{Service}
 use Rattle.store_model.specs.Service.Pool.{pool, store, written}
 use Rattle.store_model.specs.Service.Descriptor.{desc, desc_of, guid_from, kind_at}
-use Rattle.store_model.specs.Service.Install.{with_pending}
+use Rattle.store_model.specs.{Service.Install.with_pending, Service.Hob.create_hob, Service.Hob.hob_entry}
 use Rattle.store_model.specs.Service.Notify.{notify, notified, notify_pairs, with_note, with_note_of}
-use Rattle.store_model.specs.Service.Hob.{create_hob, hob_entry}
 use Rattle.store_model.specs.Service.Memory.{set_memory, pages, early_pages, pages_taken, with_pages, allocation_hob}
 use Rattle.store_model.specs.Service.Queue.{queue_pop, popped, zeroed}
-use Rattle.store_laws.proofs.Bodies.{elsewhere}
-use Rattle.store_laws.proofs.Changed.{written_len}
+use Rattle.store_laws.proofs.{Bodies.elsewhere, Changed.written_len}
 use Rattle.boot_laws.proofs.Bodies.{changed}
 use Rattle.boot_laws.proofs.LastingGuids.{IsQuiet, quiet_self, quiet_then, quiet_added}
 

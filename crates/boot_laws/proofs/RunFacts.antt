@@ -1,41 +1,24 @@
 -- Each machine of a run of PEI has its facts: the opening has them, and each step keeps them.
-use Rattle.std.proofs.Common.{◌≡◌, ℕ, zero, suc, ◌+◌, ◌<◌, ◌^◌, Bool, true, false, cond, List, [], ◌∷◌, length, replicate, subst, refl, Option, Some, None, Ok, Err, nat_le}
-use Rattle.std.specs.Prelude.{IfSome, slice_set}
-use Rattle.std.specs.Option.{option_and_then}
-use Rattle.pi_base.specs.declared.phase.Phase.TheVariants.{Pei}
-use Rattle.pi_base.specs.Lists.{Each}
+use Rattle.std.proofs.Common.{◌≡◌, ℕ, zero, suc, ◌+◌, ◌<◌, ◌^◌, Bool, true, false, cond, List, [], ◌∷◌, length, replicate, subst, refl, Option, Some, None, Ok, Err, nat_le, IfSome, slice_set, option_and_then}
+use Rattle.pi_base.specs.{declared.phase.Phase.TheVariants.Pei, declared.phase.Phase.TheVariants.Pei as InPei, Lists.Each}
 use Rattle.act_code.specs.declared.action.Action.{Action}
-use Rattle.mod_catalog.specs.declared.catalogue.Catalog.{Catalog}
-use Rattle.mod_catalog.specs.declared.catalogue.Part.{Part}
-use Rattle.mod_catalog.specs.Parts.{has_number, part_at}
+use Rattle.mod_catalog.specs.{declared.catalogue.Catalog.Catalog, declared.catalogue.Part.Part, Parts.has_number, Parts.part_at}
 use Rattle.mod_catalog.specs.WellFormed.{IsWellFormed}
-use Rattle.store_model.specs.declared.store_handle.Firing.{Firing}
-use Rattle.store_model.specs.declared.store_handle.Sweep.{Sweep}
-use Rattle.store_model.specs.StoreState.{StoreState}
-use Rattle.store_model.specs.StateFacts.{IsStoreState}
-use Rattle.store_model.specs.Service.{Service}
-use Rattle.store_model.specs.Service.Sweep.{next_match}
-use Rattle.store_model.specs.Service.Queue.{queue_pop}
-use Rattle.store_model.specs.Service.Install.{core_install}
-use Rattle.store_model.specs.Migration.{migration}
+use Rattle.store_model.specs.{declared.store_handle.Firing.Firing, declared.store_handle.Sweep.Sweep, StoreState.StoreState}
+use Rattle.store_model.specs.{StateFacts.IsStoreState, Service.Service, Service.Sweep.next_match, Service.Queue.queue_pop}
+use Rattle.store_model.specs.{Service.Install.core_install, Migration.migration}
 use Rattle.store_laws.specs.Keeping.{Keeps}
 use Rattle.boot_model.specs.declared.frame.Register.TheVariants.{Empty, Number, DescriptorIn}
 use Rattle.boot_model.specs.declared.line.Line.TheVariants as L
-use Rattle.boot_model.specs.declared.phase_end.PeiEnd.TheVariants.{Spent, Deep}
+use Rattle.boot_model.specs.{declared.phase_end.PeiEnd.TheVariants.Spent, declared.phase_end.PeiEnd.TheVariants.Deep, PeiChoice.next_peim}
 use Rattle.boot_model.specs.PeiMachine.{PeiMachine, Frame, no_registers, printed}
-use Rattle.boot_model.specs.PeiChoice.{next_peim}
 use Rattle.boot_model.specs.PeiAction.{Effect, Wrote, Called, Own, Shadowed, Logged, Skipped, Returned, effect}
 use Rattle.boot_model.specs.PeiStep.{PeiCase, Fires, Acts, Moves, Pops, Starts, Stops, case_of, in_case, pei_step, callback_begun, notification_frame, swept, open_sweep, action_at, after_effect, core_called, started_part, start_frames}
 use Rattle.boot_model.specs.PeiRun.{pei_run, pei_opening}
 use Rattle.boot_laws.specs.RunFacts.{FitRegisters, HasFacts, OpeningHasFacts, StepHasFacts, RunHasFacts}
-use Rattle.boot_laws.proofs.StoreLaws.{StoreLaws}
+use Rattle.boot_laws.proofs.{StoreLaws.StoreLaws, PeiCases.cases, Firings.pop_sound, Openings.opening_is_sound, Standing.to_parts}
 use Rattle.boot_model.proofs.ScriptActions.{taken_action}
-use Rattle.pi_base.specs.declared.phase.Phase.TheVariants.{Pei as InPei}
 use Rattle.boot_laws.proofs.EffectFacts.{FitsAfter, action_fits, set_fits}
-use Rattle.boot_laws.proofs.PeiCases.{cases}
-use Rattle.boot_laws.proofs.Firings.{pop_sound}
-use Rattle.boot_laws.proofs.Openings.{opening_is_sound}
-use Rattle.boot_laws.proofs.Standing.{to_parts}
 use Rattle.boot_laws.proofs.SoundSteps.{steps_keep_sound, fires_with, acts_with, pops_with, open_within, open_matched}
 
 abbrev FitFrame : Frame → Type 0

@@ -1,40 +1,23 @@
 -- Each case of a step keeps the machine sound.
-use Rattle.std.proofs.Common.{◌≡◌, ℕ, ◌≤◌, ◌<◌, Bool, true, false, cond, List, [], ◌∷◌, length, ◌+◌, arith, sym, refl, subst, Option, Some, None, Ok, Err, nat_le, is_some}
-use Rattle.std.specs.Option.{option_and_then}
+use Rattle.std.proofs.Common.{◌≡◌, ℕ, ◌≤◌, ◌<◌, Bool, true, false, cond, List, [], ◌∷◌, length, ◌+◌, arith, sym, refl, subst, Option, Some, None, Ok, Err, nat_le, is_some, option_and_then}
 use Rattle.std.proofs.lemmas.Bool.Decides.{nat_tests}
 use Rattle.pi_base.specs.declared.phase.Phase.TheVariants.{Pei}
 use Rattle.act_code.specs.declared.action.Action.{Action}
-use Rattle.mod_catalog.specs.declared.catalogue.Catalog.{Catalog}
-use Rattle.mod_catalog.specs.declared.catalogue.Part.{Part}
-use Rattle.boot_model.specs.PeiMachine.{Frame}
-use Rattle.mod_catalog.specs.declared.limits.TheConstants.{MOST_MODULES}
+use Rattle.mod_catalog.specs.{declared.catalogue.Catalog.Catalog, declared.catalogue.Part.Part, declared.limits.TheConstants.MOST_MODULES}
+use Rattle.boot_model.specs.PeiMachine.{Frame, PeiMachine, printed}
 use Rattle.boot_model.specs.declared.line.Line.TheVariants as L
-use Rattle.store_model.specs.declared.store_handle.Firing.{Firing}
-use Rattle.store_model.specs.declared.store_handle.Sweep.{Sweep}
-use Rattle.store_model.specs.StoreState.{StoreState}
-use Rattle.store_model.specs.StateFacts.{IsStoreState, IsSweepOf}
-use Rattle.store_model.specs.Service.{Service}
-use Rattle.store_model.specs.Service.Sweep.{next_match}
-use Rattle.store_model.specs.Service.Queue.{queue_pop}
-use Rattle.store_model.specs.Service.Install.{core_install}
-use Rattle.store_model.specs.Migration.{migration}
-use Rattle.mod_catalog.specs.WellFormed.{part_of}
-use Rattle.mod_catalog.specs.Parts.{has_number, part_at}
-use Rattle.boot_model.specs.PeiMachine.{PeiMachine, printed}
-use Rattle.boot_model.specs.declared.phase_end.PeiEnd.TheVariants.{Spent, Deep}
-use Rattle.boot_model.specs.PeiChoice.{next_peim}
+use Rattle.store_model.specs.{declared.store_handle.Firing.Firing, declared.store_handle.Sweep.Sweep, StoreState.StoreState}
+use Rattle.store_model.specs.{StateFacts.IsStoreState, StateFacts.IsSweepOf, Service.Service, Service.Sweep.next_match}
+use Rattle.store_model.specs.{Service.Queue.queue_pop, Service.Install.core_install, Migration.migration}
+use Rattle.mod_catalog.specs.{WellFormed.part_of, Parts.has_number, Parts.part_at}
+use Rattle.boot_model.specs.{declared.phase_end.PeiEnd.TheVariants.Spent, declared.phase_end.PeiEnd.TheVariants.Deep, PeiChoice.next_peim}
 use Rattle.boot_model.specs.PeiAction.{Effect, Wrote, Called, Own, Shadowed, Logged, Skipped, Returned, effect}
 use Rattle.boot_model.specs.PeiStep.{PeiCase, Fires, Acts, Moves, Pops, Starts, Stops, case_of, in_case, callback_begun, core_swept, open_sweep, action_at, after_effect, core_called, started_part, start_frames}
 use Rattle.boot_model.proofs.ListFacts.{within}
-use Rattle.boot_laws.proofs.PeiCases.{cases}
-use Rattle.boot_model.specs.MachineFacts.{IsModuleNumber}
-use Rattle.boot_laws.specs.Stay.{Visits}
-use Rattle.boot_laws.specs.Stay.{HoldsAfter}
-use Rattle.boot_laws.proofs.Staying.{action_holds}
-use Rattle.boot_model.specs.MachineFacts.{IsSound, IsFiring}
-use Rattle.boot_laws.specs.SoundRuns.{StartsKeepSound, StepsKeepSound}
+use Rattle.boot_laws.proofs.{PeiCases.cases, Staying.action_holds, CoreSweeps.IsCoreCall, CoreSweeps.core_sound}
+use Rattle.boot_model.specs.MachineFacts.{IsModuleNumber, IsSound, IsFiring}
+use Rattle.boot_laws.specs.{Stay.Visits, Stay.HoldsAfter, SoundRuns.StartsKeepSound, SoundRuns.StepsKeepSound}
 use Rattle.boot_laws.proofs.Firings.{IsMatched, match_sound, IsPopped, pop_sound}
-use Rattle.boot_laws.proofs.CoreSweeps.{IsCoreCall, core_sound}
 use Rattle.boot_laws.proofs.Standing.{Holds, IsOfModule, Sweeps, AreSound, to_parts, of_parts, sweep_later, held_later, sweeps_later, fresh_held, notified_held, notified_module, swept_sound, swept_len}
 
 either_sound : (b : Bool) (one other : PeiMachine) → IsSound one → (b ≡ false → IsSound other) → IsSound (cond b one other)

@@ -1,23 +1,15 @@
 -- Frames over a state: a new one holds what is there, and those that stand keep what they have over a later state.
-use Rattle.std.proofs.Common.{◌≡◌, ℕ, zero, suc, ◌≤◌, ◌<◌, List, [], ◌∷◌, length, replicate, arith, refl, subst, Option, Some, None}
-use Rattle.std.specs.Prelude.{IfSome, slice_set}
-use Rattle.boot_model.specs.PeiMachine.{Frame}
+use Rattle.std.proofs.Common.{◌≡◌, ℕ, zero, suc, ◌≤◌, ◌<◌, List, [], ◌∷◌, length, replicate, arith, refl, subst, Option, Some, None, IfSome, slice_set}
+use Rattle.boot_model.specs.PeiMachine.{Frame, PeiMachine, no_registers}
 use Rattle.boot_model.specs.declared.frame.Register.TheVariants.{Empty, Number, DescriptorIn}
-use Rattle.boot_model.specs.declared.frame.TheConstants.{MOST_FRAMES}
-use Rattle.store_model.specs.declared.store_handle.Firing.{Firing}
-use Rattle.store_model.specs.declared.store_handle.Sweep.{Sweep}
+use Rattle.boot_model.specs.{declared.frame.TheConstants.MOST_FRAMES, PeiStep.notification_frame, PeiStep.swept}
+use Rattle.store_model.specs.{declared.store_handle.Firing.Firing, declared.store_handle.Sweep.Sweep, StoreState.StoreState}
 use Rattle.pi_base.specs.Lists.{Each}
-use Rattle.store_model.specs.StoreState.{StoreState}
 use Rattle.store_model.specs.StateFacts.{IsSweepOf}
-use Rattle.boot_model.specs.PeiMachine.{PeiMachine, no_registers}
-use Rattle.boot_model.specs.PeiStep.{notification_frame, swept}
 use Rattle.boot_model.proofs.ListFacts.{each_more}
-use Rattle.boot_model.specs.MachineFacts.{HoldRegisters, IsModuleNumber}
-use Rattle.boot_laws.specs.Stay.{IsLater}
-use Rattle.boot_laws.proofs.Bodies.{hold_on}
-use Rattle.boot_laws.proofs.Staying.{set_held}
-use Rattle.boot_model.specs.MachineFacts.{IsSound, IsFiring}
-use Rattle.boot_laws.specs.SoundRuns.{SweepsStay}
+use Rattle.boot_model.specs.MachineFacts.{HoldRegisters, IsModuleNumber, IsSound, IsFiring}
+use Rattle.boot_laws.specs.{Stay.IsLater, SoundRuns.SweepsStay}
+use Rattle.boot_laws.proofs.{Bodies.hold_on, Staying.set_held}
 
 abbrev pub Holds : StoreState → Frame → Type 0
 Holds s frame = HoldRegisters frame.registers s

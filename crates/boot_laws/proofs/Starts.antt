@@ -2,17 +2,13 @@
 use Rattle.std.proofs.Common.{◌≡◌, true, List, [], ◌∷◌, ◌++◌, Option, Some, None, is_some, refl, ap, ◌∙◌}
 use Rattle.pi_base.specs.declared.phase.Phase.TheVariants.{Pei, Dxe}
 use Rattle.act_code.specs.declared.action.Action.{Action}
-use Rattle.mod_catalog.specs.declared.catalogue.Part.{Part}
-use Rattle.mod_catalog.specs.Parts.{part_at}
-use Rattle.boot_model.specs.declared.line.Line.{Line}
-use Rattle.boot_model.specs.Eligible.{licence_at}
+use Rattle.mod_catalog.specs.{declared.catalogue.Part.Part, Parts.part_at}
+use Rattle.boot_model.specs.{declared.line.Line.Line, Eligible.licence_at}
 use Rattle.boot_model.specs.PeiStep.{start_lines, start_line, started_part}
 use Rattle.boot_model.specs.DxeStep.{in_dxe_case, driver_started, dxe_start_line}
-use Rattle.boot_laws.proofs.DxeOnce.{queue_is}
+use Rattle.boot_laws.proofs.{DxeOnce.queue_is, PeiWays.may_has_part, DxeWays.queued_to}
 use Rattle.boot_laws.specs.PeiAim as P
 use Rattle.boot_laws.specs.DxeAim as D
-use Rattle.boot_laws.proofs.PeiWays.{may_has_part}
-use Rattle.boot_laws.proofs.DxeWays.{queued_to}
 
 -- what stands behind a start line
 behind_start : (line : Line) (blocks : List (List Action)) → (rest : List Line) × (start_lines line blocks ≡ line ∷ rest)

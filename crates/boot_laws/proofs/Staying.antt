@@ -1,37 +1,24 @@
 -- After each action what was there is there, and its sweep lies within the lists: a service adds HOBs, writes bytes into a pool, or changes none.
-use Rattle.std.proofs.Common.{◌≡◌, ℕ, zero, suc, ◌+◌, ◌≤◌, Bool, true, false, cond, List, [], ◌∷◌, ◌++◌, ◌∙◌, ap, length, take, drop, length-append, replicate, ◌-◌, ◌*◌, arith, sym, refl, subst, Option, Some, None, Ok, Err}
-use Rattle.std.specs.Prelude.{slice_set, slice_get, filter, fold, nat_lt, not}
-use Rattle.std.specs.Option.{option_map}
-use Rattle.std.proofs.lemmas.List.{length-replicate}
-use Rattle.std.proofs.lemmas.Bool.Decides.{nat_tests}
-use Rattle.pi_base.specs.declared.guid.Guid.{Guid}
+use Rattle.std.proofs.Common.{◌≡◌, ℕ, zero, suc, ◌+◌, ◌≤◌, Bool, true, false, cond, List, [], ◌∷◌, ◌++◌, ◌∙◌, ap, length, take, drop, length-append, replicate, ◌-◌, ◌*◌, arith, sym, refl, subst, Option, Some, None, Ok, Err, slice_set, slice_get, filter, fold, nat_lt, not, option_map}
+use Rattle.std.proofs.{lemmas.List.length-replicate, lemmas.Bool.Decides.nat_tests}
+use Rattle.pi_base.specs.{declared.guid.Guid.Guid, Lists.Each}
 use Rattle.hob_codec.specs.HobValue.{HobValue}
-use Rattle.boot_model.specs.PeiMachine.{Frame}
-use Rattle.boot_model.specs.declared.frame.Register.{Register}
+use Rattle.boot_model.specs.{PeiMachine.Frame, declared.frame.Register.Register, MachineFacts.IsHeld, MachineFacts.HoldRegisters}
 use Rattle.boot_model.specs.declared.frame.Register.TheVariants.{Number, PoolIn, DescriptorIn}
-use Rattle.store_model.specs.declared.state.Entry.{Entry}
-use Rattle.store_model.specs.declared.state.HobEntry.{HobEntry}
+use Rattle.store_model.specs.{declared.state.Entry.Entry, declared.state.HobEntry.HobEntry}
 use Rattle.store_model.specs.declared.state.Body.TheVariants.{Bytes, Descriptor}
-use Rattle.store_model.specs.declared.store_handle.DescKind.{DescKind}
-use Rattle.store_model.specs.declared.store_handle.DescKind.TheVariants.{Ppi}
-use Rattle.store_model.specs.declared.store_handle.Desc.{Desc}
-use Rattle.store_model.specs.declared.store_handle.Pool.{Pool}
-use Rattle.store_model.specs.declared.store_handle.Sweep.{Sweep}
-use Rattle.store_model.specs.declared.store_handle.StoreFault.{StoreFault}
+use Rattle.store_model.specs.{declared.store_handle.DescKind.DescKind, declared.store_handle.DescKind.TheVariants.Ppi}
+use Rattle.store_model.specs.{declared.store_handle.Desc.Desc, declared.store_handle.Pool.Pool, declared.store_handle.Sweep.Sweep}
+use Rattle.store_model.specs.{declared.store_handle.StoreFault.StoreFault, Service.Service, Service.in_room, Service.Reading.ppis_of}
 use Rattle.store_model.specs.declared.store_handle.StoreFault.TheVariants as F
-use Rattle.pi_base.specs.Lists.{Each}
 use Rattle.store_model.specs.StoreState.{StoreState, next_body, appended, pool_of, rounded, end_place}
 use Rattle.store_model.specs.StateFacts.{IsPool, IsDesc, IsEntry, IsStoreState}
-use Rattle.store_model.specs.Service.{Service, in_room}
-use Rattle.store_model.specs.Service.Reading.{ppis_of}
-use Rattle.store_model.specs.Service.Pool.{pool}
+use Rattle.store_model.specs.{Service.Pool.pool, Service.Hob.create_hob, Service.Hob.hob_entry}
 use Rattle.store_model.specs.Service.Descriptor.{desc_of, guid_from, number_at, descriptors, offsets}
 use Rattle.store_model.specs.Service.Install.{install, reinstall, installed, reinstalled, with_ppi, with_pending, install_pairs, reinstall_pairs, renamed, place_of, is_installed, node_need, install_sweep, reinstall_sweep}
 use Rattle.store_model.specs.Service.Notify.{notify, notified, with_note, notify_pairs, notify_sweep}
-use Rattle.store_model.specs.Service.Hob.{create_hob, hob_entry}
 use Rattle.store_model.specs.Service.Memory.{set_memory, pages_taken, early_pages, allocation_len, allocation_hob, with_pages, with_boot_mode, page_len}
 use Rattle.boot_model.specs.PeiAction.{Called, kind_number, Effect, Wrote, Own, Shadowed, Logged, Skipped, Returned, effect}
-use Rattle.boot_model.specs.MachineFacts.{IsHeld, HoldRegisters}
 use Rattle.boot_laws.specs.Stay.{IsLater, IsReply, Visits, HoldsAfter, ActionsAreSound, RepliesAreSound}
 use Rattle.boot_model.proofs.Held.{held_pool, held_list}
 use Rattle.store_laws.proofs.Bodies.{new_body}

@@ -1,33 +1,22 @@
 -- What a step of PEI changes of the GUIDs that are installed.
 use Rattle.std.proofs.Common.{◌≡◌, ℕ, ◌+◌, Bool, true, false, cond, List, [], ◌∷◌, ◌∙◌, sym, refl, subst, Option, Some, None, Ok, Err, nat_le, length}
-use Rattle.pi_base.specs.declared.guid.Guid.{Guid}
+use Rattle.pi_base.specs.{declared.guid.Guid.Guid, Lists.Each}
 use Rattle.act_code.specs.declared.action.Action.{Action}
-use Rattle.mod_catalog.specs.declared.catalogue.Catalog.{Catalog}
-use Rattle.mod_catalog.specs.declared.catalogue.Part.{Part}
-use Rattle.boot_model.specs.PeiMachine.{Frame}
+use Rattle.mod_catalog.specs.{declared.catalogue.Catalog.Catalog, declared.catalogue.Part.Part, Parts.has_number}
+use Rattle.boot_model.specs.PeiMachine.{Frame, PeiMachine, printed}
 use Rattle.boot_model.specs.declared.frame.TheConstants.{MOST_FRAMES}
 use Rattle.boot_model.specs.declared.line.Line.TheVariants as L
-use Rattle.store_model.specs.declared.store_handle.Firing.{Firing}
-use Rattle.store_model.specs.declared.store_handle.Sweep.{Sweep}
-use Rattle.pi_base.specs.Lists.{Each}
-use Rattle.store_model.specs.StoreState.{StoreState}
-use Rattle.store_model.specs.StateFacts.{IsStoreState}
-use Rattle.store_model.specs.Service.{Service}
-use Rattle.store_model.specs.Service.Install.{core_install, has_ppi}
-use Rattle.mod_catalog.specs.Parts.{has_number}
-use Rattle.boot_model.specs.PeiMachine.{PeiMachine, printed}
+use Rattle.store_model.specs.{declared.store_handle.Firing.Firing, declared.store_handle.Sweep.Sweep, StoreState.StoreState}
+use Rattle.store_model.specs.{StateFacts.IsStoreState, Service.Service, Service.Install.core_install, Service.Install.has_ppi}
 use Rattle.boot_model.specs.declared.phase_end.PeiEnd.TheVariants.{Deep, Spent}
 use Rattle.boot_model.specs.PeiAction.{Effect, Wrote, Called, Own, Shadowed, Logged, Skipped, Returned, effect}
 use Rattle.boot_model.specs.PeiStep.{PeiCase, Fires, Acts, Moves, Pops, Starts, Stops, case_of, in_case, callback_begun, fired, action_at, after_effect, core_called, started_part}
-use Rattle.boot_model.specs.EvaluationBound.{action_guids, case_guids}
-use Rattle.boot_model.specs.MachineFacts.{HoldRegisters}
-use Rattle.boot_laws.proofs.PeiCases.{cases}
+use Rattle.boot_model.specs.{EvaluationBound.action_guids, EvaluationBound.case_guids, MachineFacts.HoldRegisters}
+use Rattle.boot_laws.proofs.{PeiCases.cases, LastingGuids.IsQuiet, LastingGuids.quiet_has, QuietServices.PopQuiet, QuietServices.pop_quiet}
 use Rattle.boot_laws.specs.ChangedGuids.{IsKept}
 use Rattle.boot_model.specs.EventGuids.{case_placed, placed_guids}
 use Rattle.boot_laws.proofs.ActionGuids.{Puts, puts, puts_nothing, state_after}
-use Rattle.boot_laws.proofs.LastingGuids.{IsQuiet, quiet_has}
 use Rattle.boot_laws.proofs.MovedGuids.{Keeps, OfSome, core_puts, core_state, migration_keeps}
-use Rattle.boot_laws.proofs.QuietServices.{PopQuiet, pop_quiet}
 
 -- what a case tells of the machine
 top_from : (P : Frame → Type 0) (a : Option (Firing × Sweep)) (frames : List Frame) (c : Option StoreState) (d : Option (Firing × StoreState)) (e : Option ℕ) (frame : Frame) (below : List Frame)

@@ -1,7 +1,5 @@
 -- The laws of stores on which the laws of runs stand.
-use Rattle.store_laws.specs.Keeping.{KeepFacts}
-use Rattle.store_laws.specs.Steps.{StepsKeepFacts}
-use Rattle.store_laws.specs.Fitting.{StatesFit}
+use Rattle.store_laws.specs.{Keeping.KeepFacts, Steps.StepsKeepFacts, Fitting.StatesFit}
 
 pub record StoreLaws : Type 0 where
   pub keep : KeepFacts

@@ -1,26 +1,16 @@
 -- No service moves the store.
-use Rattle.std.proofs.Common.{◌≡◌, ℕ, ◌*◌, Bool, true, false, cond, List, [], ◌∷◌, Option, Some, None, refl, ◌∙◌, Ok, Err}
+use Rattle.std.proofs.Common.{◌≡◌, ℕ, ◌*◌, Bool, true, false, cond, List, [], ◌∷◌, Option, Some, None, refl, ◌∙◌, Ok, Err, fold}
 use Rattle.std.specs.Bool.{⊤}
-use Rattle.std.specs.Prelude.{fold}
-use Rattle.pi_base.specs.declared.guid.Guid.{Guid}
+use Rattle.pi_base.specs.{declared.guid.Guid.Guid, declared.known_guid.TheConstants.MEMORY_PPI}
 use Rattle.hob_codec.specs.HobValue.{HobValue}
-use Rattle.pi_base.specs.declared.known_guid.TheConstants.{MEMORY_PPI}
-use Rattle.store_model.specs.declared.state.TheConstants.{CORE}
-use Rattle.store_model.specs.declared.store_handle.DescKind.{DescKind}
+use Rattle.store_model.specs.{declared.state.TheConstants.CORE, declared.store_handle.DescKind.DescKind, declared.store_handle.Desc.Desc}
 use Rattle.store_model.specs.declared.store_handle.DescKind.TheVariants.{Ppi, Callback, Dispatch}
-use Rattle.store_model.specs.declared.store_handle.Desc.{Desc}
-use Rattle.store_model.specs.declared.store_handle.Pool.{Pool}
-use Rattle.store_model.specs.declared.store_handle.Sweep.{Sweep}
-use Rattle.store_model.specs.declared.store_handle.GuidFrom.{GuidFrom}
-use Rattle.store_model.specs.declared.store_handle.GuidFrom.TheVariants.{Inline}
-use Rattle.store_model.specs.declared.store_handle.StoreFault.{StoreFault}
-use Rattle.store_model.specs.StoreState.{StoreState}
-use Rattle.store_model.specs.Service.{Service}
-use Rattle.store_model.specs.Service.Pool.{pool, store}
+use Rattle.store_model.specs.{declared.store_handle.Pool.Pool, declared.store_handle.Sweep.Sweep, declared.store_handle.GuidFrom.GuidFrom}
+use Rattle.store_model.specs.{declared.store_handle.GuidFrom.TheVariants.Inline, declared.store_handle.StoreFault.StoreFault}
+use Rattle.store_model.specs.{StoreState.StoreState, Service.Service, Service.Pool.pool, Service.Pool.store, Service.Hob.create_hob}
 use Rattle.store_model.specs.Service.Descriptor.{desc, desc_of, guid_from, kind_at}
 use Rattle.store_model.specs.Service.Install.{install, installed, install_pairs, with_ppi, with_pending, reinstall, reinstalled, reinstall_pairs, renamed, both_or_full, core_of, core_install}
 use Rattle.store_model.specs.Service.Notify.{notify, notified, notify_pairs, with_note, with_note_of}
-use Rattle.store_model.specs.Service.Hob.{create_hob}
 use Rattle.store_model.specs.Service.Memory.{set_memory, pages, early_pages, pages_taken}
 
 -- where the service succeeds, the store is moved exactly where it was

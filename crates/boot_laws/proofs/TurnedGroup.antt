@@ -1,25 +1,16 @@
 -- A group whose sides are exchanged is not licensed: its BEFORE driver stands behind the driver that it names, and its AFTER driver before it.
-use Rattle.std.proofs.Common.{◌≡◌, ℕ, false, List, [], ◌∷◌, ◌++◌, Some, None, refl}
-use Rattle.std.specs.Prelude.{replicate}
-use Rattle.pi_base.specs.declared.guid.Guid.{Guid}
-use Rattle.pi_base.specs.declared.phase.Phase.TheVariants.{Dxe}
-use Rattle.pi_base.specs.Lists.{Each}
+use Rattle.std.proofs.Common.{◌≡◌, ℕ, false, List, [], ◌∷◌, ◌++◌, Some, None, refl, replicate}
+use Rattle.pi_base.specs.{declared.guid.Guid.Guid, declared.phase.Phase.TheVariants.Dxe, Lists.Each}
 use Rattle.hob_codec.specs.declared.kind.TheConstants.{VOLUME}
 use Rattle.depex_code.specs.Tree as T
 use Rattle.depex_code.specs.declared.depex.Depex.TheVariants as D
-use Rattle.mod_catalog.specs.FileType.{DRIVER as FILE_DRIVER}
-use Rattle.mod_catalog.specs.declared.catalogue.Catalog.{Catalog}
-use Rattle.mod_catalog.specs.declared.catalogue.Module.{Module}
-use Rattle.mod_catalog.specs.declared.catalogue.PartExpr.{PartExpr}
-use Rattle.mod_catalog.specs.declared.catalogue.PartExpr.TheVariants.{Held}
+use Rattle.mod_catalog.specs.{FileType.DRIVER as FILE_DRIVER, declared.catalogue.Catalog.Catalog, declared.catalogue.Module.Module}
+use Rattle.mod_catalog.specs.{declared.catalogue.PartExpr.PartExpr, declared.catalogue.PartExpr.TheVariants.Held}
 use Rattle.store_model.specs.declared.state.Body.TheVariants.{Bytes}
 use Rattle.store_model.specs.StoreState.{Board, StoreState, empty_store}
-use Rattle.boot_model.specs.declared.driver.Scheduled.{Scheduled}
+use Rattle.boot_model.specs.{declared.driver.Scheduled.Scheduled, DxeMachine.DxeMachine, DxeRun.dxe_opening}
 use Rattle.boot_model.specs.declared.licence.Licence.TheVariants as G
-use Rattle.boot_model.specs.DxeMachine.{DxeMachine}
-use Rattle.boot_model.specs.DxeRun.{dxe_opening}
-use Rattle.boot_model.specs.DxeChoice.{group_scheduled, first_eligible}
-use Rattle.boot_model.specs.DriverLicence.{IsMember}
+use Rattle.boot_model.specs.{DxeChoice.group_scheduled, DxeChoice.first_eligible, DriverLicence.IsMember}
 
 abbrev guid : ℕ → Guid
 guid n = record { 0 = replicate 15 0 ++ n ∷ [] }

@@ -1,19 +1,13 @@
 -- The move changes no PPI, notification or other HOB.
-use Rattle.std.proofs.Common.{◌≡◌, ℕ, ◌+◌, ◌-◌, ◌<◌, ◌≤◌, ◌==◌, Bool, true, false, ◌&&◌, ◌||◌, cond, List, [], ◌∷◌, ◌++◌, Option, Some, None, refl, sym, subst, ap, ◌∙◌, arith, nat_le, nat_lt}
-use Rattle.std.specs.Prelude.{unwrap_or, IfSome}
+use Rattle.std.proofs.Common.{◌≡◌, ℕ, ◌+◌, ◌-◌, ◌<◌, ◌≤◌, ◌==◌, Bool, true, false, ◌&&◌, ◌||◌, cond, List, [], ◌∷◌, ◌++◌, Option, Some, None, refl, sym, subst, ap, ◌∙◌, arith, nat_le, nat_lt, unwrap_or, IfSome, option_map}
 use Rattle.std.specs.List.{list_any}
-use Rattle.std.specs.Option.{option_map}
 use Rattle.std.proofs.lemmas.Bool.Decides.{nat_tests}
-use Rattle.pi_base.specs.declared.guid.Guid.{Guid}
-use Rattle.pi_base.specs.Lists.{Each}
+use Rattle.pi_base.specs.{declared.guid.Guid.Guid, Lists.Each}
 use Rattle.pi_base.proofs.ListFacts.{each_more, each_append}
-use Rattle.store_model.specs.declared.store_handle.DescKind.{DescKind}
+use Rattle.store_model.specs.{declared.store_handle.DescKind.DescKind, declared.state.Body.Body}
 use Rattle.store_model.specs.declared.store_handle.DescKind.TheVariants.{Ppi, Callback, Dispatch}
-use Rattle.store_model.specs.declared.state.Body.{Body}
 use Rattle.store_model.specs.declared.state.Body.TheVariants.{Bytes, Descriptor, Node, Allocation}
-use Rattle.store_model.specs.declared.state.DescriptorBody.{DescriptorBody}
-use Rattle.store_model.specs.declared.state.Entry.{Entry}
-use Rattle.store_model.specs.declared.state.Pending.{Pending}
+use Rattle.store_model.specs.{declared.state.DescriptorBody.DescriptorBody, declared.state.Entry.Entry, declared.state.Pending.Pending}
 use Rattle.store_model.specs.StoreState.{StoreState, Range, body_at, handoff_len}
 use Rattle.store_model.specs.StateFacts.{IsStoreState, IsEntry, IsPending, IsDescriptorAt, IsPlanned, IsHeap}
 use Rattle.store_model.specs.HeapImage.{descriptor_bytes}

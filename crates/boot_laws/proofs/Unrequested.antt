@@ -1,45 +1,29 @@
 -- Along a run of DXE each driver that has been scheduled has a place in its volume's a priori list, or needs no request more; and each with such a place has been scheduled.
-use Rattle.std.proofs.Common.{◌≡◌, ℕ, zero, suc, ◌==◌, Bool, true, false, not, ◌&&◌, ◌||◌, cond, List, [], ◌∷◌, ◌++◌, length, Option, Some, None, refl, sym, ap, ◌∙◌, subst, inl, inr, is_some, nat_le}
-use Rattle.std.specs.Prelude.{find, filter, is_none}
-use Rattle.std.specs.Option.{option_and_then}
+use Rattle.std.proofs.Common.{◌≡◌, ℕ, zero, suc, ◌==◌, Bool, true, false, not, ◌&&◌, ◌||◌, cond, List, [], ◌∷◌, ◌++◌, length, Option, Some, None, refl, sym, ap, ◌∙◌, subst, inl, inr, is_some, nat_le, find, filter, is_none, option_and_then}
 use Rattle.std.specs.List.{list_any}
-use Rattle.pi_base.specs.declared.guid.Guid.{Guid}
-use Rattle.pi_base.specs.declared.phase.Phase.TheVariants.{Dxe}
-use Rattle.pi_base.specs.Guids.{same_guid}
-use Rattle.pi_base.specs.Lists.{Each}
+use Rattle.pi_base.specs.{declared.guid.Guid.Guid, declared.phase.Phase.TheVariants.Dxe, Guids.same_guid, Lists.Each}
 use Rattle.depex_code.specs.declared.depex.Depex.TheVariants as D
-use Rattle.mod_catalog.specs.declared.catalogue.Catalog.{Catalog}
-use Rattle.mod_catalog.specs.declared.catalogue.Part.{Part}
-use Rattle.mod_catalog.specs.declared.catalogue.PartExpr.{PartExpr}
+use Rattle.mod_catalog.specs.{declared.catalogue.Catalog.Catalog, declared.catalogue.Part.Part, declared.catalogue.PartExpr.PartExpr}
 use Rattle.mod_catalog.specs.declared.catalogue.PartExpr.TheVariants as E
 use Rattle.mod_catalog.specs.Parts.{has_number, part_at, rank_at, module_volume, module_name, parts_in}
 use Rattle.mod_catalog.specs.WellFormed.{IsWellFormed}
-use Rattle.store_model.specs.StoreState.{StoreState}
-use Rattle.store_model.specs.Service.Reading.{fv_bases}
-use Rattle.boot_model.specs.declared.driver.Scheduled.{Scheduled}
-use Rattle.boot_model.specs.declared.licence.Licence.{Licence}
+use Rattle.store_model.specs.{StoreState.StoreState, Service.Reading.fv_bases}
+use Rattle.boot_model.specs.{declared.driver.Scheduled.Scheduled, declared.licence.Licence.Licence, Reporting.newcomers}
 use Rattle.boot_model.specs.declared.licence.Licence.TheVariants as G
 use Rattle.boot_model.specs.declared.phase_end.DxeEnd.TheVariants as DxeEnds
-use Rattle.boot_model.specs.Reporting.{newcomers}
-use Rattle.boot_model.specs.Discovery.{discoveries}
-use Rattle.boot_model.specs.DxeMachine.{DxeMachine, DriverFrame}
+use Rattle.boot_model.specs.{Discovery.discoveries, DxeMachine.DxeMachine, DxeMachine.DriverFrame, DxeRun.dxe_run, DxeRun.dxe_opening}
 use Rattle.boot_model.specs.DxeChoice.{driver_named, a_priori_drivers, discovered_order, is_waiting, is_sor, asks_for_request, is_unrequested, before_of, after_of, queue_from, first_eligible, group_scheduled, driver_queue}
 use Rattle.boot_model.specs.DxeAction.{DxeEffect, Wrote, Called, Logged, Skipped, Returned, Own, dxe_effect}
 use Rattle.boot_model.specs.DxeStep.{DxeCase, DxeFires, DxeActs, DxeStarts, DxeStops, dxe_case_of, in_dxe_case, dxe_step, protocol_begun, after_dxe_effect, with_action, dxe_action_at, driver_started}
-use Rattle.boot_model.specs.DxeRun.{dxe_run, dxe_opening}
 use Rattle.boot_model.specs.Licence.{IsPartAmong}
 use Rattle.boot_model.specs.DriverLicence.{numbers_of, IsMember, IsDriverLicensed, IsDiscovered}
-use Rattle.boot_laws.specs.DriverSteps.{BeginsWith}
-use Rattle.boot_laws.specs.UnrequestedDrivers.{UnrequestedDriversWait}
+use Rattle.boot_laws.specs.{DriverSteps.BeginsWith, UnrequestedDrivers.UnrequestedDriversWait}
 use Rattle.boot_model.proofs.ListFacts.{each_more, each_append, each_at, has_later, has_here}
 use Rattle.boot_laws.proofs.PartLists.{is_equal, ranked_in, each_flat_ranked, known_of, drivers_are}
 use Rattle.boot_laws.proofs.PeiOrders.{has_front, has_back, has_flat, part_in_volume, ranked_within, ranked_has}
 use Rattle.boot_laws.proofs.DriverActions.{Follows, EffectFollows, effect_follows}
-use Rattle.boot_laws.proofs.DriverCalls.{EffectKeeps, effect_keeps}
-use Rattle.boot_laws.proofs.DxeCases.{starts_from}
-use Rattle.boot_laws.proofs.DxeOnce.{priori_numbers}
-use Rattle.boot_laws.proofs.Queue.{numbers_of_append}
-use Rattle.boot_laws.proofs.GroupLicences.{schedules_licensed}
+use Rattle.boot_laws.proofs.{DriverCalls.EffectKeeps, DriverCalls.effect_keeps, DxeCases.starts_from, DxeOnce.priori_numbers}
+use Rattle.boot_laws.proofs.{Queue.numbers_of_append, GroupLicences.schedules_licensed}
 
 -- what is no longer waiting: scheduled or started
 abbrev gone : DxeMachine → List ℕ

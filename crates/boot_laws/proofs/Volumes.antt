@@ -1,13 +1,9 @@
 -- The volumes that a report or a discovery adds are none of those before, and none comes twice.
-use Rattle.std.proofs.Common.{◌≡◌, ℕ, ◌+◌, ◌<◌, ◌==◌, ◌⊎◌, inl, inr, Bool, true, false, not, ◌||◌, cond, List, [], ◌∷◌, ◌++◌, Option, Some, None, refl, sym, arith}
-use Rattle.std.specs.Prelude.{◌≢◌, filter, IfSome}
-use Rattle.mod_catalog.specs.declared.catalogue.Catalog.{Catalog}
-use Rattle.mod_catalog.specs.declared.catalogue.VolumeEntry.{VolumeEntry}
+use Rattle.std.proofs.Common.{◌≡◌, ℕ, ◌+◌, ◌<◌, ◌==◌, ◌⊎◌, inl, inr, Bool, true, false, not, ◌||◌, cond, List, [], ◌∷◌, ◌++◌, Option, Some, None, refl, sym, arith, ◌≢◌, filter, IfSome}
+use Rattle.mod_catalog.specs.{declared.catalogue.Catalog.Catalog, declared.catalogue.VolumeEntry.VolumeEntry, WellFormed.AreNumbered}
 use Rattle.pi_base.specs.Lists.{Each}
-use Rattle.mod_catalog.specs.WellFormed.{AreNumbered}
 use Rattle.mod_catalog.specs.Parts.{has_number, is_nested_in, family_from, family, volume_at}
-use Rattle.boot_model.specs.Reporting.{newcomers}
-use Rattle.boot_model.specs.Discovery.{discoveries}
+use Rattle.boot_model.specs.{Reporting.newcomers, Discovery.discoveries}
 use Rattle.boot_model.proofs.ListFacts.{each_more, each_append, each_at}
 use Rattle.boot_model.proofs.Distinct.{Apart, AllApart, Distinct, absent, distinct_append, distinct_filter}
 

@@ -2,14 +2,10 @@
 -- So what needs them holds of each boot of images.
 -- Own.
 use Rattle.std.specs.Prelude.{ℕ, List}
-use Rattle.boot_plan.specs.declared.plan.Plan.{Plan}
-use Rattle.boot_plan.specs.Range.{IsPlanInRange}
-use Rattle.mod_catalog.specs.declared.catalogue.Catalog.{Catalog}
-use Rattle.mod_catalog.specs.Catalogue.{IsCatalogue}
+use Rattle.boot_plan.specs.{declared.plan.Plan.Plan, Range.IsPlanInRange}
+use Rattle.mod_catalog.specs.{declared.catalogue.Catalog.Catalog, Catalogue.IsCatalogue}
 use Rattle.store_model.specs.StateFacts.{IsBoard}
-use Rattle.boot_model.specs.Licence.{AlongRun, IsLicensedStep}
-use Rattle.boot_model.specs.PlanBoard.{board_of}
-use Rattle.boot_model.specs.PeiRun.{pei_opening, pei_run}
+use Rattle.boot_model.specs.{Licence.AlongRun, Licence.IsLicensedStep, PlanBoard.board_of, PeiRun.pei_opening, PeiRun.pei_run}
 use Rattle.boot_laws.specs.RunFacts.{HasFacts}
 
 abbrev pub BoardsAreSound : Type 0

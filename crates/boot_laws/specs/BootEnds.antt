@@ -1,12 +1,9 @@
 -- Every boot ends: its last line is its result. Own.
 use Rattle.std.specs.Prelude.{◌≡◌, ℕ, List, [], ◌∷◌, ◌++◌}
-use Rattle.mod_catalog.specs.declared.catalogue.Catalog.{Catalog}
-use Rattle.boot_model.specs.declared.line.Line.{Line}
+use Rattle.mod_catalog.specs.{declared.catalogue.Catalog.Catalog, WellFormed.AreNumbered}
+use Rattle.boot_model.specs.{declared.line.Line.Line, declared.line.RunEnd.RunEnd, BootRun.boot_lines}
 use Rattle.boot_model.specs.declared.line.Line.TheVariants as L
-use Rattle.boot_model.specs.declared.line.RunEnd.{RunEnd}
 use Rattle.store_model.specs.StoreState.{Board}
-use Rattle.mod_catalog.specs.WellFormed.{AreNumbered}
-use Rattle.boot_model.specs.BootRun.{boot_lines}
 
 abbrev pub EndsWithResult : List Line → Type 0
 EndsWithResult lines = (before : List Line) × (end : RunEnd) × (lines ≡ before ++ L.Result end ∷ [])

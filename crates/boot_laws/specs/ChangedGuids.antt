@@ -1,20 +1,13 @@
 -- Which GUIDs are installed changes in a step of PEI only for those of the step's event.
 -- Those that a successful call puts in are there behind it.
 -- Own.
-use Rattle.std.specs.Prelude.{◌≡◌, ℕ, Bool, true, false, List, ◌++◌}
+use Rattle.std.specs.Prelude.{◌≡◌, ℕ, Bool, true, false, List, ◌++◌, option_to_list}
 use Rattle.std.specs.List.{list_any}
-use Rattle.std.specs.Option.{option_to_list}
-use Rattle.pi_base.specs.declared.guid.Guid.{Guid}
+use Rattle.pi_base.specs.{declared.guid.Guid.Guid, Guids.same_guid, Lists.Each}
 use Rattle.mod_catalog.specs.declared.catalogue.Catalog.{Catalog}
-use Rattle.pi_base.specs.Guids.{same_guid}
-use Rattle.pi_base.specs.Lists.{Each}
-use Rattle.store_model.specs.StateFacts.{IsStoreState}
-use Rattle.store_model.specs.Service.Install.{has_ppi}
-use Rattle.boot_model.specs.PeiMachine.{PeiMachine}
-use Rattle.boot_model.specs.PeiStep.{pei_step}
-use Rattle.boot_model.specs.EvaluationBound.{each_once, pei_guids}
-use Rattle.boot_model.specs.EventGuids.{pei_placed, pei_taken}
-use Rattle.boot_model.specs.MachineFacts.{HoldRegisters}
+use Rattle.store_model.specs.{StateFacts.IsStoreState, Service.Install.has_ppi}
+use Rattle.boot_model.specs.{PeiMachine.PeiMachine, PeiStep.pei_step, EvaluationBound.each_once, EvaluationBound.pei_guids}
+use Rattle.boot_model.specs.{EventGuids.pei_placed, EventGuids.pei_taken, MachineFacts.HoldRegisters}
 
 -- whether the GUID is one of these
 abbrev pub is_among : Guid → List Guid → Bool

@@ -1,14 +1,9 @@
 -- In each machine of a run of DXE the discovered order has each driver of a discovered volume once, and nothing else.
 -- PI 1.8, volume 2, "DXE Dispatcher".
 use Rattle.std.specs.Prelude.{◌≡◌, ◌↔◌, ℕ, true}
-use Rattle.mod_catalog.specs.declared.catalogue.Catalog.{Catalog}
-use Rattle.mod_catalog.specs.WellFormed.{AreNumbered}
-use Rattle.mod_catalog.specs.Parts.{has_number}
+use Rattle.mod_catalog.specs.{declared.catalogue.Catalog.Catalog, WellFormed.AreNumbered, Parts.has_number}
 use Rattle.store_model.specs.StoreState.{StoreState}
-use Rattle.boot_model.specs.Licence.{AllDiffer}
-use Rattle.boot_model.specs.DxeMachine.{DxeMachine}
-use Rattle.boot_model.specs.DxeChoice.{discovered_order}
-use Rattle.boot_model.specs.DxeRun.{dxe_run, dxe_opening}
+use Rattle.boot_model.specs.{Licence.AllDiffer, DxeMachine.DxeMachine, DxeChoice.discovered_order, DxeRun.dxe_run, DxeRun.dxe_opening}
 use Rattle.boot_model.specs.DriverLicence.{IsDiscovered}
 
 pub record HasEachOnce (catalog : Catalog) (m : DxeMachine) : Type 0 where

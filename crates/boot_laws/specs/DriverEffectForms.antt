@@ -2,17 +2,13 @@
 -- `driver_effect_has`.
 -- Own.
 use Rattle.std.specs.Prelude.{◌≡◌, ℕ, false, List, Option, Some, Ok}
-use Rattle.pi_base.specs.declared.guid.Guid.{Guid}
-use Rattle.pi_base.specs.declared.word.Word.{Word}
+use Rattle.pi_base.specs.{declared.guid.Guid.Guid, declared.word.Word.Word}
 use Rattle.act_code.specs.declared.action.Action.{Action}
 use Rattle.act_code.specs.declared.action.Action.TheVariants as A
-use Rattle.mod_catalog.specs.declared.catalogue.Catalog.{Catalog}
-use Rattle.mod_catalog.specs.Parts.{has_number}
+use Rattle.mod_catalog.specs.{declared.catalogue.Catalog.Catalog, Parts.has_number}
 use Rattle.store_model.specs.HandleState.{HandleState, install_interface, reinstall_interface, uninstall_interface, locate_handle}
-use Rattle.boot_model.specs.declared.frame.Register.{Register}
-use Rattle.boot_model.specs.declared.line.Extra.{Extra}
+use Rattle.boot_model.specs.{declared.frame.Register.Register, declared.line.Extra.Extra, Reporting.newcomers}
 use Rattle.boot_model.specs.declared.line.Extra.TheVariants as X
-use Rattle.boot_model.specs.Reporting.{newcomers}
 use Rattle.boot_model.specs.DxeMachine.{DxeMachine, DriverFrame}
 use Rattle.boot_model.specs.DxeAction.{DxeReply, dxe_told, dxe_refusal, with_handles, protocol_sweep, locate_reply, notify_reply, unrequested_named, schedule_reply, processed}
 

@@ -2,18 +2,14 @@
 -- A driver starts at the head of the queue. It came there as an a priori driver of a volume that was discovered, or from a machine of the run in which nothing was scheduled and no script ran, as one of the group of its first eligible driver.
 -- PI 1.8, volume 2, "DXE Dispatcher" and "A Priori File".
 use Rattle.std.specs.Prelude.{◌≡◌, ◌⊎◌, ℕ, zero, suc, true, List, [], ◌∷◌, Some, None, is_some, ⊤}
-use Rattle.pi_base.specs.declared.phase.Phase.TheVariants.{Dxe}
-use Rattle.mod_catalog.specs.declared.catalogue.Catalog.{Catalog}
-use Rattle.mod_catalog.specs.declared.catalogue.Part.{Part}
-use Rattle.boot_model.specs.declared.driver.Scheduled.{Scheduled}
+use Rattle.pi_base.specs.{declared.phase.Phase.TheVariants.Dxe, Lists.Each}
+use Rattle.mod_catalog.specs.{declared.catalogue.Catalog.Catalog, declared.catalogue.Part.Part}
+use Rattle.boot_model.specs.{declared.driver.Scheduled.Scheduled, DxeMachine.DxeMachine, DxeRun.dxe_opening}
 use Rattle.boot_model.specs.declared.licence.Licence.TheVariants as G
-use Rattle.pi_base.specs.Lists.{Each}
 use Rattle.store_model.specs.StoreState.{StoreState}
 use Rattle.mod_catalog.specs.Parts.{has_number, part_at, module_volume}
-use Rattle.boot_model.specs.DxeMachine.{DxeMachine}
 use Rattle.boot_model.specs.DxeChoice.{driver_queue, group_scheduled, first_eligible}
 use Rattle.boot_model.specs.DxeStep.{dxe_case_of, dxe_step, DxeStarts}
-use Rattle.boot_model.specs.DxeRun.{dxe_opening}
 use Rattle.boot_model.specs.DriverLicence.{IsMember, SchedulesLicensed, DxeStopsIdle}
 
 -- the fact holds of one of these

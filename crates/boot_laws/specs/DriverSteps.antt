@@ -2,17 +2,13 @@
 -- A call that is refused changes nothing but the last status of its frame.
 -- PI 1.8, volume 2, "Protocol Handler Services" and "DXE Services".
 use Rattle.std.specs.Prelude.{◌≡◌, ◌≢◌, ℕ, ◌+◌, ◌≤◌, List, [], ◌++◌, length, Some, None, ⊤}
-use Rattle.pi_base.specs.declared.guid.Guid.{Guid}
-use Rattle.pi_base.specs.declared.word.Word.TheVariants.{Success}
+use Rattle.pi_base.specs.{declared.guid.Guid.Guid, declared.word.Word.TheVariants.Success}
 use Rattle.act_code.specs.declared.action.Action.{Action}
-use Rattle.mod_catalog.specs.declared.catalogue.Catalog.{Catalog}
-use Rattle.mod_catalog.specs.WellFormed.{AreNumbered}
+use Rattle.mod_catalog.specs.{declared.catalogue.Catalog.Catalog, WellFormed.AreNumbered}
 use Rattle.store_model.specs.StoreState.{StoreState}
-use Rattle.boot_model.specs.DxeMachine.{DxeMachine, DriverFrame}
-use Rattle.boot_model.specs.DxeChoice.{driver_named, discovered_order}
+use Rattle.boot_model.specs.{DxeMachine.DxeMachine, DxeMachine.DriverFrame, DxeChoice.driver_named, DxeChoice.discovered_order}
 use Rattle.boot_model.specs.DxeAction.{DxeReply, DxeEffect, Wrote, Called, Logged, Skipped, Returned, Own, dxe_effect}
-use Rattle.boot_model.specs.DxeStep.{dxe_step}
-use Rattle.boot_model.specs.DxeRun.{dxe_run, dxe_opening}
+use Rattle.boot_model.specs.{DxeStep.dxe_step, DxeRun.dxe_run, DxeRun.dxe_opening}
 
 -- nothing was done
 pub record IsWithoutEffect (m : DxeMachine) (frame : DriverFrame) (reply : DxeReply) : Type 0 where

@@ -3,13 +3,8 @@
 -- Own; PI 1.8, volume 2, "DXE Dispatcher", leaves the order to the dispatcher.
 use Rattle.std.specs.Prelude.{◌≡◌, ◌≢◌, ℕ, zero, suc, ◌≤◌, List, [], ◌∷◌, ◌++◌, Some, None, length}
 use Rattle.pi_base.specs.declared.phase.Phase.TheVariants.{Dxe}
-use Rattle.mod_catalog.specs.declared.catalogue.Catalog.{Catalog}
-use Rattle.mod_catalog.specs.declared.catalogue.Part.{Part}
-use Rattle.mod_catalog.specs.Parts.{part_at}
-use Rattle.boot_model.specs.declared.line.Line.{Line}
-use Rattle.boot_model.specs.PeiMachine.{PeiMachine}
-use Rattle.boot_model.specs.declared.driver.Scheduled.{Scheduled}
-use Rattle.boot_model.specs.DxeMachine.{DxeMachine}
+use Rattle.mod_catalog.specs.{declared.catalogue.Catalog.Catalog, declared.catalogue.Part.Part, Parts.part_at}
+use Rattle.boot_model.specs.{declared.line.Line.Line, PeiMachine.PeiMachine, declared.driver.Scheduled.Scheduled, DxeMachine.DxeMachine}
 use Rattle.boot_model.specs.DxeChoice.{waiting, companion_group, first_eligible, group_scheduled, driver_licence}
 use Rattle.boot_model.specs.DriverLicence.{target_of}
 use Rattle.boot_model.specs.DxeStep.{DxeStarts, DxeStops, dxe_case_of, dxe_step, dxe_start_line}

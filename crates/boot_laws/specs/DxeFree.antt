@@ -1,17 +1,11 @@
 -- The lines of the free boots from a machine of DXE, a step at a time.
 -- Own; PI 1.8, volume 2, leaves the order to the dispatcher.
 use Rattle.std.specs.Prelude.{◌≡◌, ◌≢◌, ◌↔◌, ℕ, true, List, [], ◌++◌, None, is_some, ⊤}
-use Rattle.mod_catalog.specs.declared.catalogue.Catalog.{Catalog}
-use Rattle.mod_catalog.specs.WellFormed.{AreNumbered}
-use Rattle.boot_model.specs.declared.line.Line.{Line}
-use Rattle.boot_model.specs.PeiMachine.{PeiMachine}
-use Rattle.boot_model.specs.declared.driver.Scheduled.{Scheduled}
-use Rattle.boot_model.specs.DxeMachine.{DxeMachine}
+use Rattle.mod_catalog.specs.{declared.catalogue.Catalog.Catalog, WellFormed.AreNumbered}
+use Rattle.boot_model.specs.{declared.line.Line.Line, PeiMachine.PeiMachine, declared.driver.Scheduled.Scheduled, DxeMachine.DxeMachine}
 use Rattle.boot_model.specs.DxeStep.{DxeCase, DxeFires, DxeActs, DxeStarts, DxeStops, dxe_case_of, dxe_step}
-use Rattle.boot_model.specs.BootRun.{both_lines}
-use Rattle.boot_model.specs.FreeRun.{IsFreeInDxe, AreFreeDxeLines}
-use Rattle.boot_laws.specs.DxeUnderWay.{IsUnderWay}
-use Rattle.boot_laws.specs.PeiFree.{AreLinesBehind}
+use Rattle.boot_model.specs.{BootRun.both_lines, FreeRun.IsFreeInDxe, FreeRun.AreFreeDxeLines}
+use Rattle.boot_laws.specs.{DxeUnderWay.IsUnderWay, PeiFree.AreLinesBehind}
 
 -- any case but a start with nothing scheduled, which alone leaves a choice
 abbrev pub IsOwnCase : DxeCase → List Scheduled → Type 0

@@ -4,16 +4,11 @@
 use Rattle.std.specs.Prelude.{◌≡◌, ◌≢◌, ℕ, zero, suc, ◌+◌, ◌-◌, ◌*◌, ◌≤◌, ◌<◌, true, List, [], ◌∷◌, Some, None, is_some, length, ⊤}
 use Rattle.pi_base.specs.declared.phase.Phase.TheVariants.{Dxe}
 use Rattle.pi_base.specs.Lists.{Each, Ordered, numbers}
-use Rattle.mod_catalog.specs.declared.catalogue.Catalog.{Catalog}
+use Rattle.mod_catalog.specs.{declared.catalogue.Catalog.Catalog, WellFormed.AreNumbered}
 use Rattle.mod_catalog.specs.Parts.{has_number, part_at, module_volume}
-use Rattle.mod_catalog.specs.WellFormed.{AreNumbered}
 use Rattle.store_model.specs.StoreState.{StoreState}
-use Rattle.boot_model.specs.DxeMachine.{DxeMachine, DriverFrame}
-use Rattle.boot_model.specs.DxeChoice.{discovered_order, waiting}
-use Rattle.boot_model.specs.DriverLicence.{numbers_of}
-use Rattle.boot_model.specs.DxeStep.{dxe_case_of}
-use Rattle.boot_model.specs.DxeRun.{dxe_opening, dxe_bound}
-use Rattle.boot_model.specs.FreeRun.{IsFreeInDxe}
+use Rattle.boot_model.specs.{DxeMachine.DxeMachine, DxeMachine.DriverFrame, DxeChoice.discovered_order, DxeChoice.waiting}
+use Rattle.boot_model.specs.{DriverLicence.numbers_of, DxeStep.dxe_case_of, DxeRun.dxe_opening, DxeRun.dxe_bound, FreeRun.IsFreeInDxe}
 use Rattle.boot_laws.specs.PeiUnderWay.{missing}
 
 -- a frame that has just begun has no sweep

@@ -2,30 +2,18 @@
 -- holds of every action: `effect_has`.
 -- Own.
 use Rattle.std.specs.Prelude.{◌≡◌, ℕ, suc, ◌+◌, ◌%◌, ◌^◌, true, false, List, [], ◌∷◌, Some, option_map, nat_lt, slice_set, Ok, ⊤}
-use Rattle.pi_base.specs.declared.guid.Guid.{Guid}
-use Rattle.pi_base.specs.declared.word.Word.{Word}
-use Rattle.hob_codec.specs.HobValue.{HobValue}
-use Rattle.hob_codec.specs.HobReading.{hob_of}
-use Rattle.act_code.specs.declared.action.Action.{Action}
+use Rattle.pi_base.specs.{declared.guid.Guid.Guid, declared.word.Word.Word}
+use Rattle.hob_codec.specs.{HobValue.HobValue, HobReading.hob_of}
+use Rattle.act_code.specs.{declared.action.Action.Action, declared.action.GuidArg.GuidArg}
 use Rattle.act_code.specs.declared.action.Action.TheVariants as A
-use Rattle.act_code.specs.declared.action.GuidArg.{GuidArg}
-use Rattle.store_model.specs.declared.store_handle.Desc.{Desc}
-use Rattle.store_model.specs.declared.store_handle.GuidFrom.{GuidFrom}
-use Rattle.store_model.specs.declared.store_handle.Pool.{Pool}
-use Rattle.store_model.specs.declared.store_handle.Sweep.{Sweep}
-use Rattle.store_model.specs.StoreState.{StoreState}
-use Rattle.store_model.specs.Service.Descriptor.{desc, offsets}
-use Rattle.store_model.specs.Service.Hob.{create_hob}
-use Rattle.store_model.specs.Service.Install.{install, reinstall}
+use Rattle.store_model.specs.{declared.store_handle.Desc.Desc, declared.store_handle.GuidFrom.GuidFrom, declared.store_handle.Pool.Pool}
+use Rattle.store_model.specs.{declared.store_handle.Sweep.Sweep, StoreState.StoreState, Service.Descriptor.desc, Service.Descriptor.offsets}
+use Rattle.store_model.specs.{Service.Hob.create_hob, Service.Install.install, Service.Install.reinstall, Service.Notify.notify}
 use Rattle.store_model.specs.Service.Memory.{pages, set_memory, with_boot_mode}
-use Rattle.store_model.specs.Service.Notify.{notify}
-use Rattle.store_model.specs.Service.Pool.{pool, store}
-use Rattle.store_model.specs.Service.Reading.{nth_ppi}
-use Rattle.boot_model.specs.declared.frame.Register.{Register}
+use Rattle.store_model.specs.{Service.Pool.pool, Service.Pool.store, Service.Reading.nth_ppi}
+use Rattle.boot_model.specs.{declared.frame.Register.Register, Effect.Effect as OfEach, PeiMachine.Frame}
 use Rattle.boot_model.specs.declared.frame.Register.TheVariants.{Number, PoolIn, DescriptorIn}
 use Rattle.boot_model.specs.declared.line.Extra.TheVariants as X
-use Rattle.boot_model.specs.Effect.{Effect as OfEach}
-use Rattle.boot_model.specs.PeiMachine.{Frame}
 use Rattle.boot_model.specs.Registers.{both, descriptor_in, descriptors_in, is_success, number_in, offset_of, pool_in, register}
 use Rattle.boot_model.specs.PeiAction.{Reply, Wrote, Called, Logged, Skipped, Returned, Own, refusal, told, sweep_reply, locate_reply, mode_reply, desc_argument, kind_number}
 

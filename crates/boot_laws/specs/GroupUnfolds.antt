@@ -3,12 +3,9 @@
 -- Own; the groups are those of the companions that PI 1.8, volume 2, "Dependency Expressions", names BEFORE and AFTER.
 use Rattle.std.specs.Prelude.{◌≡◌, ◌≤◌, ℕ, zero, suc, true, ◌∷◌, ◌++◌, Some, length, flat_map}
 use Rattle.pi_base.specs.Lists.{Each}
-use Rattle.mod_catalog.specs.declared.catalogue.Catalog.{Catalog}
-use Rattle.mod_catalog.specs.Parts.{has_number}
-use Rattle.boot_model.specs.Licence.{AllDiffer}
-use Rattle.boot_model.specs.DxeMachine.{DxeMachine}
+use Rattle.mod_catalog.specs.{declared.catalogue.Catalog.Catalog, Parts.has_number}
+use Rattle.boot_model.specs.{Licence.AllDiffer, DxeMachine.DxeMachine, DriverLicence.target_of}
 use Rattle.boot_model.specs.DxeChoice.{waiting, befores, afters, companion_group, is_eligible_driver}
-use Rattle.boot_model.specs.DriverLicence.{target_of}
 
 -- an eligible driver that waits
 pub record IsRoot (catalog : Catalog) (m : DxeMachine) (root : ℕ) : Type 0 where

@@ -2,8 +2,7 @@
 -- Own.
 use Rattle.std.specs.Prelude.{◌≡◌, ℕ, List, Option}
 use Rattle.std.specs.Io.KnownBytes.{Appends}
-use Rattle.boot_model.specs.declared.line.Line.{Line}
-use Rattle.boot_model.specs.Text.{text_of}
+use Rattle.boot_model.specs.{declared.line.Line.Line, Text.text_of}
 
 -- these lines were put into a sink, from the first on, without a failure
 pub record HasPut {S : Type 0} (text : S → Option (List ℕ)) (faults : S → ℕ) (first : S) (lines : List Line) (sink : S) : Type 0 where

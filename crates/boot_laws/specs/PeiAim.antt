@@ -2,15 +2,10 @@
 -- Own.
 use Rattle.std.specs.Prelude.{◌≡◌, ◌↔◌, ℕ, true, List, ◌∷◌, ◌++◌, Some, None, slice_get, ⊤}
 use Rattle.pi_base.specs.declared.phase.Phase.TheVariants.{Pei}
-use Rattle.mod_catalog.specs.declared.catalogue.Catalog.{Catalog}
-use Rattle.mod_catalog.specs.declared.catalogue.Part.{Part}
-use Rattle.mod_catalog.specs.Parts.{part_at}
-use Rattle.boot_model.specs.declared.line.Line.{Line}
-use Rattle.boot_model.specs.Eligible.{is_eligible, licence_at}
-use Rattle.boot_model.specs.PeiChoice.{pei_order, next_peim}
-use Rattle.boot_model.specs.PeiMachine.{PeiMachine}
+use Rattle.mod_catalog.specs.{declared.catalogue.Catalog.Catalog, declared.catalogue.Part.Part, Parts.part_at}
+use Rattle.boot_model.specs.{declared.line.Line.Line, Eligible.is_eligible, Eligible.licence_at, PeiChoice.pei_order, PeiChoice.next_peim}
+use Rattle.boot_model.specs.{PeiMachine.PeiMachine, FreeRun.MayStart, FreeRun.AreFreePeiLines}
 use Rattle.boot_model.specs.PeiStep.{PeiCase, Fires, Acts, Moves, Pops, Starts, Stops, case_of, start_line, started, stopped}
-use Rattle.boot_model.specs.FreeRun.{MayStart, AreFreePeiLines}
 use Rattle.boot_laws.specs.PeiUnderWay.{IsUnderWay, steps_left}
 
 -- the machine with its cursor there

@@ -1,14 +1,10 @@
 -- The lines of the free boots from a machine of PEI, a step at a time.
 -- Own; PI 1.8, volume 1, leaves the order to the dispatcher.
 use Rattle.std.specs.Prelude.{◌≡◌, ◌↔◌, ℕ, true, List, [], ◌∷◌, ◌++◌, None, is_some, ⊤}
-use Rattle.mod_catalog.specs.declared.catalogue.Catalog.{Catalog}
-use Rattle.mod_catalog.specs.WellFormed.{AreNumbered}
+use Rattle.mod_catalog.specs.{declared.catalogue.Catalog.Catalog, WellFormed.AreNumbered}
 use Rattle.store_model.specs.StoreState.{Board}
-use Rattle.boot_model.specs.declared.line.Line.{Line}
-use Rattle.boot_model.specs.Text.{text_of}
-use Rattle.boot_model.specs.PeiMachine.{PeiMachine}
+use Rattle.boot_model.specs.{declared.line.Line.Line, Text.text_of, PeiMachine.PeiMachine, BootRun.boot_lines}
 use Rattle.boot_model.specs.PeiStep.{PeiCase, Fires, Acts, Moves, Pops, Starts, Stops, case_of, pei_step, started}
-use Rattle.boot_model.specs.BootRun.{boot_lines}
 use Rattle.boot_model.specs.FreeRun.{MayStart, IsFreePeiStep, AreFreePeiLines, AreFreeLinesAfter, AreFreeLines}
 use Rattle.boot_laws.specs.PeiUnderWay.{IsUnderWay}
 

@@ -1,15 +1,10 @@
 -- The PEI order of volumes that differ has each PEI part of each of them once, and nothing else. Those that a machine of a run has reported differ.
 -- PI 1.8, volume 1, "PEI Dispatcher" and "A Priori File".
 use Rattle.std.specs.Prelude.{◌≡◌, ℕ, ◌<◌, ◌≤◌, true, List, length}
-use Rattle.pi_base.specs.declared.phase.Phase.TheVariants.{Pei}
-use Rattle.pi_base.specs.Lists.{Each}
-use Rattle.mod_catalog.specs.declared.catalogue.Catalog.{Catalog}
-use Rattle.mod_catalog.specs.Parts.{has_number}
-use Rattle.mod_catalog.specs.WellFormed.{AreNumbered, IsWellFormed}
+use Rattle.pi_base.specs.{declared.phase.Phase.TheVariants.Pei, Lists.Each}
+use Rattle.mod_catalog.specs.{declared.catalogue.Catalog.Catalog, Parts.has_number, WellFormed.AreNumbered, WellFormed.IsWellFormed}
 use Rattle.store_model.specs.StoreState.{Board}
-use Rattle.boot_model.specs.PeiMachine.{PeiMachine}
-use Rattle.boot_model.specs.PeiRun.{pei_opening, pei_run}
-use Rattle.boot_model.specs.PeiChoice.{pei_order}
+use Rattle.boot_model.specs.{PeiMachine.PeiMachine, PeiRun.pei_opening, PeiRun.pei_run, PeiChoice.pei_order}
 use Rattle.boot_model.specs.Licence.{AllDiffer, IsPartAmong}
 
 -- no module stands twice in an order, each is one of the catalogue, and so there are no more of them

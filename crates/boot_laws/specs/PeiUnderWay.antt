@@ -2,14 +2,10 @@
 -- An action pays for two steps: itself, and a notification that begins behind it. A frame that has just begun owes its first action.
 -- Own; PI 1.8, volume 1, leaves it to the dispatcher that a run ends.
 use Rattle.std.specs.Prelude.{◌≡◌, ℕ, zero, suc, ◌+◌, ◌-◌, ◌*◌, ◌≤◌, ◌<◌, Bool, true, false, not, List, [], ◌∷◌, Some, None, is_some, length, ⊤}
-use Rattle.pi_base.specs.declared.phase.Phase.TheVariants.{Pei}
-use Rattle.pi_base.specs.Lists.{Each, numbers}
-use Rattle.mod_catalog.specs.declared.catalogue.Catalog.{Catalog}
-use Rattle.mod_catalog.specs.Parts.{has_number, part_at}
+use Rattle.pi_base.specs.{declared.phase.Phase.TheVariants.Pei, Lists.Each, Lists.numbers}
+use Rattle.mod_catalog.specs.{declared.catalogue.Catalog.Catalog, Parts.has_number, Parts.part_at}
 use Rattle.store_model.specs.StoreState.{Board}
-use Rattle.boot_model.specs.PeiMachine.{PeiMachine, Frame}
-use Rattle.boot_model.specs.PeiRun.{pei_opening, pei_bound}
-use Rattle.boot_model.specs.FreeRun.{IsFreePeiStep}
+use Rattle.boot_model.specs.{PeiMachine.PeiMachine, PeiMachine.Frame, PeiRun.pei_opening, PeiRun.pei_bound, FreeRun.IsFreePeiStep}
 
 -- a frame that has just begun has no sweep
 abbrev pub SweepsAreLater : List Frame → Type 0

@@ -2,18 +2,14 @@
 -- A module is named by its volume and its file name. Own.
 use Rattle.std.specs.Prelude.{◌≡◌, ℕ, List, [], ◌∷◌, map, flat_map, reverse, Option, Some, None}
 use Rattle.pi_base.specs.declared.guid.Guid.{Guid}
-use Rattle.mod_catalog.specs.declared.catalogue.Catalog.{Catalog}
-use Rattle.mod_catalog.specs.Parts.{module_name, module_volume}
+use Rattle.mod_catalog.specs.{declared.catalogue.Catalog.Catalog, Parts.module_name, Parts.module_volume}
 use Rattle.store_model.specs.StoreState.{Board, StoreState}
 use Rattle.boot_model.specs.declared.licence.Licence.TheVariants as G
-use Rattle.boot_model.specs.declared.line.Line.{Line}
+use Rattle.boot_model.specs.{declared.line.Line.Line, declared.phase_end.PeiEnd.PeiEnd, PeiMachine.PeiMachine, BootRun.boot_lines}
 use Rattle.boot_model.specs.declared.line.Line.TheVariants as L
-use Rattle.boot_model.specs.declared.phase_end.PeiEnd.{PeiEnd}
 use Rattle.boot_model.specs.declared.phase_end.PeiEnd.TheVariants.{Handoff, NoMemory, NoIpl, Spent, Deep}
-use Rattle.boot_model.specs.PeiMachine.{PeiMachine}
 use Rattle.boot_model.specs.PeiRun.{pei_run, pei_opening, pei_end}
 use Rattle.boot_model.specs.DxeRun.{dxe_run, dxe_opening, dxe_end}
-use Rattle.boot_model.specs.BootRun.{boot_lines}
 
 -- the module that a line tells has started in PEI for the first time
 abbrev pub first_start : Line → List (ℕ × Guid)

@@ -3,16 +3,10 @@
 -- A companion starts beside the driver that it names, with nothing but companions of either between them.
 -- PI 1.8, volume 2, "DXE Dispatcher", and BEFORE and AFTER in "Dependency Expressions".
 use Rattle.std.specs.Prelude.{◌≡◌, ◌⊎◌, ℕ, true, List, [], ◌∷◌, ◌++◌, reverse}
-use Rattle.mod_catalog.specs.declared.catalogue.Catalog.{Catalog}
-use Rattle.mod_catalog.specs.Parts.{has_number}
-use Rattle.mod_catalog.specs.WellFormed.{AreNumbered}
+use Rattle.mod_catalog.specs.{declared.catalogue.Catalog.Catalog, Parts.has_number, WellFormed.AreNumbered}
 use Rattle.store_model.specs.StoreState.{StoreState}
-use Rattle.boot_model.specs.declared.driver.Scheduled.{Scheduled}
-use Rattle.boot_model.specs.DxeMachine.{DxeMachine}
-use Rattle.boot_model.specs.DxeChoice.{driver_queue}
-use Rattle.boot_model.specs.DxeStep.{dxe_step}
-use Rattle.boot_model.specs.DxeRun.{dxe_run, dxe_opening}
-use Rattle.boot_model.specs.DriverLicence.{numbers_of, StandBeside}
+use Rattle.boot_model.specs.{declared.driver.Scheduled.Scheduled, DxeMachine.DxeMachine, DxeChoice.driver_queue, DxeStep.dxe_step}
+use Rattle.boot_model.specs.{DxeRun.dxe_run, DxeRun.dxe_opening, DriverLicence.numbers_of, DriverLicence.StandBeside}
 use Rattle.boot_laws.specs.DriverLicences.{group_of}
 
 -- the drivers that have started, in order of their starts

@@ -3,15 +3,10 @@
 -- Own.
 use Rattle.std.specs.Prelude.{ℕ, ◌<◌, ◌^◌, List, ⊤}
 use Rattle.pi_base.specs.Lists.{Each}
-use Rattle.mod_catalog.specs.declared.catalogue.Catalog.{Catalog}
-use Rattle.mod_catalog.specs.WellFormed.{IsWellFormed}
-use Rattle.store_model.specs.StoreState.{Board}
-use Rattle.store_model.specs.StateFacts.{IsBoard, IsStoreState}
-use Rattle.boot_model.specs.declared.frame.Register.{Register}
+use Rattle.mod_catalog.specs.{declared.catalogue.Catalog.Catalog, WellFormed.IsWellFormed}
+use Rattle.store_model.specs.{StoreState.Board, StateFacts.IsBoard, StateFacts.IsStoreState}
+use Rattle.boot_model.specs.{declared.frame.Register.Register, MachineFacts.IsSound, PeiMachine.PeiMachine, PeiStep.pei_step}
 use Rattle.boot_model.specs.declared.frame.Register.TheVariants.{Empty, Number, PoolIn, DescriptorIn, HandleIn}
-use Rattle.boot_model.specs.MachineFacts.{IsSound}
-use Rattle.boot_model.specs.PeiMachine.{PeiMachine}
-use Rattle.boot_model.specs.PeiStep.{pei_step}
 use Rattle.boot_model.specs.PeiRun.{pei_opening, pei_run}
 
 -- a number in a register has 64 bits

@@ -1,10 +1,8 @@
 -- Every run ends, within as many steps as the definitions of the runs count. Own; PI 1.8, volumes 1 and 2, leave it to the dispatchers.
 use Rattle.std.specs.Prelude.{◌≡◌, ℕ, true, is_some}
-use Rattle.mod_catalog.specs.declared.catalogue.Catalog.{Catalog}
+use Rattle.mod_catalog.specs.{declared.catalogue.Catalog.Catalog, WellFormed.AreNumbered}
 use Rattle.store_model.specs.StoreState.{StoreState, Board}
-use Rattle.mod_catalog.specs.WellFormed.{AreNumbered}
-use Rattle.boot_model.specs.PeiRun.{pei_end}
-use Rattle.boot_model.specs.DxeRun.{dxe_end}
+use Rattle.boot_model.specs.{PeiRun.pei_end, DxeRun.dxe_end}
 
 -- whatever the board and the catalogue, well-formed or not
 abbrev pub PeiRunsEnd : Type 0

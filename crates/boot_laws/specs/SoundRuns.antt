@@ -1,18 +1,11 @@
 -- The opening is sound, and each step keeps it so; and what the store answers to a step is there.
 -- Own.
 use Rattle.std.specs.Prelude.{◌≡◌, ℕ, ◌≤◌, length, Some, Ok}
-use Rattle.mod_catalog.specs.declared.catalogue.Catalog.{Catalog}
-use Rattle.mod_catalog.specs.declared.limits.TheConstants.{MOST_MODULES}
-use Rattle.store_model.specs.declared.store_handle.Firing.{Firing}
-use Rattle.store_model.specs.declared.store_handle.Sweep.{Sweep}
-use Rattle.store_model.specs.StoreState.{StoreState, Board}
-use Rattle.store_model.specs.StateFacts.{IsStoreState, IsSweepOf}
-use Rattle.store_model.specs.Service.Sweep.{next_match}
-use Rattle.store_model.specs.Service.Queue.{queue_pop}
-use Rattle.store_model.specs.Service.Install.{core_install}
-use Rattle.boot_model.specs.PeiMachine.{PeiMachine}
-use Rattle.boot_model.specs.PeiStep.{pei_step, started}
-use Rattle.boot_model.specs.PeiRun.{pei_opening}
+use Rattle.mod_catalog.specs.{declared.catalogue.Catalog.Catalog, declared.limits.TheConstants.MOST_MODULES}
+use Rattle.store_model.specs.{declared.store_handle.Firing.Firing, declared.store_handle.Sweep.Sweep}
+use Rattle.store_model.specs.{StoreState.StoreState, StoreState.Board, StateFacts.IsStoreState, StateFacts.IsSweepOf}
+use Rattle.store_model.specs.{Service.Sweep.next_match, Service.Queue.queue_pop, Service.Install.core_install}
+use Rattle.boot_model.specs.{PeiMachine.PeiMachine, PeiStep.pei_step, PeiStep.started, PeiRun.pei_opening}
 use Rattle.boot_laws.specs.Stay.{IsLater}
 use Rattle.boot_model.specs.MachineFacts.{IsSound, IsFiring}
 

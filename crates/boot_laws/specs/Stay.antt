@@ -3,12 +3,8 @@
 -- Own.
 use Rattle.std.specs.Prelude.{◌≡◌, ◌≢◌, ◌-◌, ◌≤◌, ℕ, List, [], length, take, drop, Option, Some, None, ⊤}
 use Rattle.act_code.specs.declared.action.Action.{Action}
-use Rattle.boot_model.specs.declared.frame.Register.{Register}
-use Rattle.boot_model.specs.PeiMachine.{Frame}
-use Rattle.boot_model.specs.declared.line.CallName.{CallName}
-use Rattle.store_model.specs.declared.store_handle.Sweep.{Sweep}
-use Rattle.store_model.specs.StoreState.{StoreState}
-use Rattle.store_model.specs.StateFacts.{IsStoreState, IsSweepOf}
+use Rattle.boot_model.specs.{declared.frame.Register.Register, PeiMachine.Frame, declared.line.CallName.CallName}
+use Rattle.store_model.specs.{declared.store_handle.Sweep.Sweep, StoreState.StoreState, StateFacts.IsStoreState, StateFacts.IsSweepOf}
 use Rattle.store_model.specs.Service.Descriptor.{descriptors}
 use Rattle.boot_model.specs.PeiAction.{Reply, Effect, Wrote, Called, Own, Shadowed, Logged, Skipped, Returned, effect}
 use Rattle.boot_model.specs.MachineFacts.{IsHeld, HoldRegisters}

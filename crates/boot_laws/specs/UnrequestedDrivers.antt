@@ -1,17 +1,11 @@
 -- In each machine of a run a driver with SOR that nobody requested waits, unless its volume's a priori list has it. So the driver that `Schedule()` requests is found by its name in the discovered order, without the queue.
 -- PI 1.8, volume 2, `Schedule()` and "A Priori File".
 use Rattle.std.specs.Prelude.{◌≡◌, ℕ, ◌&&◌, true, is_none, find}
-use Rattle.pi_base.specs.declared.guid.Guid.{Guid}
-use Rattle.pi_base.specs.declared.phase.Phase.TheVariants.{Dxe}
-use Rattle.pi_base.specs.Guids.{same_guid}
-use Rattle.mod_catalog.specs.declared.catalogue.Catalog.{Catalog}
-use Rattle.mod_catalog.specs.Parts.{rank_at, module_name}
-use Rattle.mod_catalog.specs.WellFormed.{IsWellFormed}
+use Rattle.pi_base.specs.{declared.guid.Guid.Guid, declared.phase.Phase.TheVariants.Dxe, Guids.same_guid}
+use Rattle.mod_catalog.specs.{declared.catalogue.Catalog.Catalog, Parts.rank_at, Parts.module_name, WellFormed.IsWellFormed}
 use Rattle.store_model.specs.StoreState.{StoreState}
-use Rattle.boot_model.specs.DxeMachine.{DxeMachine}
+use Rattle.boot_model.specs.{DxeMachine.DxeMachine, DxeAction.unrequested_named, DxeRun.dxe_run, DxeRun.dxe_opening}
 use Rattle.boot_model.specs.DxeChoice.{discovered_order, is_waiting, is_unrequested}
-use Rattle.boot_model.specs.DxeAction.{unrequested_named}
-use Rattle.boot_model.specs.DxeRun.{dxe_run, dxe_opening}
 use Rattle.boot_model.specs.DriverLicence.{IsDiscovered}
 
 pub record WaitForRequest (catalog : Catalog) (m : DxeMachine) : Type 0 where

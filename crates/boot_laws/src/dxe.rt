@@ -1,13 +1,9 @@
 //! Laws of the machine of DXE, each on a function without a body.
-ghost use Rattle.boot_laws.specs.DiscoveredOrder.{DiscoveredOrderHasEachOnce};
-ghost use Rattle.boot_laws.specs.DriverLicences.{DriversStartLicensed};
-ghost use Rattle.boot_laws.specs.DriverStarts.{DriversStartOnce};
+ghost use Rattle.boot_laws.specs.{DiscoveredOrder.DiscoveredOrderHasEachOnce, DriverLicences.DriversStartLicensed};
+ghost use Rattle.boot_laws.specs.{DriverStarts.DriversStartOnce, GroupUnfolds.GroupsAreSmall, GroupUnfolds.GroupsUnfold};
 ghost use Rattle.boot_laws.specs.DriverSteps.{DriverStepsGrow, DriversAreFew, RefusedCallsChangeNothing};
-ghost use Rattle.boot_laws.specs.GroupUnfolds.{GroupsAreSmall, GroupsUnfold};
-ghost use Rattle.boot_laws.specs.PrintedStarts.{DriverStartsArePrinted};
+ghost use Rattle.boot_laws.specs.{PrintedStarts.DriverStartsArePrinted, RunsEnd.DxeRunsEnd, UnrequestedDrivers.UnrequestedDriversWait};
 ghost use Rattle.boot_laws.specs.QueueOrder.{CompanionsStartBeside, QueuesKeepTheirOrder, QueuesStartInOrder};
-ghost use Rattle.boot_laws.specs.RunsEnd.{DxeRunsEnd};
-ghost use Rattle.boot_laws.specs.UnrequestedDrivers.{UnrequestedDriversWait};
 
 /// A run of DXE has ended within the steps that its catalogue and its fuel let it take.
 pub fn dxe_runs_end()

@@ -1,7 +1,5 @@
 //! Laws of the machine of PEI, each on a function without a body.
-ghost use Rattle.boot_laws.specs.Moves.{MovesChangeNothing};
-ghost use Rattle.boot_laws.specs.PrintedStarts.{StartsArePrinted};
-ghost use Rattle.boot_laws.specs.RefusedCalls.{RefusedPeiCallsChangeNothing};
+ghost use Rattle.boot_laws.specs.{Moves.MovesChangeNothing, PrintedStarts.StartsArePrinted, RefusedCalls.RefusedPeiCallsChangeNothing};
 ghost use Rattle.boot_laws.specs.RunFacts.{OpeningHasFacts, StepHasFacts, RunHasFacts};
 ghost use Rattle.boot_laws.specs.RunsEnd.{PeiRunsEnd};
 ghost use Rattle.boot_model.specs.Licence.{IsLicensedRun, StartsAtMostOnce};

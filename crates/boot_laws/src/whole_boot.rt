@@ -1,6 +1,5 @@
 //! Laws of whole boots, each on a function without a body.
-ghost use Rattle.boot_laws.specs.BootEnds.{BootsEnd};
-ghost use Rattle.boot_laws.specs.PrintedStarts.{BootsPrintStarts};
+ghost use Rattle.boot_laws.specs.{BootEnds.BootsEnd, PrintedStarts.BootsPrintStarts};
 
 /// A boot ends, and its last line is its result.
 pub fn boots_end()

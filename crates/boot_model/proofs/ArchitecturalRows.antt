@@ -1,16 +1,13 @@
 -- Worked boots of drivers without expression: the architectural protocols.
-use Rattle.std.proofs.Common.{◌≡◌, List, [], ◌∷◌, ◌++◌, None, refl}
-use Rattle.std.specs.Prelude.{take, drop}
+use Rattle.std.proofs.Common.{◌≡◌, List, [], ◌∷◌, ◌++◌, None, refl, take, drop}
 use Rattle.std.specs.Fmt.{digits}
 use Rattle.hex.specs.Hex.{encode_with}
 use Rattle.uuid.specs.Text.{by_index}
 use Rattle.depex_code.specs.Tree as T
-use Rattle.pi_base.specs.declared.guid.Guid.{Guid}
+use Rattle.pi_base.specs.{declared.guid.Guid.Guid, WordText.word_text}
 use Rattle.act_code.specs.declared.action.Action.TheVariants as A
 use Rattle.boot_model.specs.declared.known_guid.TheConstants.{ARCHITECTURAL}
-use Rattle.mod_catalog.specs.declared.catalogue.PartExpr.TheVariants.{Absent}
-use Rattle.mod_catalog.specs.declared.catalogue.Module.{Module}
-use Rattle.pi_base.specs.WordText.{word_text}
+use Rattle.mod_catalog.specs.{declared.catalogue.PartExpr.TheVariants.Absent, declared.catalogue.Module.Module}
 use Rattle.boot_model.specs.Text.{keyword, licence_text, call_text, reason_text, end_text}
 use Rattle.boot_model.proofs.WorkedBoots.{installs_on_one, held, before, after, driver, script, printed, opener, opener_listing, dxe_text}
 

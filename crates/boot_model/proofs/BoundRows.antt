@@ -1,25 +1,19 @@
 -- Worked boots at their bounds: the fuel, the frames, the heap's room and the page region's.
-use Rattle.std.proofs.Common.{◌≡◌, ℕ, Bool, true, false, List, [], ◌∷◌, Some, None, refl, take}
-use Rattle.std.specs.Prelude.{codes, count_by, drop}
+use Rattle.std.proofs.Common.{◌≡◌, ℕ, Bool, true, false, List, [], ◌∷◌, Some, None, refl, take, codes, count_by, drop}
 use Rattle.std.specs.Fmt.{digits}
 use Rattle.hex.specs.Hex.{encode_with}
 use Rattle.uuid.specs.Text.{by_index}
-use Rattle.pi_base.specs.declared.word.Word.TheVariants.{Success, OutOfResources}
+use Rattle.pi_base.specs.{declared.word.Word.TheVariants.Success, declared.word.Word.TheVariants.OutOfResources, WordText.word_text}
 use Rattle.act_code.specs.declared.action.Action.TheVariants as A
 use Rattle.act_code.specs.declared.action.GuidArg.TheVariants as G
-use Rattle.mod_catalog.specs.declared.catalogue.Module.{Module}
-use Rattle.mod_catalog.specs.declared.catalogue.PartExpr.TheVariants.{Absent}
-use Rattle.boot_model.specs.declared.line.Line.{Line}
+use Rattle.mod_catalog.specs.{declared.catalogue.Module.Module, declared.catalogue.PartExpr.TheVariants.Absent}
+use Rattle.boot_model.specs.{declared.line.Line.Line, BootRun.boot_lines, PeiMachine.PeiMachine}
 use Rattle.boot_model.specs.declared.line.Line.TheVariants as L
 use Rattle.boot_model.specs.declared.line.CallName.TheVariants as C
 use Rattle.boot_model.specs.declared.line.Extra.TheVariants as X
-use Rattle.pi_base.specs.WordText.{word_text}
 use Rattle.boot_model.specs.Text.{text_of, keyword, licence_text, call_text, reason_text, end_text}
 use Rattle.store_model.specs.StoreState.{Board}
-use Rattle.boot_model.specs.BootRun.{boot_lines}
-use Rattle.boot_model.specs.PeiMachine.{PeiMachine}
-use Rattle.boot_model.specs.declared.phase_end.PeiEnd.TheVariants.{Spent, Deep}
-use Rattle.boot_model.specs.PeiRun.{pei_end}
+use Rattle.boot_model.specs.{declared.phase_end.PeiEnd.TheVariants.Spent, declared.phase_end.PeiEnd.TheVariants.Deep, PeiRun.pei_end}
 use Rattle.boot_model.proofs.WorkedBoots.{guid, board, one_volume, peim, ppi_desc, fuel}
 
 -- a callback that reinstalls its PPI, and so calls itself

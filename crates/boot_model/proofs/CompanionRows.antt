@@ -5,11 +5,10 @@ use Rattle.hex.specs.Hex.{encode_with}
 use Rattle.uuid.specs.Text.{by_index}
 use Rattle.depex_code.specs.Tree as T
 use Rattle.act_code.specs.declared.action.Action.TheVariants as A
-use Rattle.mod_catalog.specs.declared.catalogue.Module.{Module}
+use Rattle.mod_catalog.specs.{declared.catalogue.Module.Module, declared.catalogue.PartExpr.TheVariants.Absent}
 use Rattle.pi_base.specs.WordText.{word_text}
 use Rattle.boot_model.specs.Text.{keyword, licence_text, call_text, reason_text, end_text}
 use Rattle.boot_model.proofs.WorkedBoots.{guid, held, before, after, peim, driver, script, printed, opener, opener_listing, dxe_text}
-use Rattle.mod_catalog.specs.declared.catalogue.PartExpr.TheVariants.{Absent}
 
 -- a group is scheduled whole: those before the driver, the driver, those after it, each with its own companions, and starts even where what the driver waited for is gone
 abbrev companions : List Module

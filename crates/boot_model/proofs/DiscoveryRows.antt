@@ -1,19 +1,16 @@
 -- Worked boots of discovery: FV HOBs, process, and nested volumes.
-use Rattle.std.proofs.Common.{◌≡◌, List, [], ◌∷◌, ◌++◌, Some, None, refl}
-use Rattle.std.specs.Prelude.{codes}
+use Rattle.std.proofs.Common.{◌≡◌, List, [], ◌∷◌, ◌++◌, Some, None, refl, codes}
 use Rattle.std.specs.Fmt.{digits}
 use Rattle.hex.specs.Hex.{encode_with}
 use Rattle.uuid.specs.Text.{by_index}
 use Rattle.depex_code.specs.Tree as T
-use Rattle.pi_base.specs.Field.{little_bytes}
+use Rattle.pi_base.specs.{Field.little_bytes, WordText.word_text}
 use Rattle.act_code.specs.declared.action.Action.TheVariants as A
 use Rattle.boot_model.specs.declared.known_guid.TheConstants.{FILE_SYSTEM2, ARCHITECTURAL}
 use Rattle.pi_base.specs.declared.known_guid.TheConstants.{VOLUME_INFO_PPI, MEMORY_PPI, DXE_IPL_PPI}
 use Rattle.mod_catalog.specs.declared.catalogue.PartExpr.TheVariants.{Absent, Malformed}
-use Rattle.mod_catalog.specs.declared.catalogue.Catalog.{Catalog}
-use Rattle.mod_catalog.specs.declared.catalogue.Module.{Module}
+use Rattle.mod_catalog.specs.{declared.catalogue.Catalog.Catalog, declared.catalogue.Module.Module}
 use Rattle.boot_model.specs.BootRun.{boot_lines}
-use Rattle.pi_base.specs.WordText.{word_text}
 use Rattle.boot_model.specs.Text.{text_of, keyword, licence_text, call_text, reason_text, end_text}
 use Rattle.boot_model.proofs.WorkedBoots.{installs_on_one, guid, board, fuel, held, on_request, before, after, peim, driver, in_volume, volume, script, printed, opener, opener_with, opener_listing, volume_hob, dxe_text_of, ppi_desc}
 

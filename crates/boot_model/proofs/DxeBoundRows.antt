@@ -1,15 +1,13 @@
 -- Worked boots of DXE at the bounds of the fuel and of the frames.
-use Rattle.std.proofs.Common.{◌≡◌, ℕ, List, [], ◌∷◌, ◌++◌, None, refl}
+use Rattle.std.proofs.Common.{◌≡◌, ℕ, List, [], ◌∷◌, ◌++◌, None, refl, codes, flat_map, replicate}
 use Prim.Native.String.{String}
-use Rattle.std.specs.Prelude.{codes, flat_map, replicate}
 use Rattle.std.specs.Fmt.{digits}
 use Rattle.hex.specs.Hex.{encode_with}
 use Rattle.uuid.specs.Text.{by_index}
 use Rattle.depex_code.specs.Tree as T
-use Rattle.pi_base.specs.declared.word.Word.TheVariants.{Success}
+use Rattle.pi_base.specs.{declared.word.Word.TheVariants.Success, WordText.word_text}
 use Rattle.act_code.specs.declared.action.Action.TheVariants as A
 use Rattle.mod_catalog.specs.declared.catalogue.Module.{Module}
-use Rattle.pi_base.specs.WordText.{word_text}
 use Rattle.boot_model.specs.Text.{keyword, licence_text, call_text, reason_text, end_text}
 use Rattle.boot_model.proofs.WorkedBoots.{guid, held, driver, script, printed, opener, opener_listing, dxe_text_of, one_volume}
 

@@ -1,20 +1,14 @@
 -- What registers hold is there: it stands before the end HOB, and the descriptors of a list are descriptors.
-use Rattle.std.specs.Option.{option_map}
-use Rattle.std.proofs.Common.{◌≡◌, ℕ, zero, suc, ◌+◌, ◌≤◌, ◌<◌, Bool, true, false, cond, List, [], ◌∷◌, arith, sym, refl, ap, subst, Option, Some, None, ◌==◌, sum_by}
-use Rattle.std.proofs.lemmas.List.Sums.{sum_by-cons}
-use Rattle.std.proofs.lemmas.Bool.Decides.{nat_tests}
-use Rattle.boot_model.specs.declared.frame.Register.{Register}
+use Rattle.std.proofs.Common.{option_map, ◌≡◌, ℕ, zero, suc, ◌+◌, ◌≤◌, ◌<◌, Bool, true, false, cond, List, [], ◌∷◌, arith, sym, refl, ap, subst, Option, Some, None, ◌==◌, sum_by}
+use Rattle.std.proofs.{lemmas.List.Sums.sum_by-cons, lemmas.Bool.Decides.nat_tests}
+use Rattle.boot_model.specs.{declared.frame.Register.Register, MachineFacts.IsHeld, MachineFacts.HoldRegisters}
 use Rattle.boot_model.specs.declared.frame.Register.TheVariants.{Empty, Number, PoolIn, DescriptorIn, HandleIn}
-use Rattle.store_model.specs.declared.store_handle.Desc.{Desc}
-use Rattle.store_model.specs.declared.store_handle.Pool.{Pool}
-use Rattle.store_model.specs.declared.state.Body.{Body}
+use Rattle.store_model.specs.{declared.store_handle.Desc.Desc, declared.store_handle.Pool.Pool, declared.state.Body.Body}
 use Rattle.store_model.specs.declared.state.Body.TheVariants.{Bytes, Descriptor}
-use Rattle.store_model.specs.declared.state.HobEntry.{HobEntry}
+use Rattle.store_model.specs.{declared.state.HobEntry.HobEntry, StateFacts.IsDesc, StateFacts.IsPool}
 use Rattle.pi_base.specs.Lists.{Each}
 use Rattle.store_model.specs.StoreState.{StoreState, hob_len, body_from, end_place}
-use Rattle.store_model.specs.StateFacts.{IsDesc, IsPool}
 use Rattle.boot_model.specs.Registers.{register, pool_of, descriptor_of, offset_of, pool_in, descriptor_in, descriptors_in, both}
-use Rattle.boot_model.specs.MachineFacts.{IsHeld, HoldRegisters}
 
 -- a body that is there stands before the end
 before_on : (b : Bool) (here : Body) (then : Option Body) (body : Body) (place last : ℕ) → (b ≡ true → place < last) → (then ≡ Some body → place < last) → cond b (Some here) then ≡ Some body → place < last

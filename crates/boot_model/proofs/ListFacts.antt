@@ -1,7 +1,5 @@
 -- What holds of each item of a list, and where a list of numbers has one.
-use Rattle.std.proofs.Common.{◌≡◌, ℕ, zero, suc, ◌<◌, ◌==◌, Bool, true, false, ◌||◌, cond, List, [], ◌∷◌, ◌++◌, Option, Some, refl, subst, length, arith, is_some}
-use Rattle.std.specs.Prelude.{slice_get, find, flat_map}
-use Rattle.std.specs.Option.{option_and_then}
+use Rattle.std.proofs.Common.{◌≡◌, ℕ, zero, suc, ◌<◌, ◌==◌, Bool, true, false, ◌||◌, cond, List, [], ◌∷◌, ◌++◌, Option, Some, refl, subst, length, arith, is_some, slice_get, find, flat_map, option_and_then}
 use Rattle.std.proofs.lemmas.Bool.Decides.{nat_tests}
 use Rattle.pi_base.specs.Lists.{Each}
 use Rattle.mod_catalog.specs.Parts.{has_number}

@@ -1,17 +1,14 @@
 -- Worked boots that end in PEI: what is printed, whole, by the definitions.
-use Rattle.std.proofs.Common.{◌≡◌, List, [], ◌∷◌, ◌++◌, Some, None, refl}
-use Rattle.std.specs.Prelude.{codes, replicate}
+use Rattle.std.proofs.Common.{◌≡◌, List, [], ◌∷◌, ◌++◌, Some, None, refl, codes, replicate}
 use Rattle.std.specs.Fmt.{digits}
 use Rattle.hex.specs.Hex.{encode_with}
 use Rattle.uuid.specs.Text.{by_index}
-use Rattle.pi_base.specs.declared.word.Word.TheVariants.{Success, OutOfResources}
+use Rattle.pi_base.specs.{declared.word.Word.TheVariants.Success, declared.word.Word.TheVariants.OutOfResources, WordText.word_text}
 use Rattle.depex_code.specs.Tree as T
 use Rattle.act_code.specs.declared.action.Action.TheVariants as A
 use Rattle.act_code.specs.declared.action.GuidArg.TheVariants as G
-use Rattle.mod_catalog.specs.declared.catalogue.Module.{Module}
-use Rattle.mod_catalog.specs.declared.catalogue.PartExpr.TheVariants.{Absent}
+use Rattle.mod_catalog.specs.{declared.catalogue.Module.Module, declared.catalogue.PartExpr.TheVariants.Absent}
 use Rattle.boot_model.specs.declared.known_guid.TheConstants.{FILE_SYSTEM2}
-use Rattle.pi_base.specs.WordText.{word_text}
 use Rattle.boot_model.specs.Text.{keyword, licence_text, call_text, reason_text, end_text}
 use Rattle.phys_mem.specs.declared.rom.Rom.{Rom}
 use Rattle.store_model.specs.StoreState.{Board}

@@ -1,25 +1,16 @@
 -- An action of a block of a module's script is in the grammar of its phase, names blocks that a script may have, and stands at a place that a block may have.
-use Rattle.std.proofs.Common.{◌≡◌, ◌⊎◌, ℕ, zero, suc, ◌-◌, ◌≤◌, ◌<◌, ◌&&◌, Bool, true, false, List, [], ◌∷◌, length, arith, refl, ap, ◌∙◌, subst, Option, Some, None, inl, inr}
-use Rattle.std.specs.Prelude.{slice_get, nat_lt, IfSome, unwrap_or}
-use Rattle.std.specs.Option.{option_and_then}
+use Rattle.std.proofs.Common.{◌≡◌, ◌⊎◌, ℕ, zero, suc, ◌-◌, ◌≤◌, ◌<◌, ◌&&◌, Bool, true, false, List, [], ◌∷◌, length, arith, refl, ap, ◌∙◌, subst, Option, Some, None, inl, inr, slice_get, nat_lt, IfSome, unwrap_or, option_and_then}
 use Rattle.std.specs.List.{list_all}
-use Rattle.std.proofs.lemmas.Bool.Decides.{nat_tests}
-use Rattle.std.proofs.lemmas.Option.{slice_get_within}
-use Rattle.pi_base.specs.declared.phase.Phase.{Phase}
-use Rattle.pi_base.specs.declared.phase.Phase.TheVariants.{Pei, Dxe}
-use Rattle.pi_base.specs.declared.word.Word.TheVariants.{Success}
-use Rattle.act_code.specs.declared.action.Action.{Action}
-use Rattle.act_code.specs.declared.action.Action.TheVariants.{Ret}
-use Rattle.act_code.specs.declared.script.Script.{Script}
+use Rattle.std.proofs.{lemmas.Bool.Decides.nat_tests, lemmas.Option.slice_get_within}
+use Rattle.pi_base.specs.{declared.phase.Phase.Phase, declared.phase.Phase.TheVariants.Pei, declared.phase.Phase.TheVariants.Dxe}
+use Rattle.pi_base.specs.{declared.word.Word.TheVariants.Success, Lists.Each}
+use Rattle.act_code.specs.{declared.action.Action.Action, declared.action.Action.TheVariants.Ret, declared.script.Script.Script}
 use Rattle.act_code.specs.Format.{is_within, registers_in, blocks_in}
 use Rattle.act_code.specs.Index.{is_indexed}
 use Rattle.act_code.specs.Script.{IsBlock, AreSound, IsSound, IsInGrammar}
 use Rattle.act_code.specs.Script as S
 use Rattle.act_code.specs.Table.{format_of, code_of_action, operands}
-use Rattle.mod_catalog.specs.declared.catalogue.Catalog.{Catalog}
-use Rattle.mod_catalog.specs.declared.catalogue.Module.{Module}
-use Rattle.mod_catalog.specs.declared.catalogue.Part.{Part}
-use Rattle.pi_base.specs.Lists.{Each}
+use Rattle.mod_catalog.specs.{declared.catalogue.Catalog.Catalog, declared.catalogue.Module.Module, declared.catalogue.Part.Part}
 use Rattle.mod_catalog.specs.WellFormed.{IsPartOf, IsWellFormed, part_of}
 use Rattle.mod_catalog.specs.Parts.{block_of, part_at}
 

@@ -1,15 +1,12 @@
 -- A HOB of a script's action is one that scripts make, as long as its fields.
 use Rattle.std.proofs.Common.{◌≡◌, ℕ, ◌+◌, ◌-◌, ◌≤◌, ◌==◌, Bool, true, false, cond, List, length, drop, arith, refl, ap, subst, ◌∙◌, Some, None, length-append, length-drop, length-take}
-use Rattle.std.proofs.lemmas.List.{length-replicate}
-use Rattle.std.proofs.lemmas.Bool.Decides.{nat_tests}
+use Rattle.std.proofs.{lemmas.List.length-replicate, lemmas.Bool.Decides.nat_tests}
 use Rattle.hob_codec.specs.HobValue.{HobValue, ResourceHob, NamedHob, VolumeHob, CpuHob, Volume2Hob}
 use Rattle.hob_codec.specs.HobBytes.{length_of, padded_len, padding}
 use Rattle.hob_codec.specs.HobReading.{hob_of}
 use Rattle.pi_base.specs.Guids.{guid_at}
 use Rattle.act_code.specs.Format.{is_hob, is_within}
-use Rattle.store_model.specs.StoreState.{hob_len}
-use Rattle.store_model.specs.StoreCall.{IsScriptHob}
-use Rattle.store_model.specs.Service.Hob.{hob_entry}
+use Rattle.store_model.specs.{StoreState.hob_len, StoreCall.IsScriptHob, Service.Hob.hob_entry}
 
 -- a HOB as a script makes it
 pub record IsMade (hob : HobValue) : Type 0 where

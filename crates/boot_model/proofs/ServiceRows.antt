@@ -1,18 +1,14 @@
 -- Worked boots of the other services of PEI: statuses, boot modes, volumes that PPIs tell of, pools and pages.
-use Rattle.std.proofs.Common.{◌≡◌, ℕ, List, [], ◌∷◌, ◌++◌, None, refl}
-use Rattle.std.specs.Prelude.{codes, replicate}
+use Rattle.std.proofs.Common.{◌≡◌, ℕ, List, [], ◌∷◌, ◌++◌, None, refl, codes, replicate}
 use Rattle.std.specs.Fmt.{digits}
 use Rattle.hex.specs.Hex.{encode_with}
 use Rattle.uuid.specs.Text.{by_index}
-use Rattle.pi_base.specs.Field.{little_bytes}
-use Rattle.pi_base.specs.declared.known_guid.TheConstants.{VOLUME_INFO_PPI}
+use Rattle.pi_base.specs.{Field.little_bytes, declared.known_guid.TheConstants.VOLUME_INFO_PPI, WordText.word_text}
 use Rattle.phys_mem.specs.declared.rom.Rom.{Rom}
 use Rattle.act_code.specs.declared.action.Action.TheVariants as A
-use Rattle.mod_catalog.specs.declared.catalogue.Catalog.{Catalog}
-use Rattle.mod_catalog.specs.declared.catalogue.Module.{Module}
+use Rattle.mod_catalog.specs.{declared.catalogue.Catalog.Catalog, declared.catalogue.Module.Module}
 use Rattle.mod_catalog.specs.declared.catalogue.PartExpr.TheVariants.{Absent}
 use Rattle.boot_model.specs.declared.known_guid.TheConstants.{FILE_SYSTEM2}
-use Rattle.pi_base.specs.WordText.{word_text}
 use Rattle.store_model.specs.StoreState.{Board}
 use Rattle.boot_model.specs.Text.{keyword, licence_text, call_text, reason_text, end_text}
 use Rattle.boot_model.proofs.WorkedBoots.{guid, board, volume, one_volume, peim, script, ppi_desc, pei_text, printed}

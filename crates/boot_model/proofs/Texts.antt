@@ -1,8 +1,7 @@
 -- The text of lists of lines, list by list.
 use Rattle.std.proofs.Common.{◌≡◌, List, [], ◌∷◌, ◌++◌, refl, ap, ◌∙◌, flat_map}
 use Rattle.std.proofs.lemmas.Grind.{flat_map-append}
-use Rattle.boot_model.specs.declared.line.Line.{Line}
-use Rattle.boot_model.specs.Text.{line_text, text_of}
+use Rattle.boot_model.specs.{declared.line.Line.Line, Text.line_text, Text.text_of}
 
 -- item by item
 pub text_of-flat_map : {X : Type 0} (lines : X → List Line) (xs : List X) → text_of (flat_map lines xs) ≡ flat_map (λ x. text_of (lines x)) xs

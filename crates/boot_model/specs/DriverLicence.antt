@@ -1,27 +1,18 @@
 -- The licences of drivers. A driver has its licence in the machine in which it is scheduled: a place in its volume's a priori list, what its expression asks of the handles, or a place beside the driver that it names.
 -- DXE stops only where no driver may start.
 -- PI 1.8, volume 2, "DXE Dispatcher".
-use Rattle.std.specs.Prelude.{◌≡◌, ◌⊎◌, ℕ, zero, suc, true, false, List, [], ◌∷◌, ◌++◌, map, Option, Some, None, is_some}
-use Rattle.std.specs.Option.{option_and_then}
+use Rattle.std.specs.Prelude.{◌≡◌, ◌⊎◌, ℕ, zero, suc, true, false, List, [], ◌∷◌, ◌++◌, map, Option, Some, None, is_some, option_and_then}
 use Rattle.std.specs.List.{list_all}
-use Rattle.pi_base.specs.declared.guid.Guid.{Guid}
-use Rattle.pi_base.specs.declared.phase.Phase.TheVariants.{Dxe}
-use Rattle.pi_base.specs.Lists.{Each}
+use Rattle.pi_base.specs.{declared.guid.Guid.Guid, declared.phase.Phase.TheVariants.Dxe, Lists.Each}
 use Rattle.depex_code.specs.declared.depex.Depex.{Depex}
-use Rattle.mod_catalog.specs.declared.catalogue.Catalog.{Catalog}
-use Rattle.mod_catalog.specs.declared.catalogue.Part.{Part}
-use Rattle.mod_catalog.specs.declared.catalogue.PartExpr.{PartExpr}
+use Rattle.mod_catalog.specs.{declared.catalogue.Catalog.Catalog, declared.catalogue.Part.Part, declared.catalogue.PartExpr.PartExpr}
 use Rattle.mod_catalog.specs.declared.catalogue.PartExpr.TheVariants as E
 use Rattle.mod_catalog.specs.Parts.{has_number, part_at}
 use Rattle.store_model.specs.HandleState.{has_protocol}
-use Rattle.boot_model.specs.declared.known_guid.TheConstants.{ARCHITECTURAL}
-use Rattle.boot_model.specs.declared.licence.Licence.{Licence}
+use Rattle.boot_model.specs.{declared.known_guid.TheConstants.ARCHITECTURAL, declared.licence.Licence.Licence, Eligible.depex_holds}
 use Rattle.boot_model.specs.declared.licence.Licence.TheVariants as G
-use Rattle.boot_model.specs.Eligible.{depex_holds}
-use Rattle.boot_model.specs.Licence.{IsPartAmong}
-use Rattle.boot_model.specs.DxeMachine.{DxeMachine, Scheduled}
+use Rattle.boot_model.specs.{Licence.IsPartAmong, DxeMachine.DxeMachine, DxeMachine.Scheduled, DxeStep.dxe_case_of, DxeStep.DxeStops}
 use Rattle.boot_model.specs.DxeChoice.{driver_named, name_by, before_of, after_of, is_unrequested, is_eligible_driver, group_scheduled, first_eligible}
-use Rattle.boot_model.specs.DxeStep.{dxe_case_of, DxeStops}
 
 -- the driver that a driver's expression names by a form, and by either form
 abbrev pub named_by : (PartExpr → Option Guid) → Catalog → DxeMachine → ℕ → Option ℕ

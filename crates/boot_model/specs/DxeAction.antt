@@ -1,20 +1,16 @@
 -- What an action of a DXE script does: it writes registers, calls a service, logs, skips or returns. A refusal changes nothing but the last status.
 -- PI 1.8, volume 2, "Protocol Handler Services" and "DXE Services"; the actions and their operands are own.
 use Rattle.std.specs.Prelude.{ℕ, zero, suc, ◌&&◌, if◌then◌else◌, List, [], ◌∷◌, ◌++◌, length, Option, Some, None, option_map, find, slice_set, Ok, Err}
-use Rattle.pi_base.specs.declared.guid.Guid.{Guid}
-use Rattle.pi_base.specs.declared.word.Word.{Word}
+use Rattle.pi_base.specs.{declared.guid.Guid.Guid, declared.word.Word.Word, Guids.same_guid}
 use Rattle.pi_base.specs.declared.word.Word.TheVariants.{Success, InvalidParameter, NotFound, AlreadyStarted}
 use Rattle.act_code.specs.declared.action.Action.{Action}
 use Rattle.act_code.specs.declared.action.Action.TheVariants as A
 use Rattle.mod_catalog.specs.declared.catalogue.Catalog.{Catalog}
-use Rattle.boot_model.specs.declared.line.CallName.{CallName}
+use Rattle.boot_model.specs.{declared.line.CallName.CallName, declared.line.Extra.Extra, Effect.Effect as OfEach, Effect.effect_by}
 use Rattle.boot_model.specs.declared.line.CallName.TheVariants as C
-use Rattle.boot_model.specs.declared.line.Extra.{Extra}
 use Rattle.boot_model.specs.declared.line.Extra.TheVariants as X
-use Rattle.pi_base.specs.Guids.{same_guid}
 use Rattle.store_model.specs.MemoryReading.{bytes_at}
 use Rattle.store_model.specs.HandleState.{HandleState, HandleService, install_interface, reinstall_interface, uninstall_interface, locate_handle}
-use Rattle.boot_model.specs.Effect.{Effect as OfEach, effect_by}
 pub use Rattle.boot_model.specs.Effect.{Wrote, Called, Logged, Skipped, Returned, Own, number_written}
 use Rattle.boot_model.specs.PeiMachine.{Register, Number, HandleIn}
 use Rattle.boot_model.specs.DxeMachine.{DxeMachine, DriverFrame, ProtocolSweep}

@@ -1,26 +1,18 @@
 -- The next driver: the head of the scheduled queue; where it is empty, the first of the group of the first eligible driver in discovered order.
 -- A driver whose BEFORE or AFTER names another is its companion: it is never eligible by itself, and comes with the group of the driver that it names.
 -- PI 1.8, volume 2, "DXE Dispatcher", "Dependency Expressions" and "A Priori File"; the order of companions is own.
-use Rattle.std.specs.Prelude.{ℕ, zero, suc, Bool, false, ◌==◌, ◌&&◌, not, List, [], ◌∷◌, ◌++◌, length, map, Option, Some, None, filter, find, flat_map}
-use Rattle.std.specs.Option.{option_and_then}
+use Rattle.std.specs.Prelude.{ℕ, zero, suc, Bool, false, ◌==◌, ◌&&◌, not, List, [], ◌∷◌, ◌++◌, length, map, Option, Some, None, filter, find, flat_map, option_and_then}
 use Rattle.std.specs.List.{list_any, list_all}
-use Rattle.pi_base.specs.declared.guid.Guid.{Guid}
-use Rattle.pi_base.specs.declared.phase.Phase.TheVariants.{Dxe}
+use Rattle.pi_base.specs.{declared.guid.Guid.Guid, declared.phase.Phase.TheVariants.Dxe, Guids.same_guid}
 use Rattle.depex_code.specs.declared.depex.Depex.{Depex}
 use Rattle.depex_code.specs.declared.depex.Depex.TheVariants as D
-use Rattle.boot_model.specs.declared.known_guid.TheConstants.{ARCHITECTURAL}
-use Rattle.mod_catalog.specs.declared.catalogue.Catalog.{Catalog}
-use Rattle.mod_catalog.specs.declared.catalogue.Part.{Part}
-use Rattle.mod_catalog.specs.declared.catalogue.PartExpr.{PartExpr}
+use Rattle.boot_model.specs.{declared.known_guid.TheConstants.ARCHITECTURAL, declared.licence.Licence.Licence}
+use Rattle.mod_catalog.specs.{declared.catalogue.Catalog.Catalog, declared.catalogue.Part.Part, declared.catalogue.PartExpr.PartExpr}
 use Rattle.mod_catalog.specs.declared.catalogue.PartExpr.TheVariants as E
-use Rattle.boot_model.specs.declared.licence.Licence.{Licence}
 use Rattle.boot_model.specs.declared.licence.Licence.TheVariants as G
-use Rattle.pi_base.specs.Guids.{same_guid}
 use Rattle.store_model.specs.HandleState.{HandleState, has_protocol}
-use Rattle.boot_model.specs.DxeMachine.{DxeMachine, Scheduled}
+use Rattle.boot_model.specs.{DxeMachine.DxeMachine, DxeMachine.Scheduled, Eligible.depex_holds, PeiChoice.ranked}
 use Rattle.mod_catalog.specs.Parts.{has_number, part_at, rank_at, parts_in, module_name}
-use Rattle.boot_model.specs.Eligible.{depex_holds}
-use Rattle.boot_model.specs.PeiChoice.{ranked}
 
 -- the drivers of volumes, by place in each
 abbrev pub drivers_of : Catalog → List ℕ → List ℕ

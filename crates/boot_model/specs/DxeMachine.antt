@@ -2,13 +2,9 @@
 -- The store is that of the hand-off and changes no more.
 -- PI 1.8, volume 2, "DXE Dispatcher"; the record is own.
 use Rattle.std.specs.Prelude.{ℕ, List, ◌++◌, Option}
-use Rattle.boot_model.specs.declared.phase_end.DxeEnd.{DxeEnd}
-use Rattle.boot_model.specs.declared.line.Line.{Line}
-use Rattle.store_model.specs.StoreState.{StoreState}
-use Rattle.store_model.specs.HandleState.{HandleState}
-use Rattle.boot_model.specs.PeiMachine.{Number, HandleIn}
-use Rattle.boot_model.specs.declared.frame.Frame.{Frame as OfEach}
-use Rattle.boot_model.specs.Frames.{notified}
+use Rattle.boot_model.specs.{declared.phase_end.DxeEnd.DxeEnd, declared.line.Line.Line, PeiMachine.Number, PeiMachine.HandleIn}
+use Rattle.store_model.specs.{StoreState.StoreState, HandleState.HandleState}
+use Rattle.boot_model.specs.{declared.frame.Frame.Frame as OfEach, Frames.notified}
 pub use Rattle.boot_model.specs.declared.driver.ProtocolSweep.{ProtocolSweep}
 pub use Rattle.boot_model.specs.declared.driver.ProtocolNote.{ProtocolNote}
 pub use Rattle.boot_model.specs.declared.driver.Scheduled.{Scheduled}

@@ -3,13 +3,8 @@
 -- Own; PI 1.8, volume 2, leaves the run to the dispatcher.
 use Rattle.std.specs.Prelude.{◌≡◌, ℕ, zero, suc, ◌+◌, ◌*◌, true, List, [], ◌∷◌, length, Some, None, is_some}
 use Rattle.mod_catalog.specs.declared.catalogue.Catalog.{Catalog}
-use Rattle.boot_model.specs.declared.frame.TheConstants.{MOST_FRAMES}
-use Rattle.store_model.specs.StoreState.{StoreState}
-use Rattle.store_model.specs.Service.Reading.{fv_bases}
-use Rattle.store_model.specs.HandleState.{no_handles}
-use Rattle.boot_model.specs.DxeMachine.{DxeMachine}
-use Rattle.boot_model.specs.DxeChoice.{a_priori_drivers}
-use Rattle.boot_model.specs.DxeStep.{dxe_step}
+use Rattle.boot_model.specs.{declared.frame.TheConstants.MOST_FRAMES, DxeMachine.DxeMachine, DxeChoice.a_priori_drivers, DxeStep.dxe_step}
+use Rattle.store_model.specs.{StoreState.StoreState, Service.Reading.fv_bases, HandleState.no_handles}
 use Rattle.boot_model.specs.Discovery.{discoveries, discovery_lines}
 
 -- the machine in which these volumes have just been discovered

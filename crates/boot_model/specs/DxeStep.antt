@@ -1,32 +1,21 @@
 -- One step of the boot machine in DXE: the first of its cases that applies. A notification of the top frame's sweep begins; else the top frame takes its next action.
 -- Where no script runs, the next driver starts; else DXE stops.
 -- PI 1.8, volume 2, "DXE Dispatcher"; the frames and their bounds are own.
-use Rattle.std.specs.Prelude.{ℕ, ◌+◌, ◌-◌, Bool, false, if◌then◌else◌, List, [], ◌∷◌, Option, Some, None, option_map, slice_get, unwrap_or, length, nat_le, map, find}
-use Rattle.std.specs.Option.{option_and_then}
-use Rattle.pi_base.specs.declared.phase.Phase.TheVariants.{Dxe}
-use Rattle.pi_base.specs.declared.word.Word.TheVariants.{Success}
-use Rattle.act_code.specs.declared.action.Action.{Action}
-use Rattle.act_code.specs.declared.action.Action.TheVariants.{Ret}
+use Rattle.std.specs.Prelude.{ℕ, ◌+◌, ◌-◌, Bool, false, if◌then◌else◌, List, [], ◌∷◌, Option, Some, None, option_map, slice_get, unwrap_or, length, nat_le, map, find, option_and_then}
+use Rattle.pi_base.specs.{declared.phase.Phase.TheVariants.Dxe, declared.word.Word.TheVariants.Success, Guids.same_guid, Lists.numbers}
+use Rattle.act_code.specs.{declared.action.Action.Action, declared.action.Action.TheVariants.Ret}
 use Rattle.depex_code.specs.declared.depex.Depex.TheVariants as D
-use Rattle.mod_catalog.specs.declared.catalogue.Catalog.{Catalog}
-use Rattle.mod_catalog.specs.declared.catalogue.Part.{Part}
-use Rattle.mod_catalog.specs.declared.catalogue.PartExpr.{PartExpr}
+use Rattle.mod_catalog.specs.{declared.catalogue.Catalog.Catalog, declared.catalogue.Part.Part, declared.catalogue.PartExpr.PartExpr}
 use Rattle.mod_catalog.specs.declared.catalogue.PartExpr.TheVariants as E
-use Rattle.boot_model.specs.declared.frame.TheConstants.{MOST_FRAMES}
-use Rattle.boot_model.specs.declared.licence.Licence.{Licence}
-use Rattle.boot_model.specs.declared.line.Line.{Line}
+use Rattle.boot_model.specs.{declared.frame.TheConstants.MOST_FRAMES, declared.licence.Licence.Licence, declared.line.Line.Line}
 use Rattle.boot_model.specs.declared.line.Line.TheVariants as L
-use Rattle.boot_model.specs.declared.line.Reason.{Reason}
+use Rattle.boot_model.specs.{declared.line.Reason.Reason, PeiStep.start_lines, Discovery.discovery_lines}
 use Rattle.boot_model.specs.declared.line.Reason.TheVariants as R
-use Rattle.pi_base.specs.Guids.{same_guid}
-use Rattle.pi_base.specs.Lists.{numbers}
 pub use Rattle.boot_model.specs.Frames.{past, start_frames, swept}
-use Rattle.boot_model.specs.PeiStep.{start_lines}
 use Rattle.boot_model.specs.DxeMachine.{DxeMachine, DriverFrame, ProtocolSweep, ProtocolNote, Scheduled, protocol_frame, dxe_printed}
 use Rattle.boot_model.specs.declared.phase_end.DxeEnd.TheVariants as DxeEnds
 use Rattle.boot_model.specs.DxeChoice.{next_driver, waiting, is_unrequested}
 use Rattle.boot_model.specs.DxeAction.{DxeReply, DxeEffect, Wrote, Called, Logged, Skipped, Returned, Own, dxe_effect}
-use Rattle.boot_model.specs.Discovery.{discovery_lines}
 use Rattle.mod_catalog.specs.Parts.{part_at, module_name, module_volume, block_of}
 
 -- what comes next

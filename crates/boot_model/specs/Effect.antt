@@ -2,15 +2,11 @@
 -- The actions that the scripts of both phases have write a register, log, skip or return.
 -- Own; the profile of the action scripts.
 use Rattle.std.specs.Prelude.{ℕ, ◌+◌, ◌%◌, ◌^◌, List, Option, Some, None, option_map, slice_set}
-use Rattle.pi_base.specs.declared.word.Word.{Word}
-use Rattle.pi_base.specs.declared.word.Word.TheVariants.{Success, InvalidParameter}
+use Rattle.pi_base.specs.{declared.word.Word.Word, declared.word.Word.TheVariants.Success, declared.word.Word.TheVariants.InvalidParameter}
 use Rattle.act_code.specs.declared.action.Action.{Action}
 use Rattle.act_code.specs.declared.action.Action.TheVariants as A
-use Rattle.boot_model.specs.declared.frame.Frame.{Frame}
-use Rattle.boot_model.specs.declared.frame.Register.{Register}
-use Rattle.boot_model.specs.declared.frame.Register.TheVariants.{Number}
-use Rattle.boot_model.specs.declared.line.CallName.{CallName}
-use Rattle.boot_model.specs.Registers.{number_in, skipped}
+use Rattle.boot_model.specs.{declared.frame.Frame.Frame, declared.frame.Register.Register, declared.frame.Register.TheVariants.Number}
+use Rattle.boot_model.specs.{declared.line.CallName.CallName, Registers.number_in, Registers.skipped}
 
 -- what an action does: it wrote registers and has a status, called a service, logged, skips so many actions, returned, or is the phase's own
 pub data Effect (R O : Type 0) : Type 0 where

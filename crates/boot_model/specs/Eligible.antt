@@ -1,20 +1,14 @@
 -- Which PEI part may start: one that has not started and has an a priori place, no expression, or one that holds over the installed PPIs; or one that started once, registered for shadow, and memory has moved.
 -- PI 1.8, volume 1, "PEI Dispatcher", "Dependency Expressions" and `RegisterForShadow()`.
 use Rattle.std.specs.Prelude.{ℕ, Bool, true, false, ◌||◌, ◌&&◌, not, if◌then◌else◌, Option, Some, None, is_some}
-use Rattle.pi_base.specs.declared.guid.Guid.{Guid}
-use Rattle.pi_base.specs.declared.phase.Phase.TheVariants.{Pei}
-use Rattle.depex_code.specs.declared.depex.Depex.{Depex}
+use Rattle.pi_base.specs.{declared.guid.Guid.Guid, declared.phase.Phase.TheVariants.Pei}
+use Rattle.depex_code.specs.{declared.depex.Depex.Depex, Tree.truth}
 use Rattle.depex_code.specs.declared.depex.Depex.TheVariants as D
-use Rattle.depex_code.specs.Tree.{truth}
-use Rattle.mod_catalog.specs.declared.catalogue.Catalog.{Catalog}
-use Rattle.mod_catalog.specs.declared.catalogue.Part.{Part}
-use Rattle.mod_catalog.specs.declared.catalogue.PartExpr.{PartExpr}
+use Rattle.mod_catalog.specs.{declared.catalogue.Catalog.Catalog, declared.catalogue.Part.Part, declared.catalogue.PartExpr.PartExpr}
 use Rattle.mod_catalog.specs.declared.catalogue.PartExpr.TheVariants as E
-use Rattle.boot_model.specs.declared.licence.Licence.{Licence}
+use Rattle.boot_model.specs.{declared.licence.Licence.Licence, PeiMachine.PeiMachine}
 use Rattle.boot_model.specs.declared.licence.Licence.TheVariants as G
-use Rattle.store_model.specs.StoreState.{StoreState}
-use Rattle.store_model.specs.Service.Install.{has_ppi}
-use Rattle.boot_model.specs.PeiMachine.{PeiMachine}
+use Rattle.store_model.specs.{StoreState.StoreState, Service.Install.has_ppi}
 use Rattle.mod_catalog.specs.Parts.{has_number, part_at}
 
 -- whether an expression holds over a set of GUIDs; BEFORE and AFTER never hold by themselves

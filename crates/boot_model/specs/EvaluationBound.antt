@@ -2,35 +2,23 @@
 -- The events are a successful install or reinstall, the core's install, and in DXE a successful install or uninstall.
 -- An event counts the parts that wait in the machine before it: those of a volume that it reports are counted once, with their volume. A PEIM waits until it starts, a driver until it is scheduled.
 -- Own.
-use Rattle.std.specs.Prelude.{ℕ, zero, suc, ◌+◌, Bool, false, ◌&&◌, ◌||◌, not, if◌then◌else◌, nat_le, List, [], ◌∷◌, ◌++◌, length, map, filter, sum_by, Some, None, Ok, Err, unwrap_or, option_map}
-use Rattle.std.specs.Option.{option_to_list}
-use Rattle.pi_base.specs.declared.guid.Guid.{Guid}
-use Rattle.pi_base.specs.declared.phase.Phase.{Phase}
+use Rattle.std.specs.Prelude.{ℕ, zero, suc, ◌+◌, Bool, false, ◌&&◌, ◌||◌, not, if◌then◌else◌, nat_le, List, [], ◌∷◌, ◌++◌, length, map, filter, sum_by, Some, None, Ok, Err, unwrap_or, option_map, option_to_list}
+use Rattle.pi_base.specs.{declared.guid.Guid.Guid, declared.phase.Phase.Phase}
 use Rattle.pi_base.specs.declared.phase.Phase.TheVariants.{Pei, Dxe}
 use Rattle.depex_code.specs.Tree.{DepexTree, True, False, Push, Not, And, Or}
 use Rattle.depex_code.specs.declared.depex.Depex.TheVariants as D
 use Rattle.act_code.specs.declared.action.Action.{Action}
 use Rattle.act_code.specs.declared.action.Action.TheVariants as A
-use Rattle.mod_catalog.specs.declared.catalogue.Catalog.{Catalog}
-use Rattle.mod_catalog.specs.declared.catalogue.PartExpr.{PartExpr}
+use Rattle.mod_catalog.specs.{declared.catalogue.Catalog.Catalog, declared.catalogue.PartExpr.PartExpr, Parts.has_number, Parts.part_at}
 use Rattle.mod_catalog.specs.declared.catalogue.PartExpr.TheVariants as E
-use Rattle.pi_base.specs.declared.known_guid.TheConstants.{MEMORY_PPI}
-use Rattle.store_model.specs.declared.store_handle.Sweep.{Sweep}
-use Rattle.pi_base.specs.Guids.{same_guid}
-use Rattle.pi_base.specs.Lists.{firsts}
-use Rattle.store_model.specs.StoreState.{StoreState}
-use Rattle.store_model.specs.Service.{Service}
-use Rattle.store_model.specs.Service.Descriptor.{guid_at, offsets}
-use Rattle.store_model.specs.Service.Install.{core_install}
-use Rattle.mod_catalog.specs.Parts.{has_number, part_at}
+use Rattle.pi_base.specs.{declared.known_guid.TheConstants.MEMORY_PPI, Guids.same_guid, Lists.firsts}
+use Rattle.store_model.specs.{declared.store_handle.Sweep.Sweep, StoreState.StoreState, Service.Service}
+use Rattle.store_model.specs.{Service.Descriptor.guid_at, Service.Descriptor.offsets, Service.Install.core_install}
 use Rattle.boot_model.specs.Registers.{descriptor_in, descriptors_in, is_success}
-use Rattle.boot_model.specs.PeiMachine.{PeiMachine, Frame}
+use Rattle.boot_model.specs.{PeiMachine.PeiMachine, PeiMachine.Frame, PeiChoice.pei_order, DxeMachine.DxeMachine, DxeMachine.DriverFrame}
 use Rattle.boot_model.specs.PeiAction.{Effect, Wrote, Called, Own, Shadowed, Logged, Skipped, Returned, effect}
-use Rattle.boot_model.specs.PeiChoice.{pei_order}
 use Rattle.boot_model.specs.PeiStep.{PeiCase, Fires, Acts, Moves, Pops, Starts, Stops, case_of, action_at, pei_step}
-use Rattle.boot_model.specs.DxeMachine.{DxeMachine, DriverFrame}
-use Rattle.boot_model.specs.DxeAction.{DxeEffect, dxe_effect}
-use Rattle.boot_model.specs.DxeChoice.{discovered_order, waiting}
+use Rattle.boot_model.specs.{DxeAction.DxeEffect, DxeAction.dxe_effect, DxeChoice.discovered_order, DxeChoice.waiting}
 use Rattle.boot_model.specs.DxeStep.{DxeCase, DxeFires, DxeActs, DxeStarts, DxeStops, dxe_case_of, dxe_action_at, dxe_step, with_action}
 
 -- whether a tree pushes a GUID

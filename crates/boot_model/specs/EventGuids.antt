@@ -1,17 +1,12 @@
 -- The GUIDs of an event of PEI: those that a successful install or reinstall, or the core's install, puts in, and the one that a reinstall may take away.
 -- Own; PI 1.8, volume 1, `InstallPpi()` and `ReInstallPpi()`.
-use Rattle.std.specs.Prelude.{ℕ, Option, None, option_map, List, [], map, unwrap_or, if◌then◌else◌, nat_le}
-use Rattle.std.specs.Option.{option_to_list}
+use Rattle.std.specs.Prelude.{ℕ, Option, None, option_map, List, [], map, unwrap_or, if◌then◌else◌, nat_le, option_to_list}
 use Rattle.pi_base.specs.declared.guid.Guid.{Guid}
 use Rattle.act_code.specs.declared.action.Action.{Action}
 use Rattle.act_code.specs.declared.action.Action.TheVariants as A
 use Rattle.mod_catalog.specs.declared.catalogue.Catalog.{Catalog}
-use Rattle.store_model.specs.StoreState.{StoreState}
-use Rattle.store_model.specs.Service.Descriptor.{guid_at, offsets}
-use Rattle.store_model.specs.Service.Install.{core_install}
-use Rattle.boot_model.specs.Registers.{descriptor_in, descriptors_in}
-use Rattle.boot_model.specs.PeiMachine.{PeiMachine, Frame}
-use Rattle.boot_model.specs.PeiAction.{effect}
+use Rattle.store_model.specs.{StoreState.StoreState, Service.Descriptor.guid_at, Service.Descriptor.offsets, Service.Install.core_install}
+use Rattle.boot_model.specs.{Registers.descriptor_in, Registers.descriptors_in, PeiMachine.PeiMachine, PeiMachine.Frame, PeiAction.effect}
 use Rattle.boot_model.specs.PeiStep.{PeiCase, Fires, Acts, Moves, Pops, Starts, Stops, case_of, action_at}
 use Rattle.boot_model.specs.EvaluationBound.{is_called, core_guids}
 

@@ -3,10 +3,8 @@
 use Rattle.std.specs.Prelude.{ℕ, ◌+◌, List, [], ◌∷◌, Some, None, replicate, slice_set}
 use Rattle.pi_base.specs.declared.word.Word.TheVariants.{Success}
 use Rattle.act_code.specs.declared.action.Action.{Action}
-use Rattle.boot_model.specs.declared.frame.TheConstants.{REGISTERS}
-use Rattle.boot_model.specs.declared.frame.Register.{Register}
-use Rattle.boot_model.specs.declared.frame.Register.TheVariants.{Empty}
-use Rattle.boot_model.specs.declared.frame.Frame.{Frame}
+use Rattle.boot_model.specs.{declared.frame.TheConstants.REGISTERS, declared.frame.Register.Register}
+use Rattle.boot_model.specs.{declared.frame.Register.TheVariants.Empty, declared.frame.Frame.Frame}
 
 -- sixteen registers that hold nothing
 abbrev pub no_registers : List Register

@@ -3,20 +3,13 @@
 -- PI 1.8, volumes 1 and 2, leave the order to the dispatchers.
 use Rattle.std.specs.Prelude.{◌≡◌, ℕ, true, List, [], ◌∷◌, Option, Some, None, is_some}
 use Rattle.pi_base.specs.declared.phase.Phase.TheVariants.{Dxe}
-use Rattle.mod_catalog.specs.declared.catalogue.Catalog.{Catalog}
-use Rattle.mod_catalog.specs.Parts.{has_number, part_at}
-use Rattle.boot_model.specs.Eligible.{is_eligible}
+use Rattle.mod_catalog.specs.{declared.catalogue.Catalog.Catalog, Parts.has_number, Parts.part_at}
+use Rattle.boot_model.specs.{Eligible.is_eligible, declared.line.Line.Line, declared.phase_end.PeiEnd.PeiEnd, PeiMachine.PeiMachine}
 use Rattle.store_model.specs.StoreState.{Board}
-use Rattle.boot_model.specs.declared.line.Line.{Line}
-use Rattle.boot_model.specs.declared.phase_end.PeiEnd.{PeiEnd}
 use Rattle.boot_model.specs.declared.phase_end.PeiEnd.TheVariants.{Handoff, NoMemory, NoIpl, Spent, Deep}
-use Rattle.boot_model.specs.PeiMachine.{PeiMachine}
-use Rattle.boot_model.specs.PeiRun.{pei_opening, last_machine}
-use Rattle.boot_model.specs.DxeRun.{dxe_opening}
-use Rattle.boot_model.specs.BootRun.{both_lines, lines_after}
-use Rattle.boot_model.specs.PeiChoice.{pei_order}
+use Rattle.boot_model.specs.{PeiRun.pei_opening, PeiRun.last_machine, DxeRun.dxe_opening, BootRun.both_lines, BootRun.lines_after}
+use Rattle.boot_model.specs.{PeiChoice.pei_order, DxeMachine.DxeMachine, DxeMachine.Scheduled}
 use Rattle.boot_model.specs.PeiStep.{PeiCase, Fires, Acts, Moves, Pops, Starts, Stops, case_of, in_case, started}
-use Rattle.boot_model.specs.DxeMachine.{DxeMachine, Scheduled}
 use Rattle.boot_model.specs.DxeChoice.{is_eligible_driver, waiting, group_scheduled}
 use Rattle.boot_model.specs.DxeStep.{DxeCase, DxeFires, DxeActs, DxeStarts, DxeStops, dxe_case_of, in_dxe_case, driver_started}
 

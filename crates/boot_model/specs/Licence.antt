@@ -2,23 +2,15 @@
 -- The move changes no PPI, notification or other HOB, and PEI stops only where no part of a reported volume may start.
 -- PI 1.8, volume 1, "PEI Dispatcher".
 use Rattle.std.specs.Prelude.{◌≡◌, ◌≢◌, ℕ, Bool, zero, suc, true, false, List, [], ◌∷◌, Some, None, is_some, ⊤}
-use Rattle.pi_base.specs.declared.phase.Phase.{Phase}
-use Rattle.pi_base.specs.declared.phase.Phase.TheVariants.{Pei}
+use Rattle.pi_base.specs.{declared.phase.Phase.Phase, declared.phase.Phase.TheVariants.Pei, Lists.Each}
 use Rattle.depex_code.specs.declared.depex.Depex.{Depex}
-use Rattle.mod_catalog.specs.declared.catalogue.Catalog.{Catalog}
-use Rattle.mod_catalog.specs.declared.catalogue.Part.{Part}
+use Rattle.mod_catalog.specs.{declared.catalogue.Catalog.Catalog, declared.catalogue.Part.Part, WellFormed.IsWellFormed}
 use Rattle.mod_catalog.specs.declared.catalogue.PartExpr.TheVariants as E
-use Rattle.boot_model.specs.declared.licence.Licence.{Licence}
+use Rattle.boot_model.specs.{declared.licence.Licence.Licence, Unchanged.IsUnchanged, PeiMachine.PeiMachine}
 use Rattle.boot_model.specs.declared.licence.Licence.TheVariants as G
-use Rattle.pi_base.specs.Lists.{Each}
-use Rattle.store_model.specs.StoreState.{StoreState, Board}
-use Rattle.store_model.specs.StateFacts.{IsBoard}
-use Rattle.store_model.specs.Service.Install.{has_ppi}
+use Rattle.store_model.specs.{StoreState.StoreState, StoreState.Board, StateFacts.IsBoard, Service.Install.has_ppi}
 use Rattle.mod_catalog.specs.Parts.{has_number, part_at, module_volume}
-use Rattle.mod_catalog.specs.WellFormed.{IsWellFormed}
-use Rattle.boot_model.specs.Unchanged.{IsUnchanged}
 use Rattle.boot_model.specs.Eligible.{depex_holds, is_eligible, licence_at}
-use Rattle.boot_model.specs.PeiMachine.{PeiMachine}
 use Rattle.boot_model.specs.PeiStep.{pei_step, case_of, Starts, Moves, Stops}
 use Rattle.boot_model.specs.PeiRun.{pei_run, pei_opening}
 

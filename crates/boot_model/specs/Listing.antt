@@ -2,15 +2,11 @@
 -- Own.
 use Rattle.std.specs.Prelude.{ℕ, ◌+◌, ◌/◌, ◌%◌, List, [], ◌∷◌, ◌++◌, length, map}
 use Rattle.hob_codec.specs.declared.kind.TheConstants.{HANDOFF}
-use Rattle.boot_model.specs.declared.frame.TheConstants.{BLOCKS}
-use Rattle.boot_model.specs.declared.line.Line.{Line}
+use Rattle.boot_model.specs.{declared.frame.TheConstants.BLOCKS, declared.line.Line.Line}
 use Rattle.boot_model.specs.declared.line.Line.TheVariants as L
 use Rattle.store_model.specs.StoreState.{StoreState, hob_len, header_len, handoff_len}
-use Rattle.store_model.specs.declared.state.Entry.{Entry}
-use Rattle.store_model.specs.declared.state.HobEntry.{HobEntry}
-use Rattle.store_model.specs.declared.state.Pending.{Pending}
-use Rattle.store_model.specs.HeapImage.{handoff_body, body_bytes}
-use Rattle.store_model.specs.Service.Descriptor.{guid_at, number_at}
+use Rattle.store_model.specs.{declared.state.Entry.Entry, declared.state.HobEntry.HobEntry, declared.state.Pending.Pending}
+use Rattle.store_model.specs.{HeapImage.handoff_body, HeapImage.body_bytes, Service.Descriptor.guid_at, Service.Descriptor.number_at}
 
 -- a PPI: its maker, its GUID and its value
 abbrev pub ppi_line : StoreState → Entry → Line

@@ -1,16 +1,12 @@
 -- What a machine of PEI that runs keeps: registers hold pools and descriptors that are there, sweeps lie within the lists, and frames are few and of modules.
 -- Own.
 use Rattle.std.specs.Prelude.{ℕ, ◌≤◌, ◌<◌, ◌^◌, List, length, IfSome, ⊤}
-use Rattle.boot_model.specs.declared.frame.TheConstants.{MOST_FRAMES}
-use Rattle.boot_model.specs.declared.frame.Register.{Register}
+use Rattle.boot_model.specs.{declared.frame.TheConstants.MOST_FRAMES, declared.frame.Register.Register, PeiMachine.PeiMachine}
 use Rattle.boot_model.specs.declared.frame.Register.TheVariants.{Empty, Number, PoolIn, DescriptorIn, HandleIn}
-use Rattle.store_model.specs.declared.store_handle.Firing.{Firing}
+use Rattle.store_model.specs.{declared.store_handle.Firing.Firing, StoreState.StoreState, declared.limits.TheConstants.NOTE_NUMBERS}
 use Rattle.pi_base.specs.Lists.{Each}
 use Rattle.mod_catalog.specs.declared.limits.TheConstants.{MOST_MODULES}
-use Rattle.store_model.specs.StoreState.{StoreState}
-use Rattle.store_model.specs.declared.limits.TheConstants.{NOTE_NUMBERS}
 use Rattle.store_model.specs.StateFacts.{IsDesc, IsPool, IsSweepOf}
-use Rattle.boot_model.specs.PeiMachine.{PeiMachine}
 
 -- what a register holds is there
 abbrev pub IsHeld : StoreState → Register → Type 0

@@ -1,36 +1,23 @@
 -- What an action of a PEI script does: it writes registers, calls a service, logs, skips or returns. The service's answer becomes a status, what its line shows, and registers; a refusal changes nothing.
 -- PI 1.8, volume 1, "PEI Services"; the actions and their operands are own.
-use Rattle.std.specs.Prelude.{ℕ, zero, suc, ◌+◌, ◌*◌, ◌^◌, Bool, ◌==◌, ◌||◌, ◌&&◌, not, if◌then◌else◌, nat_le, nat_lt, List, [], ◌∷◌, Option, Some, None, option_map, slice_set, Ok, Err}
-use Rattle.std.specs.Option.{option_and_then}
+use Rattle.std.specs.Prelude.{ℕ, zero, suc, ◌+◌, ◌*◌, ◌^◌, Bool, ◌==◌, ◌||◌, ◌&&◌, not, if◌then◌else◌, nat_le, nat_lt, List, [], ◌∷◌, Option, Some, None, option_map, slice_set, Ok, Err, option_and_then}
 use Rattle.pi_base.specs.declared.word.Word.{Word}
 use Rattle.pi_base.specs.declared.word.Word.TheVariants.{Success, InvalidParameter, NotFound, OutOfResources, NotAvailableYet}
-use Rattle.hob_codec.specs.HobValue.{HobValue}
-use Rattle.hob_codec.specs.HobReading.{hob_of}
-use Rattle.act_code.specs.declared.action.Action.{Action}
+use Rattle.hob_codec.specs.{HobValue.HobValue, HobReading.hob_of}
+use Rattle.act_code.specs.{declared.action.Action.Action, declared.action.GuidArg.GuidArg}
 use Rattle.act_code.specs.declared.action.Action.TheVariants as A
-use Rattle.act_code.specs.declared.action.GuidArg.{GuidArg}
 use Rattle.act_code.specs.declared.action.GuidArg.TheVariants as G
-use Rattle.boot_model.specs.declared.frame.TheConstants.{BLOCKS}
-use Rattle.boot_model.specs.declared.line.CallName.{CallName}
+use Rattle.boot_model.specs.{declared.frame.TheConstants.BLOCKS, declared.line.CallName.CallName, declared.line.Extra.Extra}
 use Rattle.boot_model.specs.declared.line.CallName.TheVariants as C
-use Rattle.boot_model.specs.declared.line.Extra.{Extra}
 use Rattle.boot_model.specs.declared.line.Extra.TheVariants as X
-use Rattle.store_model.specs.declared.store_handle.DescKind.{DescKind}
+use Rattle.store_model.specs.{declared.store_handle.DescKind.DescKind, declared.store_handle.Desc.Desc, declared.store_handle.Sweep.Sweep}
 use Rattle.store_model.specs.declared.store_handle.DescKind.TheVariants.{Ppi, Callback, Dispatch}
-use Rattle.store_model.specs.declared.store_handle.Desc.{Desc}
-use Rattle.store_model.specs.declared.store_handle.Sweep.{Sweep}
 use Rattle.store_model.specs.declared.store_handle.GuidFrom.{GuidFrom}
 use Rattle.store_model.specs.declared.store_handle.GuidFrom.TheVariants.{Inline, At}
-use Rattle.store_model.specs.declared.store_handle.StoreFault.{StoreFault}
+use Rattle.store_model.specs.{declared.store_handle.StoreFault.StoreFault, StoreState.StoreState, MemoryReading.bytes_at, Service.Service}
 use Rattle.store_model.specs.declared.store_handle.StoreFault.TheVariants as F
-use Rattle.store_model.specs.StoreState.{StoreState}
-use Rattle.store_model.specs.MemoryReading.{bytes_at}
-use Rattle.store_model.specs.Service.{Service}
-use Rattle.store_model.specs.Service.Pool.{pool, store}
-use Rattle.store_model.specs.Service.Descriptor.{desc, offsets}
-use Rattle.store_model.specs.Service.Install.{install, reinstall}
-use Rattle.store_model.specs.Service.Notify.{notify}
-use Rattle.store_model.specs.Service.Reading.{nth_ppi}
+use Rattle.store_model.specs.{Service.Pool.pool, Service.Pool.store, Service.Descriptor.desc, Service.Descriptor.offsets}
+use Rattle.store_model.specs.{Service.Install.install, Service.Install.reinstall, Service.Notify.notify, Service.Reading.nth_ppi}
 use Rattle.store_model.specs.Service.Hob.{create_hob}
 use Rattle.store_model.specs.Service.Memory.{set_memory, pages, with_boot_mode}
 use Rattle.boot_model.specs.Effect.{Effect as OfEach, effect_by}

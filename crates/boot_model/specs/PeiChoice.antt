@@ -2,12 +2,9 @@
 -- The order is the volumes as they were reported; in a volume the a priori files in list order, then the others by place.
 -- PI 1.8, volume 1, "PEI Dispatcher" and "A Priori File"; the rotation is own.
 use Rattle.std.specs.Prelude.{ℕ, ◌+◌, Bool, false, ◌==◌, if◌then◌else◌, List, [], ◌∷◌, ◌++◌, Option, Some, None, is_none, filter, find, take, drop, length, flat_map}
-use Rattle.pi_base.specs.declared.phase.Phase.TheVariants.{Pei}
-use Rattle.mod_catalog.specs.declared.catalogue.Catalog.{Catalog}
-use Rattle.pi_base.specs.Lists.{numbers}
-use Rattle.boot_model.specs.PeiMachine.{PeiMachine}
-use Rattle.mod_catalog.specs.Parts.{parts_in, rank_at}
-use Rattle.boot_model.specs.Eligible.{is_eligible}
+use Rattle.pi_base.specs.{declared.phase.Phase.TheVariants.Pei, Lists.numbers}
+use Rattle.mod_catalog.specs.{declared.catalogue.Catalog.Catalog, Parts.parts_in, Parts.rank_at}
+use Rattle.boot_model.specs.{PeiMachine.PeiMachine, Eligible.is_eligible}
 
 -- whether a place in an a priori list is this one
 abbrev pub is_rank : Option ℕ → ℕ → Bool

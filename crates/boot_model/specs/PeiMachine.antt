@@ -2,14 +2,10 @@
 -- A frame is a script that runs, the top one first. The core's sweep is that of its own call, which visits callbacks as a script's call does.
 -- PI 1.8, volume 1, "PEI Foundation" and "PEI Dispatcher"; the record is own.
 use Rattle.std.specs.Prelude.{ℕ, List, ◌++◌, Option}
-use Rattle.boot_model.specs.declared.phase_end.PeiEnd.{PeiEnd}
-use Rattle.boot_model.specs.declared.line.Line.{Line}
-use Rattle.store_model.specs.declared.store_handle.Sweep.{Sweep}
-use Rattle.store_model.specs.declared.store_handle.Firing.{Firing}
-use Rattle.store_model.specs.StoreState.{StoreState}
+use Rattle.boot_model.specs.{declared.phase_end.PeiEnd.PeiEnd, declared.line.Line.Line, declared.frame.Frame.Frame as OfEach}
+use Rattle.store_model.specs.{declared.store_handle.Sweep.Sweep, declared.store_handle.Firing.Firing, StoreState.StoreState}
 pub use Rattle.boot_model.specs.declared.frame.Register.{Register}
 pub use Rattle.boot_model.specs.declared.frame.Register.TheVariants.{Empty, Number, PoolIn, DescriptorIn, HandleIn}
-use Rattle.boot_model.specs.declared.frame.Frame.{Frame as OfEach}
 pub use Rattle.boot_model.specs.Frames.{frame_at, no_registers}
 use Rattle.boot_model.specs.Frames.{notified}
 

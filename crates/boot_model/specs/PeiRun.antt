@@ -2,12 +2,9 @@
 -- At the opening volume 0 and the volumes nested in it have just been reported, and the heap holds the hand-off HOB alone.
 -- Own; PI 1.8, volume 1, leaves the run to the dispatcher.
 use Rattle.std.specs.Prelude.{◌≡◌, ℕ, zero, suc, ◌+◌, ◌*◌, true, List, [], ◌∷◌, length, Some, None, is_some}
-use Rattle.mod_catalog.specs.declared.catalogue.Catalog.{Catalog}
-use Rattle.boot_model.specs.declared.frame.TheConstants.{MOST_FRAMES}
+use Rattle.mod_catalog.specs.{declared.catalogue.Catalog.Catalog, Parts.family}
+use Rattle.boot_model.specs.{declared.frame.TheConstants.MOST_FRAMES, PeiMachine.PeiMachine, PeiStep.pei_step, PeiStep.report_lines}
 use Rattle.store_model.specs.StoreState.{Board, empty_store}
-use Rattle.mod_catalog.specs.Parts.{family}
-use Rattle.boot_model.specs.PeiMachine.{PeiMachine}
-use Rattle.boot_model.specs.PeiStep.{pei_step, report_lines}
 
 -- the machine at the opening
 abbrev pub pei_opening : Board → Catalog → PeiMachine

@@ -1,39 +1,25 @@
 -- One step of the boot machine in PEI: the first of its cases that applies. A pair of the open sweep that fires begins a callback; else the top frame takes its next action.
 -- Where no script runs and no sweep is open, memory moves if it is due; else the first queued pair leaves the queue and runs; else the next PEIM starts; else PEI stops.
 -- PI 1.8, volume 1, "PEI Dispatcher", `NotifyPpi()`, "Installing PEI Memory"; the frames and their bounds are own.
-use Rattle.std.specs.Prelude.{ℕ, ◌+◌, ◌/◌, ◌%◌, ◌&&◌, not, if◌then◌else◌, List, [], ◌∷◌, ◌++◌, Option, Some, None, option_map, slice_get, unwrap_or, Ok, Err, length, nat_le, map}
-use Rattle.std.specs.Option.{option_and_then, option_to_list}
-use Rattle.std.specs.Prelude.{flat_map}
+use Rattle.std.specs.Prelude.{ℕ, ◌+◌, ◌/◌, ◌%◌, ◌&&◌, not, if◌then◌else◌, List, [], ◌∷◌, ◌++◌, Option, Some, None, option_map, slice_get, unwrap_or, Ok, Err, length, nat_le, map, option_and_then, option_to_list, flat_map}
 use Rattle.pi_base.specs.declared.phase.Phase.TheVariants.{Pei}
 use Rattle.pi_base.specs.declared.word.Word.TheVariants.{Success, AlreadyStarted}
-use Rattle.act_code.specs.declared.action.Action.{Action}
-use Rattle.act_code.specs.declared.action.Action.TheVariants.{Ret}
-use Rattle.mod_catalog.specs.declared.catalogue.Catalog.{Catalog}
-use Rattle.mod_catalog.specs.declared.catalogue.Part.{Part}
-use Rattle.mod_catalog.specs.declared.catalogue.PartExpr.{PartExpr}
+use Rattle.act_code.specs.{declared.action.Action.Action, declared.action.Action.TheVariants.Ret}
+use Rattle.mod_catalog.specs.{declared.catalogue.Catalog.Catalog, declared.catalogue.Part.Part, declared.catalogue.PartExpr.PartExpr}
 use Rattle.mod_catalog.specs.declared.catalogue.PartExpr.TheVariants as E
-use Rattle.boot_model.specs.declared.frame.TheConstants.{MOST_FRAMES, BLOCKS}
+use Rattle.boot_model.specs.{declared.frame.TheConstants.MOST_FRAMES, declared.frame.TheConstants.BLOCKS, declared.licence.Licence.Licence}
 use Rattle.pi_base.specs.declared.known_guid.TheConstants.{DXE_IPL_PPI}
-use Rattle.boot_model.specs.declared.licence.Licence.{Licence}
-use Rattle.boot_model.specs.declared.line.Line.{Line}
+use Rattle.boot_model.specs.{declared.line.Line.Line, declared.line.Reason.Reason, declared.phase_end.PeiEnd.PeiEnd, Eligible.licence_at}
 use Rattle.boot_model.specs.declared.line.Line.TheVariants as L
 use Rattle.boot_model.specs.declared.line.CallName.TheVariants as C
 use Rattle.boot_model.specs.declared.line.Extra.TheVariants as X
-use Rattle.boot_model.specs.declared.line.Reason.{Reason}
 use Rattle.boot_model.specs.declared.line.Reason.TheVariants as R
-use Rattle.store_model.specs.declared.store_handle.Sweep.{Sweep}
-use Rattle.store_model.specs.declared.store_handle.Firing.{Firing}
-use Rattle.store_model.specs.StoreState.{StoreState}
-use Rattle.store_model.specs.Service.{Service}
-use Rattle.store_model.specs.Service.Sweep.{next_match}
-use Rattle.store_model.specs.Service.Queue.{queue_pop}
-use Rattle.store_model.specs.Service.Install.{core_install, has_ppi}
-use Rattle.store_model.specs.Migration.{migration}
+use Rattle.store_model.specs.{declared.store_handle.Sweep.Sweep, declared.store_handle.Firing.Firing, StoreState.StoreState}
+use Rattle.store_model.specs.{Service.Service, Service.Sweep.next_match, Service.Queue.queue_pop}
+use Rattle.store_model.specs.{Service.Install.core_install, Service.Install.has_ppi, Migration.migration}
 use Rattle.boot_model.specs.PeiMachine.{PeiMachine, Frame, notified_frame, printed}
-use Rattle.boot_model.specs.declared.phase_end.PeiEnd.{PeiEnd}
 use Rattle.boot_model.specs.declared.phase_end.PeiEnd.TheVariants.{Handoff, NoMemory, NoIpl, Spent, Deep}
 use Rattle.mod_catalog.specs.Parts.{has_number, part_at, module_name, module_volume, block_of}
-use Rattle.boot_model.specs.Eligible.{licence_at}
 use Rattle.boot_model.specs.PeiChoice.{pei_order, next_peim, cursor_behind}
 use Rattle.boot_model.specs.PeiAction.{Reply, Effect, Wrote, Called, Own, Shadowed, Logged, Skipped, Returned, effect, status_of}
 use Rattle.boot_model.specs.Reporting.{reports}

@@ -3,8 +3,7 @@
 -- PI 1.8, volume 1, "PEI Dispatcher" and `RegisterForShadow()`; the states are those of EDK2's dispatcher.
 use Rattle.std.specs.Prelude.{◌≡◌, ℕ, Bool, true, false, if◌then◌else◌, List, slice_get, unwrap_or}
 use Rattle.mod_catalog.specs.Parts.{has_number}
-use Rattle.boot_model.specs.PeiMachine.{PeiMachine}
-use Rattle.boot_model.specs.declared.peim_state.PeimState.{PeimState}
+use Rattle.boot_model.specs.{PeiMachine.PeiMachine, declared.peim_state.PeimState.PeimState}
 use Rattle.boot_model.specs.declared.peim_state.PeimState.TheVariants.{NotDispatched, Dispatched, RegisteredForShadow, Done}
 
 -- the state of a module, by the last of the lists that has it

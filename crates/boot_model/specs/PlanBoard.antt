@@ -2,8 +2,7 @@
 -- Own; FvLength is of PI 1.8, volume 3, `EFI_FIRMWARE_VOLUME_HEADER`.
 use Rattle.std.specs.Prelude.{ℕ, List, [], ◌∷◌, ◌++◌, Option, Some, None, take}
 use Rattle.boot_plan.specs.declared.plan.Plan.{Plan}
-use Rattle.mod_catalog.specs.declared.catalogue.Catalog.{Catalog}
-use Rattle.mod_catalog.specs.declared.catalogue.VolumeEntry.{VolumeEntry}
+use Rattle.mod_catalog.specs.{declared.catalogue.Catalog.Catalog, declared.catalogue.VolumeEntry.VolumeEntry}
 use Rattle.phys_mem.specs.declared.rom.Rom.{Rom}
 use Rattle.store_model.specs.StoreState.{Board}
 

@@ -1,18 +1,11 @@
 -- The volumes that a call reports. A PPI with the GUID of the volume information tells of the volume at an address; where it is a catalogued one that was not reported, it is reported, and after it each volume nested in it.
 -- PI 1.8, volume 1, `EFI_PEI_FIRMWARE_VOLUME_INFO_PPI`; that the core reports nested volumes by itself is own.
-use Rattle.std.specs.Prelude.{ℕ, Bool, ◌||◌, not, if◌then◌else◌, List, [], ◌∷◌, ◌++◌, Option, Some, None, filter}
-use Rattle.std.specs.Option.{option_and_then}
-use Rattle.pi_base.specs.declared.guid.Guid.{Guid}
-use Rattle.pi_base.specs.Field.{little_number}
-use Rattle.std.specs.Prelude.{drop}
+use Rattle.std.specs.Prelude.{ℕ, Bool, ◌||◌, not, if◌then◌else◌, List, [], ◌∷◌, ◌++◌, Option, Some, None, filter, option_and_then, drop}
+use Rattle.pi_base.specs.{declared.guid.Guid.Guid, Field.little_number, declared.known_guid.TheConstants.VOLUME_INFO_PPI, Guids.same_guid}
 use Rattle.mod_catalog.specs.declared.catalogue.Catalog.{Catalog}
 use Rattle.boot_model.specs.declared.known_guid.TheConstants.{FILE_SYSTEM2, FILE_SYSTEM3}
-use Rattle.pi_base.specs.declared.known_guid.TheConstants.{VOLUME_INFO_PPI}
-use Rattle.pi_base.specs.Guids.{same_guid}
 use Rattle.pi_base.specs.Guids as Guids
-use Rattle.store_model.specs.StoreState.{StoreState}
-use Rattle.store_model.specs.MemoryReading.{bytes_at}
-use Rattle.store_model.specs.Service.Descriptor.{guid_at, number_at}
+use Rattle.store_model.specs.{StoreState.StoreState, MemoryReading.bytes_at, Service.Descriptor.guid_at, Service.Descriptor.number_at}
 use Rattle.mod_catalog.specs.Parts.{has_number, family, volume_at}
 
 -- the bytes of the PPI

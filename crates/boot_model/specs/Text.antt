@@ -1,25 +1,19 @@
 -- The printed lines (own): each is a keyword and words with a space between. Numbers of volumes, modules, blocks and handles are decimal, addresses and values hexadecimal.
-use Rattle.std.specs.Prelude.{ℕ, ◌==◌, if◌then◌else◌, List, [], ◌∷◌, ◌++◌, codes, decimal, Option, Some, None}
+use Rattle.std.specs.Prelude.{ℕ, ◌==◌, if◌then◌else◌, List, [], ◌∷◌, ◌++◌, codes, decimal, Option, Some, None, flat_map}
 use Rattle.hex.specs.Hex.{encode_lower}
-use Rattle.std.specs.List.{flat_map}
 use Rattle.pi_base.specs.WordText.{hexadecimal, guid_text, word_text}
-use Rattle.pi_base.specs.declared.guid.Guid.{Guid}
-use Rattle.pi_base.specs.declared.word.Word.{Word}
+use Rattle.pi_base.specs.{declared.guid.Guid.Guid, declared.word.Word.Word}
 use Rattle.boot_io.specs.Line.{line_of}
 use Rattle.boot_plan.specs.declared.fault.PlanCause.{PlanCause}
 use Rattle.boot_plan.specs.declared.fault.PlanCause.TheVariants as P
 use Rattle.store_model.specs.declared.state.TheConstants.{CORE}
-use Rattle.boot_model.specs.declared.line.Line.{Line}
+use Rattle.boot_model.specs.{declared.line.Line.Line, declared.line.CallName.CallName, declared.line.Extra.Extra}
 use Rattle.boot_model.specs.declared.line.Line.TheVariants as L
-use Rattle.boot_model.specs.declared.line.CallName.{CallName}
 use Rattle.boot_model.specs.declared.line.CallName.TheVariants as C
-use Rattle.boot_model.specs.declared.line.Extra.{Extra}
 use Rattle.boot_model.specs.declared.line.Extra.TheVariants as E
-use Rattle.boot_model.specs.declared.line.Reason.{Reason}
+use Rattle.boot_model.specs.{declared.line.Reason.Reason, declared.line.RunEnd.RunEnd, declared.line.ExpressionWord.ExpressionWord}
 use Rattle.boot_model.specs.declared.line.Reason.TheVariants as R
-use Rattle.boot_model.specs.declared.line.RunEnd.{RunEnd}
 use Rattle.boot_model.specs.declared.line.RunEnd.TheVariants as X
-use Rattle.boot_model.specs.declared.line.ExpressionWord.{ExpressionWord}
 use Rattle.boot_model.specs.declared.line.ExpressionWord.TheVariants as V
 use Rattle.boot_model.specs.declared.licence.Licence.{Licence}
 use Rattle.boot_model.specs.declared.licence.Licence.TheVariants as G

@@ -6,14 +6,11 @@
 -- PI 1.8, volume 1, "Installing PEI Memory" and `EFI_PEI_TEMPORARY_RAM_SUPPORT_PPI`; which numbers are shifted is own.
 use Rattle.std.specs.Prelude.{◌≡◌, ℕ, ◌+◌, ◌<◌, ◌≤◌, Bool, true, false, ◌++◌, map, Option, Some, None}
 use Rattle.pi_base.specs.Lists.{Each}
-use Rattle.store_model.specs.declared.store_handle.DescKind.{DescKind}
+use Rattle.store_model.specs.{declared.store_handle.DescKind.DescKind, declared.state.Body.Body}
 use Rattle.store_model.specs.declared.store_handle.DescKind.TheVariants.{Ppi, Callback, Dispatch}
-use Rattle.store_model.specs.declared.state.Body.{Body}
 use Rattle.store_model.specs.declared.state.Body.TheVariants.{Bytes, Descriptor, Node, Allocation}
-use Rattle.store_model.specs.declared.state.DescriptorBody.{DescriptorBody}
-use Rattle.store_model.specs.declared.state.Pending.{Pending}
+use Rattle.store_model.specs.{declared.state.DescriptorBody.DescriptorBody, declared.state.Pending.Pending, HeapImage.descriptor_bytes}
 use Rattle.store_model.specs.StoreState.{StoreState, hob_len, body_at}
-use Rattle.store_model.specs.HeapImage.{descriptor_bytes}
 use Rattle.store_model.specs.Service.Descriptor.{guid_at, number_at, is_named}
 
 -- an address in the heap is as far from the new base as from the old, and one in the page region as far from the pages' end;

@@ -1,19 +1,13 @@
 -- A line that has no fault is added.
-use Rattle.std.proofs.Common.{◌≡◌, ℕ, true, false, ltb, List, [], ◌∷◌, ◌++◌, length, Option, Some, None, refl, ap, subst, arith}
-use Rattle.std.specs.Option.{option_map}
-use Rattle.std.proofs.lemmas.List.{nil_from_length}
-use Rattle.std.proofs.lemmas.Bool.Decides.{nat_tests}
-use Rattle.boot_plan.specs.declared.draft.Draft.{Draft}
-use Rattle.line_words.specs.Line.{is_passed_over}
+use Rattle.std.proofs.Common.{◌≡◌, ℕ, true, false, ltb, List, [], ◌∷◌, ◌++◌, length, Option, Some, None, refl, ap, subst, arith, option_map}
+use Rattle.std.proofs.{lemmas.List.nil_from_length, lemmas.Bool.Decides.nat_tests}
+use Rattle.boot_plan.specs.{declared.draft.Draft.Draft, Form.form_of, Range.IsSpanInRange}
+use Rattle.line_words.specs.{Line.is_passed_over, Number.number_of}
 use Rattle.boot_plan.specs.Entry.{Entry, Temp, Ram, Volume, Fuel, Pages, read_entry, both}
-use Rattle.boot_plan.specs.Form.{form_of}
-use Rattle.line_words.specs.Number.{number_of}
 use Rattle.boot_plan.specs.Said.{Said, said_from, temps, rams, fuels, pages, volumes}
 use Rattle.boot_plan.specs.LineCause.{is_repeated, is_within, is_area, line_cause}
 use Rattle.boot_plan.specs.Draft.{Keeps, IsInRange, HasPlace, IsEntryInRange}
-use Rattle.boot_plan.specs.Range.{IsSpanInRange}
-use Rattle.boot_plan.proofs.Drafts.{at_line}
-use Rattle.boot_plan.proofs.Names.{IsNamed, form_named}
+use Rattle.boot_plan.proofs.{Drafts.at_line, Names.IsNamed, Names.form_named}
 
 abbrev of : Entry ℕ → Option (Entry ℕ)
 of entry = Some entry

@@ -1,12 +1,9 @@
 -- A draft with one entry more.
-use Rattle.std.proofs.Common.{◌≡◌, ℕ, List, [], ◌∷◌, ◌++◌, Option, Some, None, refl, ap, ◌∙◌}
-use Rattle.std.specs.List.{filter_map}
-use Rattle.std.proofs.lemmas.List.{append-nil}
+use Rattle.std.proofs.Common.{◌≡◌, ℕ, List, [], ◌∷◌, ◌++◌, Option, Some, None, refl, ap, ◌∙◌, filter_map, append-nil}
 use Rattle.std.proofs.lemmas.List.Elements.{filter_map-append}
-use Rattle.boot_plan.specs.declared.draft.Draft.{Draft}
+use Rattle.boot_plan.specs.{declared.draft.Draft.Draft, Draft.Keeps}
 use Rattle.boot_plan.specs.Entry.{Entry, Temp, Ram, Volume, Fuel, Pages}
 use Rattle.boot_plan.specs.Said.{Said, temps, rams, fuels, pages, temp_in, ram_in, volume_in, fuel_in, pages_in}
-use Rattle.boot_plan.specs.Draft.{Keeps}
 
 abbrev pub at_line : ℕ → Entry ℕ → Said
 at_line line entry = record { line = line; entry = entry }

@@ -1,18 +1,11 @@
 -- What a draft that is whole makes.
-use Rattle.std.proofs.Common.{◌≡◌, ◌≤◌, ℕ, Bool, true, false, cond, List, [], ◌∷◌, length, nat_lt, ◌+◌, ◌%◌, Option, Some, None, refl, sym, ap, subst, arith, ◌∙◌}
-use Rattle.std.specs.Prelude.{IfSome}
+use Rattle.std.proofs.Common.{◌≡◌, ◌≤◌, ℕ, Bool, true, false, cond, List, [], ◌∷◌, length, nat_lt, ◌+◌, ◌%◌, Option, Some, None, refl, sym, ap, subst, arith, ◌∙◌, IfSome, option_to_list}
 use Rattle.std.proofs.lemmas.Bool.Decides.{nat_tests}
 use Rattle.pi_base.specs.declared.span.TheConstants.{PAGE_LEN}
-use Rattle.std.specs.Option.{option_to_list}
-use Rattle.boot_plan.specs.declared.draft.Draft.{Draft}
-use Rattle.boot_plan.specs.declared.draft.Area.{Area}
-use Rattle.boot_plan.specs.declared.fault.PlanFault.{PlanFault}
-use Rattle.boot_plan.specs.declared.plan.Plan.{Plan}
-use Rattle.boot_plan.specs.declared.plan.PlanVolume.{PlanVolume}
+use Rattle.boot_plan.specs.{declared.draft.Draft.Draft, declared.draft.Area.Area, declared.fault.PlanFault.PlanFault}
+use Rattle.boot_plan.specs.{declared.plan.Plan.Plan, declared.plan.PlanVolume.PlanVolume, declared.draft.Amount.Amount}
 use Rattle.boot_plan.specs.declared.limits.TheConstants.{DEFAULT_FUEL, LEAST_TEMP, MOST_TEMP, LEAST_RAM, MOST_RAM, MOST_FUEL, MOST_PAGES}
-use Rattle.boot_plan.specs.declared.draft.Amount.{Amount}
-use Rattle.boot_plan.specs.Said.{Said, pages}
-use Rattle.boot_plan.specs.Draft.{Keeps, IsInRange}
+use Rattle.boot_plan.specs.{Said.Said, Said.pages, Draft.Keeps, Draft.IsInRange}
 use Rattle.boot_plan.specs.Range.{IsPlanInRange, IsRegionInRange, IsSpanInRange}
 use Rattle.boot_plan.specs.PlanText.{Makes, memory_fault, overlap, room_fault, value_or, end_fault}
 

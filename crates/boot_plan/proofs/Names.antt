@@ -1,13 +1,10 @@
 -- The name of a `volume` line is a name.
-use Rattle.std.proofs.Common.{◌≡◌, ℕ, ◌≤◌, Bool, true, false, cond, ◌&&◌, not, eqb, ltb, leb, List, [], ◌∷◌, length, Option, Some, None, refl, subst, arith}
-use Rattle.std.specs.List.{slice_split, onto_first, filter, list_all, AllByRecursion}
-use Rattle.std.proofs.lemmas.List.Elements.{All-from_recursion}
-use Rattle.std.proofs.lemmas.Bool.Decides.{nat_tests}
+use Rattle.std.proofs.Common.{◌≡◌, ℕ, ◌≤◌, Bool, true, false, cond, ◌&&◌, not, eqb, ltb, leb, List, [], ◌∷◌, length, Option, Some, None, refl, subst, arith, filter}
+use Rattle.std.specs.List.{slice_split, onto_first, list_all, AllByRecursion}
+use Rattle.std.proofs.{lemmas.List.Elements.All-from_recursion, lemmas.Bool.Decides.nat_tests}
 use Rattle.boot_plan.specs.Entry.{Entry, Temp, Ram, Volume, Fuel, Pages}
 use Rattle.line_words.specs.Words.{words, is_plain, has_outer_space}
-use Rattle.boot_plan.specs.Form.{form_of, form_of_words}
-use Rattle.boot_plan.specs.Range.{IsName}
-use Rattle.boot_plan.specs.declared.limits.TheConstants.{MOST_NAME}
+use Rattle.boot_plan.specs.{Form.form_of, Form.form_of_words, Range.IsName, declared.limits.TheConstants.MOST_NAME}
 use Rattle.line_words.proofs.LineLemmas.{is_byte}
 
 abbrev visible : ℕ → Type 0

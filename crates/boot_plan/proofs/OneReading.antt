@@ -1,21 +1,13 @@
 -- A text has one reading.
-use Rattle.std.proofs.Common.{◌≡◌, ◌≢◌, ℕ, ◌+◌, ◌<◌, ◌≤◌, ◌^◌, List, [], ◌∷◌, length, take, drop, length-drop, ◌-◌, Some, None, Result, Ok, Err, sym, ap, ◌∙◌, subst, arith, inl, inr}
+use Rattle.std.proofs.Common.{◌≡◌, ◌≢◌, ℕ, ◌+◌, ◌<◌, ◌≤◌, ◌^◌, List, [], ◌∷◌, length, take, drop, length-drop, ◌-◌, Some, None, Result, Ok, Err, sym, ap, ◌∙◌, subst, arith, inl, inr, IfOk, IfErr, take_all}
 use native.Mathlib.Bridge.{le_prop}
-use Rattle.std.specs.Prelude.{IfOk, IfErr}
-use Rattle.std.proofs.lemmas.Bool.{cases_lt}
-use Rattle.std.proofs.lemmas.Option.{same_Some, none-some}
-use Rattle.std.proofs.lemmas.List.{take_all, nil_from_length}
+use Rattle.std.proofs.{lemmas.Bool.cases_lt, lemmas.Option.same_Some, lemmas.Option.none-some, lemmas.List.nil_from_length}
 use Rattle.pi_base.specs.declared.span.Span.{Span}
-use Rattle.boot_plan.specs.declared.draft.Area.{Area}
-use Rattle.boot_plan.specs.declared.draft.Draft.{Draft}
-use Rattle.boot_plan.specs.declared.plan.Plan.{Plan}
-use Rattle.boot_plan.specs.declared.plan.PlanVolume.{PlanVolume}
-use Rattle.boot_plan.specs.declared.fault.PlanFault.{PlanFault}
-use Rattle.boot_plan.specs.declared.fault.PlanCause.{PlanCause}
-use Rattle.boot_plan.specs.declared.fault.PlanCause.TheVariants.{Memory}
+use Rattle.boot_plan.specs.{declared.draft.Area.Area, declared.draft.Draft.Draft, declared.plan.Plan.Plan}
+use Rattle.boot_plan.specs.{declared.plan.PlanVolume.PlanVolume, declared.fault.PlanFault.PlanFault, declared.fault.PlanCause.PlanCause}
+use Rattle.boot_plan.specs.{declared.fault.PlanCause.TheVariants.Memory, Draft.Keeps}
 use Rattle.line_words.specs.Line.{lines}
 use Rattle.boot_plan.specs.Said.{Said, said, temps}
-use Rattle.boot_plan.specs.Draft.{Keeps}
 use Rattle.boot_plan.specs.PlanText.{AreSound, Makes, Gives, IsPlan, IsLineFault, IsPlanFault, cause_at, end_fault}
 
 abbrev pub made : (base len : ℕ) → base + len < 2 ^ 64 → Span

@@ -1,30 +1,19 @@
 -- Each text has a reading: its lines are read one after another without want of memory.
-use Rattle.std.proofs.Common.{◌≡◌, ◌⊎◌, inl, inr, ℕ, zero, suc, ◌+◌, ◌<◌, ◌≤◌, ◌^◌, Bool, true, false, cond, List, [], ◌∷◌, ◌++◌, length, take, drop, get_or, Option, Some, None, refl, sym, ◌∙◌, arith, below_more, add-one, subst}
-use Rattle.std.specs.Option.{option_to_list}
-use Rattle.std.proofs.lemmas.List.{take_all, append-nil, drop_more}
-use Rattle.std.proofs.lemmas.List.Elements.{All-push, All-nil}
-use Rattle.std.proofs.lemmas.Grind.{common_steps}
-use Rattle.boot_plan.specs.declared.draft.Area.{Area}
-use Rattle.boot_plan.specs.declared.draft.Draft.{Draft}
-use Rattle.boot_plan.specs.declared.plan.Plan.{Plan}
-use Rattle.boot_plan.specs.declared.plan.PlanVolume.{PlanVolume}
-use Rattle.boot_plan.specs.declared.fault.PlanFault.{PlanFault}
-use Rattle.boot_plan.specs.declared.fault.PlanCause.{PlanCause}
+use Rattle.std.proofs.Common.{◌≡◌, ◌⊎◌, inl, inr, ℕ, zero, suc, ◌+◌, ◌<◌, ◌≤◌, ◌^◌, Bool, true, false, cond, List, [], ◌∷◌, ◌++◌, length, take, drop, get_or, Option, Some, None, refl, sym, ◌∙◌, arith, below_more, add-one, subst, option_to_list, take_all, append-nil}
+use Rattle.std.proofs.{lemmas.List.drop_more, lemmas.List.Elements.All-push, lemmas.List.Elements.All-nil, lemmas.Grind.common_steps}
+use Rattle.boot_plan.specs.{declared.draft.Area.Area, declared.draft.Draft.Draft, declared.plan.Plan.Plan}
+use Rattle.boot_plan.specs.{declared.plan.PlanVolume.PlanVolume, declared.fault.PlanFault.PlanFault, declared.fault.PlanCause.PlanCause}
 use Rattle.boot_plan.specs.declared.fault.PlanCause.TheVariants.{Twice, Limit, Missing}
-use Rattle.boot_plan.specs.declared.limits.TheConstants.{DEFAULT_FUEL}
+use Rattle.boot_plan.specs.{declared.limits.TheConstants.DEFAULT_FUEL, Form.form_of, Range.IsSpanInRange, Range.IsVolumeInRange}
 use Rattle.line_words.specs.Line.{lines, is_passed_over}
-use Rattle.boot_plan.specs.Form.{form_of}
 use Rattle.boot_plan.specs.Entry.{Entry, Temp, Ram, Volume, Fuel, Pages, read_entry}
 use Rattle.boot_plan.specs.Said.{Said, said, said_from}
 use Rattle.boot_plan.specs.LineCause.{is_repeated, is_within, value_cause, form_cause}
 use Rattle.boot_plan.specs.Draft.{Keeps, IsInRange, HasPlace, IsEntryInRange}
-use Rattle.boot_plan.specs.Range.{IsSpanInRange, IsVolumeInRange}
 use Rattle.boot_plan.specs.PlanText.{Makes, IsPlan, IsPlanFault, IsLineFault, cause_at, end_fault, memory_fault, value_or}
 use Rattle.boot_plan.proofs.Drafts.{at_line, keeps_temp, keeps_ram, keeps_volume, keeps_fuel, keeps_pages}
-use Rattle.boot_plan.proofs.Adding.{added}
+use Rattle.boot_plan.proofs.{Adding.added, Finishing.whole_is, Finishing.finished, OneReading.made}
 use Rattle.boot_plan.proofs.Reading.{At, at_is, said_more}
-use Rattle.boot_plan.proofs.Finishing.{whole_is, finished}
-use Rattle.boot_plan.proofs.OneReading.{made}
 
 -- a draft with an entry more
 abbrev with_entry : Draft → ℕ → Entry ℕ → Draft

@@ -1,15 +1,11 @@
 -- What a draft keeps of the lines so far, and its ranges.
-use Rattle.std.specs.Prelude.{◌≡◌, ◌≢◌, ℕ, ◌++◌, ◌∷◌, None, Some, Result, Ok, Err, ◌<◌, ◌≤◌, ◌%◌, List, [], length, All, IfSome}
-use Rattle.std.specs.Option.{option_to_list}
-use Rattle.boot_plan.specs.declared.draft.Draft.{Draft}
+use Rattle.std.specs.Prelude.{◌≡◌, ◌≢◌, ℕ, ◌++◌, ◌∷◌, None, Some, Result, Ok, Err, ◌<◌, ◌≤◌, ◌%◌, List, [], length, All, IfSome, option_to_list}
+use Rattle.boot_plan.specs.{declared.draft.Draft.Draft, declared.fault.PlanFault.PlanFault, declared.fault.PlanCause.TheVariants.Memory}
 use Rattle.pi_base.specs.declared.span.TheConstants.{PAGE_LEN}
 use Rattle.boot_plan.specs.declared.limits.TheConstants.{LEAST_TEMP, MOST_TEMP, LEAST_RAM, MOST_RAM, MOST_FUEL, MOST_PAGES, MOST_PLAN_VOLUMES}
 use Rattle.boot_plan.specs.Entry.{Entry, Temp, Ram, Volume, Fuel, Pages}
-use Rattle.boot_plan.specs.declared.fault.PlanFault.{PlanFault}
-use Rattle.boot_plan.specs.declared.fault.PlanCause.TheVariants.{Memory}
-use Rattle.boot_plan.specs.LineCause.{line_cause}
+use Rattle.boot_plan.specs.{LineCause.line_cause, Range.IsSpanInRange, Range.IsVolumeInRange}
 use Rattle.boot_plan.specs.Said.{Said, said_from, temps, rams, volumes, fuels, pages}
-use Rattle.boot_plan.specs.Range.{IsSpanInRange, IsVolumeInRange}
 
 -- the draft has what the lines say
 pub record Keeps (said : List Said) (draft : Draft) : Type 0 where

@@ -1,11 +1,10 @@
 -- What is wrong with a line, given the lines before it (own): Word, then Twice, then Number, then Limit.
 use Rattle.std.specs.Prelude.{ℕ, ◌+◌, ◌%◌, Bool, false, ◌&&◌, nat_lt, nat_le, ◌==◌, if◌then◌else◌, List, length, Option, Some, None}
-use Rattle.boot_plan.specs.declared.fault.PlanCause.{PlanCause}
+use Rattle.boot_plan.specs.{declared.fault.PlanCause.PlanCause, Form.form_of}
 use Rattle.boot_plan.specs.declared.fault.PlanCause.TheVariants.{Word, Number, Twice, Limit}
 use Rattle.pi_base.specs.declared.span.TheConstants.{PAGE_LEN}
 use Rattle.boot_plan.specs.declared.limits.TheConstants.{LEAST_ADDRESS, MOST_END, VOLUME_ALIGNMENT, LEAST_TEMP, MOST_TEMP, LEAST_RAM, MOST_RAM, MOST_FUEL, MOST_PAGES, MOST_PLAN_VOLUMES}
 use Rattle.line_words.specs.Line.{is_passed_over}
-use Rattle.boot_plan.specs.Form.{form_of}
 use Rattle.boot_plan.specs.Entry.{Entry, Temp, Ram, Volume, Fuel, Pages, read_entry}
 use Rattle.boot_plan.specs.Said.{Said, temps, rams, volumes, fuels, pages}
 

@@ -1,16 +1,11 @@
 -- The plan that a text stands for, or its first fault (own). Exactly one of them holds of a text, for one value.
 use Rattle.std.specs.Prelude.{◌≡◌, ◌⊎◌, ℕ, ◌+◌, ◌<◌, Bool, ◌&&◌, nat_lt, if◌then◌else◌, List, [], ◌∷◌, length, take, slice_index_or, max, Option, Some, None}
-use Rattle.boot_plan.specs.declared.draft.Area.{Area}
-use Rattle.boot_plan.specs.declared.draft.Amount.{Amount}
-use Rattle.boot_plan.specs.declared.plan.Plan.{Plan}
-use Rattle.boot_plan.specs.declared.plan.PlanVolume.{PlanVolume}
-use Rattle.boot_plan.specs.declared.fault.PlanFault.{PlanFault}
-use Rattle.boot_plan.specs.declared.fault.PlanCause.{PlanCause}
+use Rattle.boot_plan.specs.{declared.draft.Area.Area, declared.draft.Amount.Amount, declared.plan.Plan.Plan}
+use Rattle.boot_plan.specs.{declared.plan.PlanVolume.PlanVolume, declared.fault.PlanFault.PlanFault, declared.fault.PlanCause.PlanCause}
 use Rattle.boot_plan.specs.declared.fault.PlanCause.TheVariants.{Missing, Overlap, Room}
-use Rattle.boot_plan.specs.declared.limits.TheConstants.{LEAST_TEMP, DEFAULT_FUEL}
+use Rattle.boot_plan.specs.{declared.limits.TheConstants.LEAST_TEMP, declared.limits.TheConstants.DEFAULT_FUEL, LineCause.line_cause}
 use Rattle.line_words.specs.Line.{lines}
 use Rattle.boot_plan.specs.Said.{Said, said, temps, rams, volumes, fuels, pages}
-use Rattle.boot_plan.specs.LineCause.{line_cause}
 
 -- what is wrong with the line at a place of the list, given those before it
 abbrev pub cause_at : List (List ℕ) → ℕ → Option PlanCause

@@ -1,10 +1,8 @@
 -- The ranges that each plan keeps (own), for the calls that take one.
 use Rattle.std.specs.Prelude.{◌≡◌, ℕ, ◌+◌, ◌%◌, ◌≤◌, List, length, All}
-use Rattle.pi_base.specs.Span.{AreDisjoint}
-use Rattle.pi_base.specs.declared.span.TheConstants.{PAGE_LEN}
+use Rattle.pi_base.specs.{Span.AreDisjoint, declared.span.TheConstants.PAGE_LEN}
 use Rattle.boot_plan.specs.declared.limits.TheConstants.{LEAST_ADDRESS, MOST_END, VOLUME_ALIGNMENT, LEAST_TEMP, MOST_TEMP, LEAST_RAM, MOST_RAM, MOST_FUEL, MOST_PAGES, MOST_PLAN_VOLUMES, MOST_NAME}
-use Rattle.boot_plan.specs.declared.plan.Plan.{Plan}
-use Rattle.boot_plan.specs.declared.plan.PlanVolume.{PlanVolume}
+use Rattle.boot_plan.specs.{declared.plan.Plan.Plan, declared.plan.PlanVolume.PlanVolume}
 
 -- memory of whole pages, of a size between these, from the least address to the greatest end
 pub record IsSpanInRange (low high base len : ℕ) : Type 0 where

@@ -1,13 +1,9 @@
 -- What the lines of a text say, each with its number from 1.
-use Rattle.std.specs.Prelude.{ℕ, ◌+◌, List, [], ◌∷◌, Option, Some, None, option_map, if◌then◌else◌}
-use Rattle.std.specs.Option.{option_and_then}
-use Rattle.std.specs.List.{cons_option, filter_map}
+use Rattle.std.specs.Prelude.{ℕ, ◌+◌, List, [], ◌∷◌, Option, Some, None, option_map, if◌then◌else◌, option_and_then, filter_map}
+use Rattle.std.specs.List.{cons_option}
 use Rattle.line_words.specs.Line.{is_passed_over}
-use Rattle.boot_plan.specs.Form.{form_of}
+use Rattle.boot_plan.specs.{Form.form_of, declared.draft.Area.Area, declared.draft.Amount.Amount, declared.plan.PlanVolume.PlanVolume}
 use Rattle.boot_plan.specs.Entry.{Entry, Temp, Ram, Volume, Fuel, Pages, read_entry}
-use Rattle.boot_plan.specs.declared.draft.Area.{Area}
-use Rattle.boot_plan.specs.declared.draft.Amount.{Amount}
-use Rattle.boot_plan.specs.declared.plan.PlanVolume.{PlanVolume}
 
 -- an entry and the number of its line
 pub record Said : Type 0 where

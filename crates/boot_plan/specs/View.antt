@@ -1,8 +1,7 @@
 -- The program's forms and entries as those of the format.
 use Rattle.std.specs.Prelude.{ℕ, List}
-use Rattle.boot_plan.specs.declared.form.Form.{Form}
+use Rattle.boot_plan.specs.{declared.form.Form.Form, declared.entry.Entry.Entry as Kept}
 use Rattle.boot_plan.specs.declared.form.Form.TheVariants as form
-use Rattle.boot_plan.specs.declared.entry.Entry.{Entry as Kept}
 use Rattle.boot_plan.specs.declared.entry.Entry.TheVariants as kept
 use Rattle.boot_plan.specs.Entry.{Entry, Temp, Ram, Volume, Fuel, Pages}
 

@@ -1,7 +1,6 @@
 // What a line of a plan says.
 ghost use Rattle.std.specs.Prelude.{◌≡◌, option_map};
-ghost use Rattle.boot_plan.specs.Entry.{read_entry};
-ghost use Rattle.boot_plan.specs.View.{form_view, entry_view};
+ghost use Rattle.boot_plan.specs.{Entry.read_entry, View.form_view, View.entry_view};
 
 use crate::form::Form;
 use line_words::number_of;

@@ -1,9 +1,6 @@
 // The plan that a draft has become after the last line.
-ghost use Rattle.std.specs.Prelude.{◌≡◌, ◌<◌, ◌≤◌, ◌+◌, ◌^◌, List, IfOk, IfErr, IfSome, Some};
-ghost use Rattle.std.specs.Option.{option_to_list};
-ghost use Rattle.boot_plan.specs.Said.{Said};
-ghost use Rattle.boot_plan.specs.Draft.{Keeps, IsInRange};
-ghost use Rattle.boot_plan.specs.Range.{IsPlanInRange};
+ghost use Rattle.std.specs.Prelude.{◌≡◌, ◌<◌, ◌≤◌, ◌+◌, ◌^◌, List, IfOk, IfErr, IfSome, Some, option_to_list};
+ghost use Rattle.boot_plan.specs.{Said.Said, Draft.Keeps, Draft.IsInRange, Range.IsPlanInRange};
 ghost use Rattle.boot_plan.specs.PlanText.{memory_fault, value_or, end_fault, Makes};
 
 use crate::draft::{Amount, Area, Draft};

@@ -1,10 +1,7 @@
 // Reading the text of a plan.
 ghost use Rattle.std.specs.Prelude.{◌≡◌, ◌≢◌, ◌⊎◌, ◌<◌, ◌-◌, ◌^◌, ℕ, List, length, IfOk, IfErr};
-ghost use Rattle.boot_plan.specs.PlanText.{IsPlan, IsPlanFault};
-ghost use Rattle.boot_plan.specs.Range.{IsPlanInRange};
-ghost use Rattle.boot_plan.specs.declared.plan.Plan.{Plan};
-ghost use Rattle.boot_plan.specs.declared.fault.PlanFault.{PlanFault};
-ghost use Rattle.boot_plan.specs.declared.fault.PlanCause.TheVariants.{Memory};
+ghost use Rattle.boot_plan.specs.{PlanText.IsPlan, PlanText.IsPlanFault, Range.IsPlanInRange, declared.plan.Plan.Plan};
+ghost use Rattle.boot_plan.specs.{declared.fault.PlanFault.PlanFault, declared.fault.PlanCause.TheVariants.Memory};
 
 use crate::draft::Draft;
 use crate::fault::PlanFault;

@@ -1,28 +1,15 @@
 -- What is told at the end of DXE explains it, and who waits there.
-use Rattle.std.proofs.Common.{◌≡◌, ℕ, Bool, true, false, cond, List, [], ◌∷◌, ◌++◌, Option, Some, None, option_map, refl, sym, ap, ◌∙◌, append_assoc, filter, flat_map}
-use Rattle.std.specs.Option.{option_to_list}
-use Rattle.pi_base.specs.declared.phase.Phase.TheVariants.{Dxe}
-use Rattle.mod_catalog.specs.declared.catalogue.Part.{Part}
-use Rattle.mod_catalog.specs.Parts.{part_at}
-use Rattle.store_model.specs.HandleState.{has_protocol}
-use Rattle.boot_model.specs.declared.line.Reason.{Reason}
-use Rattle.boot_model.specs.DxeChoice.{is_waiting}
-use Rattle.boot_model.specs.DxeStep.{driver_reason}
-use Rattle.boot_reasons.specs.Would.{would}
-use Rattle.explain_text.specs.declared.reasons.Need.{Need}
-use Rattle.boot_reasons.specs.Needs.{needs_of}
-use Rattle.pi_base.specs.declared.guid.Guid.{Guid}
-use Rattle.mod_catalog.specs.declared.catalogue.Catalog.{Catalog}
-use Rattle.store_model.specs.StoreState.{StoreState}
-use Rattle.boot_model.specs.declared.phase_end.DxeEnd.{DxeEnd}
+use Rattle.std.proofs.Common.{◌≡◌, ℕ, Bool, true, false, cond, List, [], ◌∷◌, ◌++◌, Option, Some, None, option_map, refl, sym, ap, ◌∙◌, append_assoc, filter, flat_map, option_to_list}
+use Rattle.pi_base.specs.{declared.phase.Phase.TheVariants.Dxe, declared.guid.Guid.Guid}
+use Rattle.mod_catalog.specs.{declared.catalogue.Part.Part, Parts.part_at, declared.catalogue.Catalog.Catalog}
+use Rattle.store_model.specs.{HandleState.has_protocol, StoreState.StoreState}
+use Rattle.boot_model.specs.{declared.line.Reason.Reason, DxeChoice.is_waiting, DxeStep.driver_reason, declared.phase_end.DxeEnd.DxeEnd}
+use Rattle.boot_reasons.specs.{Would.would, Needs.needs_of, declared.told.DxeTold.DxeTold, DxeTelling.ExplainsEnd, DxeTelling.held_where}
+use Rattle.explain_text.specs.{declared.reasons.Need.Need, declared.reasons.Giver.Giver, declared.reasons.Held.Held}
 use Rattle.boot_model.specs.DxeMachine.{DxeMachine}
 use Rattle.dxe_dispatch.specs.Queue.{IsQueueOf, Queue}
 use Rattle.dxe_core.specs.Standing.{DxeCore, IsCoreOf}
-use Rattle.explain_text.specs.declared.reasons.Giver.{Giver}
-use Rattle.explain_text.specs.declared.reasons.Held.{Held}
-use Rattle.boot_reasons.specs.declared.told.DxeTold.{DxeTold}
 use Rattle.boot_reasons.specs.DxeReasons.{dxe_giver, dxe_held, dxe_held_at, dxe_held_by}
-use Rattle.boot_reasons.specs.DxeTelling.{ExplainsEnd, held_where}
 use Rattle.boot_reasons.specs.Noting.{giver_in}
 
 pub explained_so : {M : Type 0} (stands : M → StoreState → Type 0) (store : M) (catalog : Catalog) (core : DxeCore) (queue : Queue) (told : DxeTold) (how : DxeEnd) (held : List Held) (discovered : List ℕ) (taken : ℕ)

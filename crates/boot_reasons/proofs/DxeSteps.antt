@@ -1,27 +1,16 @@
 -- What is told of a run of DXE by choices, a turn further.
-use Rattle.std.proofs.Common.{◌≡◌, ◌≤◌, ℕ, ◌+◌, arith, Bool, false, List, [], ◌∷◌, ◌++◌, Option, Some, None, Ok, option_map, is_some, refl, sym, ap, ◌∙◌, subst}
-use Rattle.std.specs.Option.{option_to_list}
-use Rattle.std.proofs.lemmas.List.{append-nil}
-use Rattle.pi_base.specs.declared.guid.Guid.{Guid}
-use Rattle.pi_base.specs.declared.phase.Phase.TheVariants.{Dxe}
-use Rattle.boot_laws.specs.UnrequestedDrivers.{UnrequestedDriversWait}
-use Rattle.boot_model.specs.declared.licence.Licence.{Licence}
+use Rattle.std.proofs.Common.{◌≡◌, ◌≤◌, ℕ, ◌+◌, arith, Bool, false, List, [], ◌∷◌, ◌++◌, Option, Some, None, Ok, option_map, is_some, refl, sym, ap, ◌∙◌, subst, option_to_list, append-nil}
+use Rattle.pi_base.specs.{declared.guid.Guid.Guid, declared.phase.Phase.TheVariants.Dxe}
+use Rattle.boot_laws.specs.{UnrequestedDrivers.UnrequestedDriversWait, declared.choice.Reached.Reached, DxeAim.FirstEligibleMayStart}
+use Rattle.boot_model.specs.{declared.licence.Licence.Licence, declared.phase_end.DxeEnd.DxeEnd, DriverLicence.target_of}
 use Rattle.boot_model.specs.declared.licence.Licence.TheVariants as G
-use Rattle.boot_model.specs.declared.phase_end.DxeEnd.{DxeEnd}
-use Rattle.boot_model.specs.DriverLicence.{target_of}
-use Rattle.boot_model.specs.declared.driver.Scheduled.{Scheduled}
-use Rattle.boot_model.specs.DxeMachine.{DxeMachine}
-use Rattle.boot_model.specs.DxeRun.{dxe_bound, dxe_opening}
+use Rattle.boot_model.specs.{declared.driver.Scheduled.Scheduled, DxeMachine.DxeMachine, DxeRun.dxe_bound, DxeRun.dxe_opening}
 use Rattle.boot_model.specs.DxeStep.{DxeActs, DxeCase, DxeFires, DxeStarts, DxeStops, driver_started, dxe_case_of, dxe_step, in_dxe_case}
 use Rattle.boot_trace.specs.Printing.{Texts}
-use Rattle.mod_catalog.specs.declared.catalogue.Catalog.{Catalog}
-use Rattle.mod_catalog.specs.declared.catalogue.Part.{Part}
-use Rattle.mod_catalog.specs.Parts.{part_at}
-use Rattle.mod_catalog.specs.WellFormed.{IsWellFormed}
+use Rattle.mod_catalog.specs.{declared.catalogue.Catalog.Catalog, declared.catalogue.Part.Part, Parts.part_at, WellFormed.IsWellFormed}
 use Rattle.dxe_dispatch.specs.Queue.{Discovers, IsNewQueue, Queue}
 use Rattle.dxe_core.specs.Standing.{DxeCore, IsCoreOf, IsFor, StandsFor}
-use Rattle.dxe_dispatch.specs.declared.answer.Step.{Step}
-use Rattle.dxe_dispatch.specs.declared.answer.Step.TheVariants.{Acted, Started}
+use Rattle.dxe_dispatch.specs.{declared.answer.Step.Step, declared.answer.Step.TheVariants.Acted, declared.answer.Step.TheVariants.Started}
 use Rattle.dxe_dispatch.specs.declared.answer.Turn.TheVariants as T
 use Rattle.dxe_dispatch.specs.Choices.{IsAimedBy, IsOnWay, IsRunBy, NamesDrivers, TurnsBy, came}
 use Rattle.dxe_dispatch.specs.Ends.{IsNow}
@@ -30,21 +19,14 @@ use Rattle.dxe_dispatch.proofs.Chosen.{Any, StepLaws, nearer_by, target_at, wait
 use Rattle.dxe_dispatch.proofs.ChosenWays.{opening_queue}
 use Rattle.dxe_dispatch.proofs.Targets.{Aimed, First, IsTarget, Own}
 use Rattle.phase_parts.specs.Frames.{top_of}
-use Rattle.boot_laws.specs.declared.choice.Reached.{Reached}
 use Rattle.boot_laws.specs.declared.choice.Reached.TheVariants as R
-use Rattle.boot_laws.specs.DxeAim.{FirstEligibleMayStart}
 use Rattle.boot_laws.specs.DxeUnderWay.{DxeHasEnded, DxeOpensUnderWay, steps_left}
-use Rattle.store_model.specs.HandleState.{has_protocol, no_handles}
-use Rattle.store_model.specs.StoreState.{StoreState}
-use Rattle.boot_reasons.specs.declared.nowhere.Nowhere.{Nowhere}
-use Rattle.explain_text.specs.declared.reasons.Giver.{Giver}
-use Rattle.explain_text.specs.declared.reasons.Giver.TheVariants.{Absent}
-use Rattle.boot_reasons.specs.declared.told.DxeTold.{DxeTold}
+use Rattle.store_model.specs.{HandleState.has_protocol, HandleState.no_handles, StoreState.StoreState}
+use Rattle.boot_reasons.specs.{declared.nowhere.Nowhere.Nowhere, declared.told.DxeTold.DxeTold, Givers.actor_in}
+use Rattle.explain_text.specs.{declared.reasons.Giver.Giver, declared.reasons.Giver.TheVariants.Absent}
 use Rattle.boot_reasons.specs.DxeReasons.{beside_by, dxe_begun, dxe_begun_at, dxe_begun_by, dxe_begun_in, dxe_giver}
 use Rattle.boot_reasons.specs.DxeTelling.{EndsTo, IsAtOpening, IsTold, NamesUnseenAfter, Tells}
-use Rattle.boot_reasons.specs.Givers.{actor_in}
-use Rattle.boot_reasons.specs.Noting.{AreNoted, giver_in}
-use Rattle.boot_reasons.specs.Unseen.{nowhere}
+use Rattle.boot_reasons.specs.{Noting.AreNoted, Noting.giver_in, Unseen.nowhere}
 use Rattle.boot_reasons.proofs.GiverSteps.{actor_present, first_of, giver_on, giver_same, giver_still}
 
 -- what a machine has installed, and who runs in it

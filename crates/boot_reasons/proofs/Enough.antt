@@ -1,10 +1,7 @@
 -- Once what a tree lacks has come, it holds.
 use Rattle.std.proofs.Common.{◌≡◌, arith, Bool, true, false, ◌||◌, ◌&&◌, not, cond, nat_lt, length, List, [], ◌∷◌, ◌++◌, Option, Some, None, refl, sym, ap, ◌∙◌, subst}
-use Rattle.std.proofs.lemmas.Bool.Decides.{nat_tests}
-use Rattle.std.proofs.lemmas.Cmp.{nat_list_eq_equiv}
-use Rattle.pi_base.specs.declared.guid.Guid.{Guid}
-use Rattle.pi_base.specs.Guids.{same_guid}
-use Rattle.pi_base.specs.Lists.{firsts}
+use Rattle.std.proofs.{lemmas.Bool.Decides.nat_tests, lemmas.Cmp.nat_list_eq_equiv}
+use Rattle.pi_base.specs.{declared.guid.Guid.Guid, Guids.same_guid, Lists.firsts}
 use Rattle.depex_code.specs.Tree.{DepexTree, True, False, Push, Not, And, Or, truth}
 use Rattle.boot_reasons.specs.Asked.{is_among}
 use Rattle.boot_reasons.specs.Would.{IsUnnamed, NoNotNames, both_lack, fewer, lacks, where_holds, with_these, would_make}

@@ -1,11 +1,7 @@
 -- Who has a GUID installed, a step further.
-use Rattle.std.proofs.Common.{◌≡◌, ◌<◌, ◌≤◌, ◌-◌, arith, ℕ, Bool, true, false, ◌||◌, cond, List, [], ◌∷◌, ◌++◌, length, get_or, Option, Some, None, refl, sym, ap, ◌∙◌, subst}
-use Rattle.std.specs.Prelude.{drop, take}
-use Rattle.std.specs.Prelude.{unwrap_or}
+use Rattle.std.proofs.Common.{◌≡◌, ◌<◌, ◌≤◌, ◌-◌, arith, ℕ, Bool, true, false, ◌||◌, cond, List, [], ◌∷◌, ◌++◌, length, get_or, Option, Some, None, refl, sym, ap, ◌∙◌, subst, drop, take, unwrap_or}
 use Rattle.std.proofs.lemmas.Slice.Eq.{bytes_eq-Decides}
-use Rattle.pi_base.specs.declared.guid.Guid.{Guid}
-use Rattle.pi_base.specs.Guids.{same_guid}
-use Rattle.pi_base.specs.GuidMap.{IsPut, value_of}
+use Rattle.pi_base.specs.{declared.guid.Guid.Guid, Guids.same_guid, GuidMap.IsPut, GuidMap.value_of}
 use Rattle.boot_laws.specs.ChangedGuids.{is_among}
 use Rattle.explain_text.specs.declared.reasons.Giver.{Giver}
 use Rattle.explain_text.specs.declared.reasons.Giver.TheVariants.{Core, Module, Absent}

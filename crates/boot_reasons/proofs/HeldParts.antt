@@ -1,20 +1,11 @@
 -- What is told of a part: what it needs, and that it waits.
-use Rattle.std.proofs.Common.{◌≡◌, ℕ, Bool, List, [], ◌∷◌, Option, Some, option_map, sym, ap, ◌∙◌}
-use Rattle.std.specs.Option.{option_to_list}
-use Rattle.pi_base.specs.declared.guid.Guid.{Guid}
-use Rattle.pi_base.specs.declared.phase.Phase.TheVariants.{Pei}
-use Rattle.mod_catalog.specs.declared.catalogue.Catalog.{Catalog}
-use Rattle.mod_catalog.specs.declared.catalogue.Part.{Part}
-use Rattle.mod_catalog.specs.Parts.{part_at}
-use Rattle.store_model.specs.StoreState.{StoreState}
-use Rattle.store_model.specs.Service.Install.{has_ppi}
+use Rattle.std.proofs.Common.{◌≡◌, ℕ, Bool, List, [], ◌∷◌, Option, Some, option_map, sym, ap, ◌∙◌, option_to_list}
+use Rattle.pi_base.specs.{declared.guid.Guid.Guid, declared.phase.Phase.TheVariants.Pei}
+use Rattle.mod_catalog.specs.{declared.catalogue.Catalog.Catalog, declared.catalogue.Part.Part, Parts.part_at}
+use Rattle.store_model.specs.{StoreState.StoreState, Service.Install.has_ppi}
 use Rattle.boot_model.specs.declared.line.Reason.{Reason}
-use Rattle.boot_reasons.specs.Would.{would}
-use Rattle.explain_text.specs.declared.reasons.Giver.{Giver}
-use Rattle.explain_text.specs.declared.reasons.Need.{Need}
-use Rattle.boot_reasons.specs.Needs.{need_of, needs_of}
-use Rattle.boot_reasons.specs.Noting.{giver_in}
-use Rattle.boot_reasons.specs.PeiReasons.{pei_held_by, pei_held_for}
+use Rattle.boot_reasons.specs.{Would.would, Needs.need_of, Needs.needs_of, Noting.giver_in, PeiReasons.pei_held_by, PeiReasons.pei_held_for}
+use Rattle.explain_text.specs.{declared.reasons.Giver.Giver, declared.reasons.Need.Need}
 
 pub need_is : (map : List (Guid × Giver)) (guid : Guid) (giver : Giver) → giver ≡ giver_in map guid → record { guid = guid; giver = giver } ≡ need_of (giver_in map) guid
 need_is map guid giver is = ap (λ g. record { guid = guid; giver = g }) is

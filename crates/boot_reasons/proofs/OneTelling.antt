@@ -1,12 +1,9 @@
 -- One explanation of a phase tells the lists of one run.
 use Rattle.std.proofs.Common.{◌≡◌, List, sym, ◌∙◌}
 use Rattle.mod_catalog.specs.declared.catalogue.Catalog.{Catalog}
-use Rattle.boot_model.specs.DxeMachine.{DxeMachine}
-use Rattle.boot_model.specs.PeiMachine.{PeiMachine}
+use Rattle.boot_model.specs.{DxeMachine.DxeMachine, PeiMachine.PeiMachine}
 use Rattle.std.proofs.lemmas.Option.{same_Some}
-use Rattle.boot_reasons.specs.declared.dxe.DxeExplained.{DxeExplained}
-use Rattle.boot_reasons.specs.declared.pei.PeiExplained.{PeiExplained}
-use Rattle.boot_reasons.specs.DxeTelling.{IsDxeExplained}
+use Rattle.boot_reasons.specs.{declared.dxe.DxeExplained.DxeExplained, declared.pei.PeiExplained.PeiExplained, DxeTelling.IsDxeExplained}
 use Rattle.boot_reasons.specs.PeiEnding.{IsPeiExplained}
 
 pub one_told : (catalog : Catalog) (earlier : List PeiMachine) (m : PeiMachine) (one other : PeiExplained) → IsPeiExplained catalog earlier m one → IsPeiExplained catalog earlier m other → one ≡ other

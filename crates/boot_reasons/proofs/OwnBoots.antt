@@ -1,29 +1,21 @@
 -- Of which boot an explanation is.
 use Rattle.std.proofs.Common.{◌≡◌, ℕ, ◌++◌, Some, Option, option_map, refl, sym, ap, ◌∙◌, subst}
 use Rattle.boot_laws.specs.RunsEnd.{DxeRunsEnd, PeiRunsEnd}
-use Rattle.mod_catalog.specs.declared.catalogue.Catalog.{Catalog}
-use Rattle.mod_catalog.specs.WellFormed.{IsWellFormed}
-use Rattle.store_model.specs.HandleState.{no_handles}
-use Rattle.store_model.specs.StoreState.{Board}
-use Rattle.boot_model.specs.BootRun.{dxe_result}
-use Rattle.boot_model.specs.declared.line.RunEnd.{RunEnd}
+use Rattle.mod_catalog.specs.{declared.catalogue.Catalog.Catalog, WellFormed.IsWellFormed}
+use Rattle.store_model.specs.{HandleState.no_handles, StoreState.Board}
+use Rattle.boot_model.specs.{BootRun.dxe_result, declared.line.RunEnd.RunEnd, declared.phase_end.PeiEnd.PeiEnd, DxeMachine.DxeMachine}
 use Rattle.boot_model.specs.declared.line.RunEnd.TheVariants as E
-use Rattle.boot_model.specs.declared.phase_end.PeiEnd.{PeiEnd}
 use Rattle.boot_model.specs.declared.phase_end.PeiEnd.TheVariants.{Handoff, NoMemory, NoIpl, Spent, Deep}
-use Rattle.boot_model.specs.DxeMachine.{DxeMachine}
 use Rattle.boot_model.specs.DxeRun.{dxe_bound, dxe_end, dxe_opening}
-use Rattle.boot_model.specs.PeiMachine.{PeiMachine}
-use Rattle.boot_model.specs.PeiRun.{pei_end}
+use Rattle.boot_model.specs.{PeiMachine.PeiMachine, PeiRun.pei_end}
 use Rattle.dxe_dispatch.specs.Choices.{came}
 use Rattle.dxe_dispatch.proofs.FirstRuns as D
 use Rattle.pei_dispatch.proofs.FirstRuns as P
-use Rattle.boot_core.specs.WholeEnd.{end_after, end_of}
-use Rattle.boot_core.specs.Choices.{Choices}
-use Rattle.boot_reasons.specs.declared.pei.PeiExplained.{PeiExplained}
+use Rattle.boot_core.specs.{WholeEnd.end_after, WholeEnd.end_of, Choices.Choices}
+use Rattle.boot_reasons.specs.{declared.pei.PeiExplained.PeiExplained, Joining.alone, Joining.together}
 use Rattle.explain_text.specs.declared.reasons.Explained.{Explained}
 use Rattle.boot_reasons.specs.Boots.{AreDriversOf, ExplainsBoots, IsOfBoot, IsOfOwnBoot}
 use Rattle.boot_reasons.specs.Explained.{IsExplained, IsExplainedAfter, IsExplainedInDxe, own_choices}
-use Rattle.boot_reasons.specs.Joining.{alone, together}
 
 result_of : (one other : Explained) → one ≡ other → other.result ≡ one.result
 result_of one other same = ap (λ (x : Explained). x.result) (sym same)

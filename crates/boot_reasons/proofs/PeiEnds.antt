@@ -3,30 +3,20 @@ use Rattle.std.proofs.Common.{◌≡◌, ◌≤◌, ℕ, ◌+◌, arith, length,
 use Rattle.pi_base.specs.declared.guid.Guid.{Guid}
 use Rattle.mod_catalog.specs.declared.catalogue.Catalog.{Catalog}
 use Rattle.store_model.specs.StoreState.{Board, StoreState}
-use Rattle.boot_model.specs.declared.phase_end.PeiEnd.{PeiEnd}
-use Rattle.boot_model.specs.Licence.{AllDiffer}
-use Rattle.boot_model.specs.PeiChoice.{pei_order}
-use Rattle.boot_model.specs.PeiMachine.{PeiMachine}
+use Rattle.boot_model.specs.{declared.phase_end.PeiEnd.PeiEnd, Licence.AllDiffer, PeiChoice.pei_order, PeiMachine.PeiMachine}
 use Rattle.boot_model.specs.PeiRun.{pei_bound, pei_opening}
 use Rattle.boot_laws.specs.declared.choice.Reached.{Reached}
 use Rattle.boot_laws.specs.declared.choice.Reached.TheVariants as R
 use Rattle.boot_laws.specs.PeiUnderWay.{PeiHasEnded, PeiOpensUnderWay, steps_left}
-use Rattle.pei_dispatch.specs.declared.queue.PeiQueue.{PeiQueue}
+use Rattle.pei_dispatch.specs.{declared.queue.PeiQueue.PeiQueue, Turns.IsNow}
 use Rattle.pei_dispatch.specs.Queue.{AreNew, IsNewQueue, Shows, ShowsBehind, parts_in}
 use Rattle.pei_dispatch.specs.View.{AreAlike, View, first_view, view_of, with_volumes}
-use Rattle.pei_core.specs.declared.pei.Pei.{Pei}
-use Rattle.pei_core.specs.Standing.{IsFor, StandsFor}
-use Rattle.pei_dispatch.specs.Turns.{IsNow}
+use Rattle.pei_core.specs.{declared.pei.Pei.Pei, Standing.IsFor, Standing.StandsFor}
 use Rattle.pei_dispatch.proofs.Chosen.{step_is_free}
-use Rattle.boot_reasons.specs.declared.pei.PeiExplained.{PeiExplained}
-use Rattle.explain_text.specs.declared.reasons.Giver.TheVariants.{Absent}
-use Rattle.explain_text.specs.declared.reasons.Held.{Held}
-use Rattle.boot_reasons.specs.declared.told.PeiTold.{PeiTold}
-use Rattle.boot_reasons.specs.Moving.{heap_used}
-use Rattle.boot_reasons.specs.Noting.{giver_in}
+use Rattle.boot_reasons.specs.{declared.pei.PeiExplained.PeiExplained, declared.told.PeiTold.PeiTold, Moving.heap_used, Noting.giver_in}
+use Rattle.explain_text.specs.{declared.reasons.Giver.TheVariants.Absent, declared.reasons.Held.Held}
 use Rattle.boot_reasons.specs.PeiEnding.{EndsTo, ExplainsEnd, ExplainsRun}
-use Rattle.boot_reasons.specs.PeiReasons.{pei_giver, pei_held}
-use Rattle.boot_reasons.specs.PeiTelling.{IsAt, TurnsTo}
+use Rattle.boot_reasons.specs.{PeiReasons.pei_giver, PeiReasons.pei_held, PeiTelling.IsAt, PeiTelling.TurnsTo}
 use Rattle.boot_reasons.proofs.PeiSteps.{Laws}
 
 -- a run that has so many turns behind it, and no more steps left than turns

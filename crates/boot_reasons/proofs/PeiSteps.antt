@@ -1,43 +1,24 @@
 -- What is told of a run of PEI by choices, a step further.
-use Rattle.std.proofs.Common.{◌≡◌, ℕ, suc, ◌-◌, arith, length, Bool, true, false, cond, List, [], ◌∷◌, ◌++◌, flat_map, Option, Some, None, option_map, Result, Ok, Err, IfOk, refl, sym, ap, ◌∙◌, subst, inl, inr}
-use Rattle.std.specs.Prelude.{take}
-use Rattle.std.specs.Option.{option_or, option_to_list}
-use Rattle.std.proofs.lemmas.List.{append-nil}
-use Rattle.pi_base.specs.declared.guid.Guid.{Guid}
-use Rattle.pi_base.specs.declared.phase.Phase.TheVariants.{Pei as InPei}
+use Rattle.std.proofs.Common.{◌≡◌, ℕ, suc, ◌-◌, arith, length, Bool, true, false, cond, List, [], ◌∷◌, ◌++◌, flat_map, Option, Some, None, option_map, Result, Ok, Err, IfOk, refl, sym, ap, ◌∙◌, subst, inl, inr, take, option_to_list, append-nil}
+use Rattle.std.specs.Option.{option_or}
+use Rattle.pi_base.specs.{declared.guid.Guid.Guid, declared.phase.Phase.TheVariants.Pei as InPei}
 use Rattle.boot_laws.specs.ChangedGuids.{GuidsAreThese, GuidsChange, IsKept, is_among}
-use Rattle.boot_model.specs.declared.phase_end.PeiEnd.{PeiEnd}
-use Rattle.boot_model.specs.EventGuids.{pei_placed, pei_taken}
-use Rattle.boot_model.specs.PeiChoice.{next_peim}
-use Rattle.boot_model.specs.PeiMachine.{PeiMachine}
-use Rattle.boot_model.specs.PeiRun.{pei_opening}
+use Rattle.boot_model.specs.{declared.phase_end.PeiEnd.PeiEnd, EventGuids.pei_placed, EventGuids.pei_taken, PeiChoice.next_peim}
+use Rattle.boot_model.specs.{PeiMachine.PeiMachine, PeiRun.pei_opening}
 use Rattle.boot_model.specs.PeiStep.{Stops, case_of, pei_step, started, started_part, stopped, with_start}
 use Rattle.boot_trace.specs.Printing.{Texts}
-use Rattle.mod_catalog.specs.declared.catalogue.Catalog.{Catalog}
-use Rattle.mod_catalog.specs.declared.catalogue.Part.{Part}
-use Rattle.mod_catalog.specs.Parts.{has_number, part_at}
-use Rattle.boot_laws.specs.PeiAim.{CursorAims, with_cursor}
-use Rattle.boot_laws.specs.PeiFree.{IsOwnCase, OwnPeiStepsAreFree}
+use Rattle.mod_catalog.specs.{declared.catalogue.Catalog.Catalog, declared.catalogue.Part.Part, Parts.has_number, Parts.part_at}
+use Rattle.boot_laws.specs.{PeiAim.CursorAims, PeiAim.with_cursor, PeiFree.IsOwnCase, PeiFree.OwnPeiStepsAreFree}
 use Rattle.boot_laws.specs.PeiUnderWay.{IsUnderWay, PeiStepsRunOut}
-use Rattle.pei_dispatch.specs.declared.queue.PeiQueue.{PeiQueue}
-use Rattle.pei_dispatch.specs.Queue.{IsQueueOf, parts_in}
-use Rattle.pei_dispatch.specs.View.{event_guids}
-use Rattle.pei_core.specs.declared.event.Event.{Event}
-use Rattle.pei_core.specs.declared.pei.Pei.{Pei}
-use Rattle.pei_core.specs.Standing.{StandsFor}
-use Rattle.pei_core.specs.Steps.{IsEvent, IsIdle}
+use Rattle.pei_dispatch.specs.{declared.queue.PeiQueue.PeiQueue, Queue.IsQueueOf, Queue.parts_in, View.event_guids, Ends.pei_starts}
+use Rattle.pei_core.specs.{declared.event.Event.Event, declared.pei.Pei.Pei, Standing.StandsFor, Steps.IsEvent, Steps.IsIdle}
 use Rattle.pei_dispatch.specs.Choices.{IsDue, IsPlaceFor, IsRunBy, IsStepBy}
-use Rattle.pei_dispatch.specs.Ends.{pei_starts}
 use Rattle.pei_dispatch.specs.Turns.{HasTurned, IsNext, IsNow, IsOver}
 use Rattle.pei_dispatch.proofs.Chosen.{Chose, idle_stops, own_case, stands_anywhere, step_is_free}
-use Rattle.pei_dispatch.proofs.Following.{guids_are, once_fewer}
-use Rattle.pei_dispatch.proofs.Idle.{step_quiet, step_stops}
-use Rattle.store_model.specs.Service.Install.{has_ppi}
-use Rattle.store_model.specs.StoreState.{Board, StoreState}
-use Rattle.boot_reasons.specs.declared.nowhere.Nowhere.{Nowhere}
+use Rattle.pei_dispatch.proofs.{Following.guids_are, Following.once_fewer, Idle.step_quiet, Idle.step_stops}
+use Rattle.store_model.specs.{Service.Install.has_ppi, StoreState.Board, StoreState.StoreState}
+use Rattle.boot_reasons.specs.{declared.nowhere.Nowhere.Nowhere, declared.told.PeiTold.PeiTold, Givers.actor_in}
 use Rattle.explain_text.specs.declared.reasons.Giver.{Giver}
-use Rattle.boot_reasons.specs.declared.told.PeiTold.{PeiTold}
-use Rattle.boot_reasons.specs.Givers.{actor_in}
 use Rattle.boot_reasons.specs.Moving.{heap_used, moved_between, moved_from, unmoved_base}
 use Rattle.boot_reasons.specs.Noting.{AreNoted, IsPresent, giver_in}
 use Rattle.boot_reasons.specs.PeiReasons.{gained, pei_begun, pei_begun_at, pei_begun_by, pei_giver, pei_moved, starts_between}

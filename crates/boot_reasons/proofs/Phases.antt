@@ -1,24 +1,17 @@
 -- What is told of both phases explains the boot.
 use Rattle.std.proofs.Common.{◌≡◌, ℕ, Bool, IfOk, Option, Some, None, Result, Ok, Err, true≢false, refl, sym, ap, ◌∙◌, subst}
 use Rattle.mod_catalog.specs.declared.catalogue.Catalog.{Catalog}
-use Rattle.store_model.specs.Service.{OfEach}
-use Rattle.store_model.specs.StoreCall.{Anything}
-use Rattle.store_model.specs.StoreState.{Board, StoreState}
-use Rattle.boot_model.specs.declared.phase_end.PeiEnd.TheVariants.{Handoff}
-use Rattle.boot_model.specs.PeiMachine.{PeiMachine}
+use Rattle.store_model.specs.{Service.OfEach, StoreCall.Anything, StoreState.Board, StoreState.StoreState}
+use Rattle.boot_model.specs.{declared.phase_end.PeiEnd.TheVariants.Handoff, PeiMachine.PeiMachine}
 use Rattle.boot_laws.specs.declared.choice.Reached.{Reached}
 use Rattle.boot_laws.specs.declared.choice.Reached.TheVariants as R
-use Rattle.pei_core.specs.declared.pei.Pei.{Pei}
-use Rattle.pei_core.specs.Standing.{StandsFor}
+use Rattle.pei_core.specs.{declared.pei.Pei.Pei, Standing.StandsFor}
 use Rattle.pei_dispatch.specs.Ends.{pei_starts}
-use Rattle.boot_reasons.specs.declared.dxe.DxeExplained.{DxeExplained}
-use Rattle.boot_reasons.specs.declared.nowhere.Nowhere.{Nowhere}
-use Rattle.boot_reasons.specs.declared.pei.PeiExplained.{PeiExplained}
+use Rattle.boot_reasons.specs.{declared.dxe.DxeExplained.DxeExplained, declared.nowhere.Nowhere.Nowhere}
+use Rattle.boot_reasons.specs.{declared.pei.PeiExplained.PeiExplained, Joining.together, Unseen.choices_of}
 use Rattle.explain_text.specs.declared.reasons.Explained.{Explained}
 use Rattle.boot_reasons.specs.DxeTelling as D
 use Rattle.boot_reasons.specs.Explained.{ExplainsBehind, IsExplainedAfter, IsLeftBefore, left_in_dxe, left_in_pei, own_choices}
-use Rattle.boot_reasons.specs.Joining.{together}
-use Rattle.boot_reasons.specs.Unseen.{choices_of}
 
 -- what follows from what a call that went well answers
 pub if_ok : {A E : Type 0} (result : Result A E) (P Q : A → Type 0) → ((a : A) → P a → Q a) → IfOk result P → IfOk result Q

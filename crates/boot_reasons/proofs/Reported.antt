@@ -1,22 +1,16 @@
 -- The volumes that a machine of a run of PEI by choices has reported differ.
 use Rattle.std.proofs.Common.{ℕ, Bool, true, false, cond, List, [], ◌∷◌, ◌++◌, ◌+◌, length, Option, Some, None, Ok, Err, nat_le, sym, subst, inl, inr}
-use Rattle.pi_base.specs.declared.phase.Phase.TheVariants.{Pei}
-use Rattle.pi_base.specs.Lists.{Each}
+use Rattle.pi_base.specs.{declared.phase.Phase.TheVariants.Pei, Lists.Each}
 use Rattle.pi_base.proofs.ListFacts.{each_more, each_append}
-use Rattle.mod_catalog.specs.declared.catalogue.Catalog.{Catalog}
-use Rattle.mod_catalog.specs.declared.catalogue.Part.{Part}
-use Rattle.mod_catalog.specs.Parts.{has_number, part_at}
+use Rattle.mod_catalog.specs.{declared.catalogue.Catalog.Catalog, declared.catalogue.Part.Part, Parts.has_number, Parts.part_at}
 use Rattle.mod_catalog.specs.WellFormed.{AreNumbered}
-use Rattle.store_model.specs.declared.store_handle.Sweep.{Sweep}
-use Rattle.store_model.specs.StoreState.{Board, StoreState}
-use Rattle.store_model.specs.Service.{Service}
+use Rattle.store_model.specs.{declared.store_handle.Sweep.Sweep, StoreState.Board, StoreState.StoreState, Service.Service}
 use Rattle.store_model.specs.Service.Install.{core_install}
 use Rattle.boot_model.specs.declared.line.Line.TheVariants as L
-use Rattle.boot_model.specs.declared.phase_end.PeiEnd.TheVariants.{Spent, Deep}
+use Rattle.boot_model.specs.{declared.phase_end.PeiEnd.TheVariants.Spent, declared.phase_end.PeiEnd.TheVariants.Deep, PeiRun.pei_opening}
 use Rattle.boot_model.specs.PeiMachine.{PeiMachine, Frame, printed}
 use Rattle.boot_model.specs.PeiAction.{Effect, Wrote, Called, Own, Shadowed, Logged, Skipped, Returned, effect}
 use Rattle.boot_model.specs.PeiStep.{PeiCase, Fires, Acts, Moves, Pops, Starts, Stops, case_of, in_case, callback_begun, action_at, after_effect, core_called, started_part}
-use Rattle.boot_model.specs.PeiRun.{pei_opening}
 use Rattle.boot_model.specs.Reporting.{newcomers, reports, told_at}
 use Rattle.boot_model.proofs.Distinct.{Distinct, distinct_append}
 use Rattle.boot_laws.proofs.Volumes.{IsNew, newcomers_new, newcomers_differ, new_apart, parted, distinct_family}

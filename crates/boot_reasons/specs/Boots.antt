@@ -1,18 +1,12 @@
 -- Of which boot an explanation is.
 -- Own; PI 1.8, volumes 1 and 2, leave the order of the modules that may start to the dispatchers.
 use Rattle.std.specs.Prelude.{◌≡◌, ℕ, Option, Some}
-use Rattle.mod_catalog.specs.declared.catalogue.Catalog.{Catalog}
-use Rattle.mod_catalog.specs.WellFormed.{IsWellFormed}
+use Rattle.mod_catalog.specs.{declared.catalogue.Catalog.Catalog, WellFormed.IsWellFormed}
 use Rattle.store_model.specs.StoreState.{Board}
-use Rattle.boot_model.specs.DxeMachine.{DxeMachine}
-use Rattle.boot_model.specs.PeiMachine.{PeiMachine}
-use Rattle.boot_model.specs.PeiRun.{pei_end}
-use Rattle.boot_model.specs.declared.phase_end.PeiEnd.TheVariants.{Handoff}
+use Rattle.boot_model.specs.{DxeMachine.DxeMachine, PeiMachine.PeiMachine, PeiRun.pei_end, declared.phase_end.PeiEnd.TheVariants.Handoff}
 use Rattle.boot_model.specs.DxeRun.{dxe_end}
 use Rattle.boot_laws.specs.declared.choice.Reached.{Reached}
-use Rattle.boot_core.specs.WholeEnd.{end_of}
-use Rattle.boot_core.specs.ByChoice.{BootBy}
-use Rattle.boot_core.specs.Choices.{Choices}
+use Rattle.boot_core.specs.{WholeEnd.end_of, ByChoice.BootBy, Choices.Choices}
 use Rattle.explain_text.specs.declared.reasons.Explained.{Explained}
 use Rattle.boot_reasons.specs.Explained.{ExplainsTo, IsExplained, IsExplainedBy}
 

@@ -1,26 +1,15 @@
 -- Why drivers started in a run of DXE, and why others wait at its end. A run is given by its last machine and the machines from which its steps were taken, the last of them first.
 -- PI 1.8, volume 2, "DXE Dispatcher"; the reasons are own.
-use Rattle.std.specs.Prelude.{ℕ, List, [], ◌∷◌, ◌++◌, Option, None, option_map, flat_map}
-use Rattle.std.specs.Option.{option_to_list}
-use Rattle.pi_base.specs.declared.guid.Guid.{Guid}
-use Rattle.pi_base.specs.declared.phase.Phase.TheVariants.{Dxe}
-use Rattle.mod_catalog.specs.declared.catalogue.Catalog.{Catalog}
-use Rattle.mod_catalog.specs.declared.catalogue.Part.{Part}
-use Rattle.mod_catalog.specs.Parts.{part_at}
+use Rattle.std.specs.Prelude.{ℕ, List, [], ◌∷◌, ◌++◌, Option, None, option_map, flat_map, option_to_list}
+use Rattle.pi_base.specs.{declared.guid.Guid.Guid, declared.phase.Phase.TheVariants.Dxe}
+use Rattle.mod_catalog.specs.{declared.catalogue.Catalog.Catalog, declared.catalogue.Part.Part, Parts.part_at}
 use Rattle.store_model.specs.HandleState.{has_protocol}
-use Rattle.boot_model.specs.declared.licence.Licence.{Licence}
+use Rattle.boot_model.specs.{declared.licence.Licence.Licence, DriverLicence.target_of, DxeChoice.waiting}
 use Rattle.boot_model.specs.declared.licence.Licence.TheVariants as G
-use Rattle.boot_model.specs.DriverLicence.{target_of}
-use Rattle.boot_model.specs.DxeChoice.{waiting}
-use Rattle.boot_model.specs.declared.driver.Scheduled.{Scheduled}
-use Rattle.boot_model.specs.DxeMachine.{DxeMachine}
+use Rattle.boot_model.specs.{declared.driver.Scheduled.Scheduled, DxeMachine.DxeMachine}
 use Rattle.boot_model.specs.DxeStep.{DxeCase, DxeFires, DxeActs, DxeStarts, DxeStops, driver_reason, dxe_case_of}
-use Rattle.boot_reasons.specs.Would.{would}
-use Rattle.boot_reasons.specs.Givers.{actor_in, giver_along}
-use Rattle.boot_reasons.specs.Needs.{needs_of}
-use Rattle.explain_text.specs.declared.reasons.Begun.{Begun}
-use Rattle.explain_text.specs.declared.reasons.Giver.{Giver}
-use Rattle.explain_text.specs.declared.reasons.Held.{Held}
+use Rattle.boot_reasons.specs.{Would.would, Givers.actor_in, Givers.giver_along, Needs.needs_of}
+use Rattle.explain_text.specs.{declared.reasons.Begun.Begun, declared.reasons.Giver.Giver, declared.reasons.Held.Held}
 
 -- who has a protocol installed
 abbrev pub dxe_giver : List DxeMachine → DxeMachine → Guid → Giver

@@ -1,30 +1,20 @@
 -- What is told along a run of DXE by choices, and what DXE then comes to, explained: at the end of a run of which all is told, or before the start of a driver that is not let.
 -- Own.
-use Rattle.std.specs.Prelude.{◌≡◌, ◌+◌, ℕ, Bool, false, if◌then◌else◌, length, List, [], ◌++◌, Option, None, Some}
-use Rattle.std.specs.Option.{option_to_list}
+use Rattle.std.specs.Prelude.{◌≡◌, ◌+◌, ℕ, Bool, false, if◌then◌else◌, length, List, [], ◌++◌, Option, None, Some, option_to_list}
 use Rattle.pi_base.specs.declared.guid.Guid.{Guid}
 use Rattle.mod_catalog.specs.declared.catalogue.Catalog.{Catalog}
-use Rattle.store_model.specs.HandleState.{has_protocol}
-use Rattle.store_model.specs.StoreState.{StoreState}
-use Rattle.boot_model.specs.declared.phase_end.DxeEnd.{DxeEnd}
-use Rattle.boot_model.specs.DxeMachine.{DxeMachine}
-use Rattle.boot_model.specs.DxeRun.{dxe_opening}
+use Rattle.store_model.specs.{HandleState.has_protocol, StoreState.StoreState}
+use Rattle.boot_model.specs.{declared.phase_end.DxeEnd.DxeEnd, DxeMachine.DxeMachine, DxeRun.dxe_opening}
 use Rattle.boot_laws.specs.declared.choice.Reached.{Reached}
 use Rattle.boot_laws.specs.declared.choice.Reached.TheVariants as R
-use Rattle.dxe_dispatch.specs.Queue.{Queue}
+use Rattle.dxe_dispatch.specs.{Queue.Queue, declared.answer.Step.Step}
 use Rattle.dxe_core.specs.Standing.{DxeCore, IsCoreOf, IsFor, StandsFor}
-use Rattle.dxe_dispatch.specs.declared.answer.Step.{Step}
-use Rattle.dxe_dispatch.specs.declared.answer.Step.TheVariants.{Acted, Started}
+use Rattle.dxe_dispatch.specs.{declared.answer.Step.TheVariants.Acted, declared.answer.Step.TheVariants.Started, Ends.StandsAtEnd}
 use Rattle.dxe_dispatch.specs.Choices.{IsDue, IsOnWay, IsRunBy, LetsDrivers, came}
-use Rattle.dxe_dispatch.specs.Ends.{StandsAtEnd}
-use Rattle.boot_reasons.specs.declared.dxe.DxeExplained.{DxeExplained}
-use Rattle.boot_reasons.specs.declared.nowhere.Nowhere.{Nowhere}
-use Rattle.explain_text.specs.declared.reasons.Giver.{Giver}
-use Rattle.explain_text.specs.declared.reasons.Held.{Held}
-use Rattle.boot_reasons.specs.declared.told.DxeTold.{DxeTold}
+use Rattle.boot_reasons.specs.{declared.dxe.DxeExplained.DxeExplained, declared.nowhere.Nowhere.Nowhere, declared.told.DxeTold.DxeTold}
+use Rattle.explain_text.specs.{declared.reasons.Giver.Giver, declared.reasons.Held.Held}
 use Rattle.boot_reasons.specs.DxeReasons.{dxe_begun, dxe_begun_at, dxe_giver, dxe_held}
-use Rattle.boot_reasons.specs.Noting.{AreNoted, giver_in}
-use Rattle.boot_reasons.specs.Unseen.{nowhere}
+use Rattle.boot_reasons.specs.{Noting.AreNoted, Noting.giver_in, Unseen.nowhere}
 
 -- what is told of a run
 pub record IsTold (catalog : Catalog) (earlier : List DxeMachine) (m : DxeMachine) (told : DxeTold) : Type 0 where

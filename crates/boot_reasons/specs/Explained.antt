@@ -4,25 +4,19 @@ use Rattle.std.specs.Prelude.{◌≡◌, ℕ, true, List, Some, None}
 use Rattle.mod_catalog.specs.declared.catalogue.Catalog.{Catalog}
 use Rattle.store_model.specs.StoreState.{Board, StoreState}
 use Rattle.boot_model.specs.declared.line.RunEnd.TheVariants as E
-use Rattle.boot_model.specs.declared.phase_end.PeiEnd.{PeiEnd}
+use Rattle.boot_model.specs.{declared.phase_end.PeiEnd.PeiEnd, DxeMachine.DxeMachine, DxeRun.dxe_opening, PeiMachine.PeiMachine}
 use Rattle.boot_model.specs.declared.phase_end.PeiEnd.TheVariants.{Handoff, NoMemory, NoIpl, Spent, Deep}
-use Rattle.boot_model.specs.DxeMachine.{DxeMachine}
-use Rattle.boot_model.specs.DxeRun.{dxe_opening}
-use Rattle.boot_model.specs.PeiMachine.{PeiMachine}
 use Rattle.boot_model.specs.PeiRun.{pei_opening}
 use Rattle.boot_laws.specs.declared.choice.Reached.{Reached}
 use Rattle.boot_laws.specs.declared.choice.Reached.TheVariants as R
 use Rattle.pei_core.specs.declared.pei.Pei.{Pei}
 use Rattle.pei_dispatch.specs.Choices.{IsRunBy}
 use Rattle.boot_core.specs.Choices.{Choices}
-use Rattle.boot_reasons.specs.declared.dxe.DxeExplained.{DxeExplained}
-use Rattle.boot_reasons.specs.declared.pei.PeiExplained.{PeiExplained}
+use Rattle.boot_reasons.specs.{declared.dxe.DxeExplained.DxeExplained, declared.pei.PeiExplained.PeiExplained}
 use Rattle.explain_text.specs.declared.reasons.Explained.{Explained}
 use Rattle.boot_reasons.specs.DxeTelling as D
-use Rattle.boot_reasons.specs.Joining.{alone, together}
-use Rattle.boot_reasons.specs.PeiEnding.{ExplainsRun, IsPeiExplained}
+use Rattle.boot_reasons.specs.{Joining.alone, Joining.together, PeiEnding.ExplainsRun, PeiEnding.IsPeiExplained, Unseen.choices_of}
 use Rattle.boot_reasons.specs.PeiTelling as P
-use Rattle.boot_reasons.specs.Unseen.{choices_of}
 
 -- behind the hand-off a run of DXE by them is explained, and both phases are put together
 pub record IsExplainedInDxe (by : Choices) (catalog : Catalog) (fuel : ℕ) (pei : PeiMachine) (first : PeiExplained) (e : Explained) : Type 0 where

@@ -1,10 +1,8 @@
 -- What is told of both phases, put together.
 -- Own.
 use Rattle.std.specs.Prelude.{ℕ, [], ◌++◌}
-use Rattle.boot_model.specs.BootRun.{dxe_result}
-use Rattle.boot_model.specs.declared.line.RunEnd.{RunEnd}
-use Rattle.boot_reasons.specs.declared.dxe.DxeExplained.{DxeExplained}
-use Rattle.boot_reasons.specs.declared.pei.PeiExplained.{PeiExplained}
+use Rattle.boot_model.specs.{BootRun.dxe_result, declared.line.RunEnd.RunEnd}
+use Rattle.boot_reasons.specs.{declared.dxe.DxeExplained.DxeExplained, declared.pei.PeiExplained.PeiExplained}
 use Rattle.explain_text.specs.declared.reasons.Explained.{Explained}
 
 -- of a boot that ends with PEI

@@ -1,12 +1,10 @@
 -- What a part of a module needs: each GUID that its expression asks for, and who has it installed.
 -- Own.
 use Rattle.std.specs.Prelude.{List, map}
-use Rattle.pi_base.specs.declared.guid.Guid.{Guid}
-use Rattle.pi_base.specs.declared.phase.Phase.{Phase}
+use Rattle.pi_base.specs.{declared.guid.Guid.Guid, declared.phase.Phase.Phase}
 use Rattle.mod_catalog.specs.declared.catalogue.PartExpr.{PartExpr}
 use Rattle.boot_reasons.specs.Asked.{asked}
-use Rattle.explain_text.specs.declared.reasons.Giver.{Giver}
-use Rattle.explain_text.specs.declared.reasons.Need.{Need}
+use Rattle.explain_text.specs.{declared.reasons.Giver.Giver, declared.reasons.Need.Need}
 
 abbrev pub need_of : (Guid → Giver) → Guid → Need
 need_of giver guid = record { guid = guid; giver = giver guid }

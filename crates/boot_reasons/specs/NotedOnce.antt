@@ -1,12 +1,10 @@
 -- GUIDs that are noted, each once.
 -- Own.
 use Rattle.std.specs.Prelude.{◌≡◌, if◌then◌else◌, List, [], ◌∷◌, ◌++◌, is_some}
-use Rattle.pi_base.specs.GuidMap.{value_of}
-use Rattle.pi_base.specs.declared.guid.Guid.{Guid}
+use Rattle.pi_base.specs.{GuidMap.value_of, declared.guid.Guid.Guid}
 use Rattle.depex_code.specs.declared.opcode.Opcode.{Opcode}
 use Rattle.depex_code.specs.declared.opcode.Opcode.TheVariants as O
-use Rattle.boot_reasons.specs.declared.noted.Noted.{Noted}
-use Rattle.boot_reasons.specs.Asked.{is_among}
+use Rattle.boot_reasons.specs.{declared.noted.Noted.Noted, Asked.is_among}
 
 -- a GUID has been seen where it is among those that were noted
 abbrev pub AreSeen : Noted → Type 0

@@ -1,8 +1,7 @@
 -- Who has which GUIDs installed, as it is kept along a run.
 -- Own.
 use Rattle.std.specs.Prelude.{◌≡◌, ⊤, Bool, if◌then◌else◌, List, unwrap_or}
-use Rattle.pi_base.specs.GuidMap.{value_of}
-use Rattle.pi_base.specs.declared.guid.Guid.{Guid}
+use Rattle.pi_base.specs.{GuidMap.value_of, declared.guid.Guid.Guid}
 use Rattle.boot_laws.specs.ChangedGuids.{is_among}
 use Rattle.explain_text.specs.declared.reasons.Giver.{Giver}
 use Rattle.explain_text.specs.declared.reasons.Giver.TheVariants.{Core, Module, Absent}

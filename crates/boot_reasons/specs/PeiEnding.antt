@@ -2,25 +2,16 @@
 -- Own.
 use Rattle.std.specs.Prelude.{◌≡◌, ℕ, Bool, List, [], Option, Some, None}
 use Rattle.mod_catalog.specs.declared.catalogue.Catalog.{Catalog}
-use Rattle.store_model.specs.declared.store_handle.Sweep.{Sweep}
-use Rattle.store_model.specs.StoreState.{Board, StoreState}
-use Rattle.boot_model.specs.declared.phase_end.PeiEnd.{PeiEnd}
-use Rattle.boot_model.specs.PeiMachine.{PeiMachine}
-use Rattle.boot_model.specs.PeiRun.{pei_opening}
+use Rattle.store_model.specs.{declared.store_handle.Sweep.Sweep, StoreState.Board, StoreState.StoreState}
+use Rattle.boot_model.specs.{declared.phase_end.PeiEnd.PeiEnd, PeiMachine.PeiMachine, PeiRun.pei_opening}
 use Rattle.boot_laws.specs.declared.choice.Reached.{Reached}
 use Rattle.boot_laws.specs.declared.choice.Reached.TheVariants as R
-use Rattle.pei_dispatch.specs.declared.queue.PeiQueue.{PeiQueue}
-use Rattle.pei_core.specs.declared.pei.Pei.{Pei}
-use Rattle.pei_core.specs.Standing.{IsFor, StandsFor}
-use Rattle.pei_dispatch.specs.Choices.{IsRunBy, LetsPeims}
-use Rattle.pei_dispatch.specs.Turns.{IsNow}
-use Rattle.boot_reasons.specs.declared.nowhere.Nowhere.{Nowhere}
-use Rattle.boot_reasons.specs.declared.pei.PeiExplained.{PeiExplained}
-use Rattle.boot_reasons.specs.declared.told.PeiTold.{PeiTold}
-use Rattle.boot_reasons.specs.Moving.{heap_used}
+use Rattle.pei_dispatch.specs.{declared.queue.PeiQueue.PeiQueue, Choices.IsRunBy, Choices.LetsPeims, Turns.IsNow}
+use Rattle.pei_core.specs.{declared.pei.Pei.Pei, Standing.IsFor, Standing.StandsFor}
+use Rattle.boot_reasons.specs.{declared.nowhere.Nowhere.Nowhere, declared.pei.PeiExplained.PeiExplained, declared.told.PeiTold.PeiTold}
+use Rattle.boot_reasons.specs.{Moving.heap_used, Unseen.NamesUnseen}
 use Rattle.boot_reasons.specs.PeiReasons.{pei_begun, pei_giver, pei_held, pei_moved}
 use Rattle.boot_reasons.specs.PeiTelling.{IsAt, IsAtEnd, IsBarred, IsLeftAt, IsTold}
-use Rattle.boot_reasons.specs.Unseen.{NamesUnseen}
 
 -- a run has come to its end, or to a PEIM that is not let
 abbrev pub EndsTo : {M : Type 0} → (PeiMachine → Option ℕ → Type 0) → (PeiMachine → ℕ → Bool) → (M → StoreState → Type 0) → Board → Catalog → ℕ

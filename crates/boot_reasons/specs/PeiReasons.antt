@@ -1,26 +1,14 @@
 -- Why parts started in a run of PEI, and why others wait at its end. A run is given by its last machine and the machines before that one, the last of them first.
 -- PI 1.8, volume 1, "PEI Dispatcher"; the reasons are own.
-use Rattle.std.specs.Prelude.{ℕ, ◌-◌, List, [], ◌∷◌, ◌++◌, Option, Some, None, length, option_map, flat_map, take}
-use Rattle.std.specs.Option.{option_or, option_to_list}
-use Rattle.pi_base.specs.declared.guid.Guid.{Guid}
-use Rattle.pi_base.specs.declared.phase.Phase.TheVariants.{Pei}
-use Rattle.mod_catalog.specs.declared.catalogue.Catalog.{Catalog}
-use Rattle.mod_catalog.specs.declared.catalogue.Part.{Part}
-use Rattle.mod_catalog.specs.Parts.{part_at}
-use Rattle.store_model.specs.StoreState.{StoreState}
-use Rattle.store_model.specs.Service.Install.{has_ppi}
-use Rattle.boot_model.specs.declared.line.Reason.{Reason}
-use Rattle.boot_model.specs.Eligible.{licence_at}
-use Rattle.boot_model.specs.PeiChoice.{pei_order}
-use Rattle.boot_model.specs.PeiMachine.{PeiMachine}
+use Rattle.std.specs.Prelude.{ℕ, ◌-◌, List, [], ◌∷◌, ◌++◌, Option, Some, None, length, option_map, flat_map, take, option_to_list}
+use Rattle.std.specs.Option.{option_or}
+use Rattle.pi_base.specs.{declared.guid.Guid.Guid, declared.phase.Phase.TheVariants.Pei}
+use Rattle.mod_catalog.specs.{declared.catalogue.Catalog.Catalog, declared.catalogue.Part.Part, Parts.part_at}
+use Rattle.store_model.specs.{StoreState.StoreState, Service.Install.has_ppi}
+use Rattle.boot_model.specs.{declared.line.Reason.Reason, Eligible.licence_at, PeiChoice.pei_order, PeiMachine.PeiMachine}
 use Rattle.boot_model.specs.PeiStep.{reason_of}
-use Rattle.boot_reasons.specs.Would.{would}
-use Rattle.boot_reasons.specs.Moving.{moved_between}
-use Rattle.boot_reasons.specs.Givers.{actor_in, giver_along}
-use Rattle.boot_reasons.specs.Needs.{needs_of}
-use Rattle.explain_text.specs.declared.reasons.Begun.{Begun}
-use Rattle.explain_text.specs.declared.reasons.Giver.{Giver}
-use Rattle.explain_text.specs.declared.reasons.Held.{Held}
+use Rattle.boot_reasons.specs.{Would.would, Moving.moved_between, Givers.actor_in, Givers.giver_along, Needs.needs_of}
+use Rattle.explain_text.specs.{declared.reasons.Begun.Begun, declared.reasons.Giver.Giver, declared.reasons.Held.Held}
 use Rattle.explain_text.specs.declared.reasons.Moved.{Moved}
 
 -- who has a PPI installed

@@ -3,30 +3,16 @@
 use Rattle.std.specs.Prelude.{◌≡◌, ℕ, Bool, false, List, ◌∷◌, ◌++◌, Option, Some, None}
 use Rattle.pi_base.specs.declared.guid.Guid.{Guid}
 use Rattle.mod_catalog.specs.declared.catalogue.Catalog.{Catalog}
-use Rattle.store_model.specs.Service.Install.{has_ppi}
-use Rattle.store_model.specs.StoreState.{Board, StoreState}
-use Rattle.store_model.specs.declared.store_handle.Sweep.{Sweep}
-use Rattle.boot_model.specs.declared.phase_end.PeiEnd.{PeiEnd}
-use Rattle.boot_model.specs.PeiChoice.{pei_order}
-use Rattle.boot_model.specs.PeiMachine.{PeiMachine}
-use Rattle.boot_model.specs.PeiRun.{pei_opening}
+use Rattle.store_model.specs.{Service.Install.has_ppi, StoreState.Board, StoreState.StoreState, declared.store_handle.Sweep.Sweep}
+use Rattle.boot_model.specs.{declared.phase_end.PeiEnd.PeiEnd, PeiChoice.pei_order, PeiMachine.PeiMachine, PeiRun.pei_opening}
 use Rattle.boot_model.specs.PeiStep.{started}
-use Rattle.boot_laws.specs.declared.choice.Reached.{Reached}
+use Rattle.boot_laws.specs.{declared.choice.Reached.Reached, PeiUnderWay.IsUnderWay}
 use Rattle.boot_laws.specs.declared.choice.Reached.TheVariants as R
-use Rattle.boot_laws.specs.PeiUnderWay.{IsUnderWay}
-use Rattle.pei_dispatch.specs.declared.queue.PeiQueue.{PeiQueue}
-use Rattle.pei_dispatch.specs.Queue.{parts_in}
-use Rattle.pei_dispatch.specs.View.{event_guids}
-use Rattle.pei_core.specs.declared.event.Event.{Event}
-use Rattle.pei_core.specs.declared.pei.Pei.{Pei}
-use Rattle.pei_core.specs.Standing.{IsFor, StandsFor}
-use Rattle.pei_core.specs.Steps.{IsIdle}
+use Rattle.pei_dispatch.specs.{declared.queue.PeiQueue.PeiQueue, Queue.parts_in, View.event_guids, Turns.IsNow}
+use Rattle.pei_core.specs.{declared.event.Event.Event, declared.pei.Pei.Pei, Standing.IsFor, Standing.StandsFor, Steps.IsIdle}
 use Rattle.pei_dispatch.specs.Choices.{IsDue, IsRunBy, LetsPeims}
-use Rattle.pei_dispatch.specs.Turns.{IsNow}
 use Rattle.explain_text.specs.declared.reasons.Giver.{Giver}
-use Rattle.boot_reasons.specs.declared.nowhere.Nowhere.{Nowhere}
-use Rattle.boot_reasons.specs.declared.told.PeiTold.{PeiTold}
-use Rattle.boot_reasons.specs.Noting.{AreNoted, giver_in}
+use Rattle.boot_reasons.specs.{declared.nowhere.Nowhere.Nowhere, declared.told.PeiTold.PeiTold, Noting.AreNoted, Noting.giver_in}
 use Rattle.boot_reasons.specs.PeiReasons.{pei_begun, pei_begun_at, pei_giver, pei_moved}
 use Rattle.boot_reasons.specs.Unseen.{NamesUnseen}
 

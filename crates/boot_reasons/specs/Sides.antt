@@ -1,10 +1,8 @@
 -- What stands for the parts of a tree while its opcodes are taken in order: whether a part holds, and what it lacks; the last one first.
 -- Own.
-use Rattle.std.specs.Prelude.{Bool, true, false, not, ◌&&◌, ◌||◌, if◌then◌else◌, List, [], ◌∷◌, Option, Some, None}
-use Rattle.std.specs.Option.{option_and_then}
+use Rattle.std.specs.Prelude.{Bool, true, false, not, ◌&&◌, ◌||◌, if◌then◌else◌, List, [], ◌∷◌, Option, Some, None, option_and_then}
 use Rattle.pi_base.specs.declared.guid.Guid.{Guid}
-use Rattle.depex_code.specs.Tree.{DepexTree, truth}
-use Rattle.depex_code.specs.declared.opcode.Opcode.{Opcode}
+use Rattle.depex_code.specs.{Tree.DepexTree, Tree.truth, declared.opcode.Opcode.Opcode}
 use Rattle.depex_code.specs.declared.opcode.Opcode.TheVariants as O
 use Rattle.boot_reasons.specs.declared.side.Side.{Side}
 use Rattle.boot_reasons.specs.Would.{both_lack, fewer, lacks}

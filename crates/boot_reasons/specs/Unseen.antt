@@ -1,10 +1,8 @@
 -- What a choice names that sees no text: it knows how many starts there were.
 -- Own; PI 1.8, volumes 1 and 2, leave the order of the modules that may start to the dispatchers.
 use Rattle.std.specs.Prelude.{ℕ, Bool, Option}
-use Rattle.boot_model.specs.DxeMachine.{DxeMachine}
-use Rattle.boot_model.specs.PeiMachine.{PeiMachine}
-use Rattle.pei_dispatch.specs.Choices.{LetsPeims}
-use Rattle.pei_dispatch.specs.Ends.{pei_starts}
+use Rattle.boot_model.specs.{DxeMachine.DxeMachine, PeiMachine.PeiMachine}
+use Rattle.pei_dispatch.specs.{Choices.LetsPeims, Ends.pei_starts}
 use Rattle.dxe_dispatch.specs.Choices.{LetsDrivers}
 use Rattle.boot_core.specs.Choices.{Choices, starts_of}
 use Rattle.boot_reasons.specs.declared.nowhere.Nowhere.{Nowhere}

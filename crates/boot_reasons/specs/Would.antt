@@ -2,10 +2,7 @@
 -- There are none for FALSE, nor where a NOT would need a GUID to go: one that stands over something that holds, and one that would stand over something that holds once the GUIDs have come.
 -- Own.
 use Rattle.std.specs.Prelude.{◌≡◌, ⊤, Bool, false, not, ◌||◌, if◌then◌else◌, nat_lt, length, List, [], ◌∷◌, ◌++◌, filter, Option, Some, None}
-use Rattle.pi_base.specs.declared.guid.Guid.{Guid}
-use Rattle.pi_base.specs.declared.phase.Phase.{Phase}
-use Rattle.pi_base.specs.Guids.{same_guid}
-use Rattle.pi_base.specs.Lists.{firsts}
+use Rattle.pi_base.specs.{declared.guid.Guid.Guid, declared.phase.Phase.Phase, Guids.same_guid, Lists.firsts}
 use Rattle.depex_code.specs.Tree.{DepexTree, True, False, Push, Not, And, Or, truth}
 use Rattle.depex_code.specs.declared.depex.Depex.TheVariants as D
 use Rattle.mod_catalog.specs.declared.catalogue.PartExpr.{PartExpr}

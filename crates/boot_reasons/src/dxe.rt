@@ -4,9 +4,7 @@ ghost use Rattle.boot_model.specs.DxeRun.{dxe_opening};
 ghost use Rattle.mod_catalog.specs.WellFormed.{IsWellFormed};
 ghost use Rattle.dxe_dispatch.specs.Queue.{IsNewQueue, IsQueueFor};
 ghost use Rattle.dxe_core.specs.Standing.{IsFor, StandsFor};
-ghost use Rattle.store_model.specs.Service.{Present, OfEach};
-ghost use Rattle.store_model.specs.StoreCall.{Anything};
-ghost use Rattle.store_model.specs.StoreState.{StoreState};
+ghost use Rattle.store_model.specs.{Service.Present, Service.OfEach, StoreCall.Anything, StoreState.StoreState};
 ghost use Rattle.boot_reasons.specs.DxeTelling.{Ends, Explains, ExplainsBehind, ExplainsEnd, IsAtOpening};
 
 use crate::copied::copied;

@@ -1,13 +1,9 @@
 // The drivers that wait at the end of DXE.
-ghost use Rattle.std.specs.Prelude.{◌≡◌, IfOk};
-ghost use Rattle.std.specs.Option.{option_to_list};
-ghost use Rattle.boot_model.specs.DxeChoice.{is_waiting};
-ghost use Rattle.boot_model.specs.DxeMachine.{DxeMachine};
+ghost use Rattle.std.specs.Prelude.{◌≡◌, IfOk, option_to_list};
+ghost use Rattle.boot_model.specs.{DxeChoice.is_waiting, DxeMachine.DxeMachine};
 ghost use Rattle.dxe_dispatch.specs.Queue.{IsQueueOf};
 ghost use Rattle.dxe_core.specs.Standing.{IsCoreOf};
-ghost use Rattle.boot_reasons.specs.DxeReasons.{dxe_held, dxe_held_at};
-ghost use Rattle.boot_reasons.specs.DxeTelling.{held_where};
-ghost use Rattle.boot_reasons.specs.Noting.{giver_in};
+ghost use Rattle.boot_reasons.specs.{DxeReasons.dxe_held, DxeReasons.dxe_held_at, DxeTelling.held_where, Noting.giver_in};
 
 use crate::coming::would;
 use crate::givers::Givers;

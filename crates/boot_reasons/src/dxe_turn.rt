@@ -1,13 +1,9 @@
 // What a step of DXE tells.
-ghost use Rattle.std.specs.Prelude.{◌≡◌, ◌++◌, OnOk};
-ghost use Rattle.std.specs.Option.{option_to_list};
+ghost use Rattle.std.specs.Prelude.{◌≡◌, ◌++◌, OnOk, option_to_list};
 ghost use Rattle.boot_model.specs.DxeMachine.{DxeMachine};
-ghost use Rattle.dxe_core.specs.Order.{IsOrderOf};
-ghost use Rattle.dxe_core.specs.Standing.{IsCoreOf};
+ghost use Rattle.dxe_core.specs.{Order.IsOrderOf, Standing.IsCoreOf};
 ghost use Rattle.store_model.specs.HandleState.{has_protocol};
-ghost use Rattle.boot_reasons.specs.DxeReasons.{beside_by, dxe_begun_at};
-ghost use Rattle.boot_reasons.specs.DxeTelling.{Tells};
-ghost use Rattle.boot_reasons.specs.Noting.{AreNoted, giver_in};
+ghost use Rattle.boot_reasons.specs.{DxeReasons.beside_by, DxeReasons.dxe_begun_at, DxeTelling.Tells, Noting.AreNoted, Noting.giver_in};
 
 use crate::givers::Givers;
 use crate::needs::needs_of;

@@ -1,15 +1,11 @@
 //! A boot by a choice, explained.
 ghost use Rattle.std.specs.Prelude.{◌≡◌, ◌≤◌, ◌++◌, IfOk, length};
-ghost use Rattle.boot_model.specs.BootRun.{dxe_result};
-ghost use Rattle.boot_model.specs.PeiMachine.{PeiMachine};
-ghost use Rattle.boot_model.specs.declared.phase_end.PeiEnd.TheVariants.{Handoff};
+ghost use Rattle.boot_model.specs.{BootRun.dxe_result, PeiMachine.PeiMachine, declared.phase_end.PeiEnd.TheVariants.Handoff};
 ghost use Rattle.mod_catalog.specs.WellFormed.{IsWellFormed};
 ghost use Rattle.boot_model.specs.PeiRun.{pei_opening};
 ghost use Rattle.pei_core.specs.Standing.{IsFor, StandsFor};
 ghost use Rattle.store_model.specs.StoreState.{Board, empty_store};
-ghost use Rattle.boot_reasons.specs.Explained.{ExplainsBehind, ExplainsTo};
-ghost use Rattle.boot_reasons.specs.Joining.{alone, together};
-ghost use Rattle.boot_reasons.specs.Unseen.{choices_of};
+ghost use Rattle.boot_reasons.specs.{Explained.ExplainsBehind, Explained.ExplainsTo, Joining.alone, Joining.together, Unseen.choices_of};
 
 use crate::dxe::{DxeExplained, explain_dxe};
 use crate::nowhere::Nowhere;

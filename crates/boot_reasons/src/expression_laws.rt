@@ -1,8 +1,6 @@
 //! Laws of what an expression lacks.
 ghost use Rattle.std.specs.Prelude.{◌≡◌, Bool, true, List, [], Some};
-ghost use Rattle.pi_base.specs.declared.guid.Guid.{Guid};
-ghost use Rattle.pi_base.specs.Lists.{firsts};
-ghost use Rattle.pi_base.specs.Guids.{same_guid};
+ghost use Rattle.pi_base.specs.{declared.guid.Guid.Guid, Lists.firsts, Guids.same_guid};
 ghost use Rattle.depex_code.specs.Tree.{DepexTree, truth};
 ghost use Rattle.boot_reasons.specs.Would.{NoNotNames, lacks, with_these, would_make};
 

@@ -1,12 +1,10 @@
 //! Laws of explained boots, each on a function that does nothing.
 ghost use Rattle.std.specs.Prelude.{ℕ};
-ghost use Rattle.mod_catalog.specs.declared.catalogue.Catalog.{Catalog};
-ghost use Rattle.mod_catalog.specs.WellFormed.{IsWellFormed};
+ghost use Rattle.mod_catalog.specs.{declared.catalogue.Catalog.Catalog, WellFormed.IsWellFormed};
 ghost use Rattle.store_model.specs.StoreState.{Board};
 ghost use Rattle.explain_text.specs.declared.reasons.Explained.{Explained};
 ghost use Rattle.boot_reasons.specs.Boots.{ExplainsBoots, HasOneExplanation, IsOfOwnBoot};
-ghost use Rattle.boot_reasons.specs.Explained.{IsExplained};
-ghost use Rattle.boot_reasons.specs.Unseen.{choices_of};
+ghost use Rattle.boot_reasons.specs.{Explained.IsExplained, Unseen.choices_of};
 
 use crate::nowhere::Nowhere;
 use boot_laws::{Choice, cursor_aims, dxe_runs_end, order_is_of_modules, pei_runs_end};

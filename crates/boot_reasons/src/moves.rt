@@ -1,8 +1,6 @@
 // The move of the heap, as a step shows it.
-ghost use Rattle.std.specs.Prelude.{◌≡◌};
-ghost use Rattle.std.specs.Option.{option_or};
-ghost use Rattle.store_model.specs.Service.{Present, OfEach};
-ghost use Rattle.store_model.specs.StoreCall.{Anything};
+ghost use Rattle.std.specs.{Prelude.◌≡◌, Option.option_or};
+ghost use Rattle.store_model.specs.{Service.Present, Service.OfEach, StoreCall.Anything};
 ghost use Rattle.boot_reasons.specs.Moving.{heap_used, moved_from, unmoved_base};
 
 use boot_trace::count_hobs;

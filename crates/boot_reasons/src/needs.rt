@@ -1,7 +1,6 @@
 // What a part of a module needs.
 ghost use Rattle.std.specs.Prelude.{◌≡◌, IfOk};
-ghost use Rattle.boot_reasons.specs.Needs.{needs_of};
-ghost use Rattle.boot_reasons.specs.Noting.{giver_in};
+ghost use Rattle.boot_reasons.specs.{Needs.needs_of, Noting.giver_in};
 
 use crate::asking::asked;
 use crate::givers::Givers;

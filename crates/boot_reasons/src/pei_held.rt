@@ -1,12 +1,9 @@
 // The parts that wait at the end of PEI.
-ghost use Rattle.std.specs.Prelude.{◌≡◌, IfOk};
-ghost use Rattle.std.specs.Option.{option_to_list};
-ghost use Rattle.boot_model.specs.PeiChoice.{pei_order};
-ghost use Rattle.boot_model.specs.PeiMachine.{PeiMachine};
+ghost use Rattle.std.specs.Prelude.{◌≡◌, IfOk, option_to_list};
+ghost use Rattle.boot_model.specs.{PeiChoice.pei_order, PeiMachine.PeiMachine};
 ghost use Rattle.boot_model.specs.PeiStep as P;
 ghost use Rattle.pei_core.specs.Standing.{StandsFor};
-ghost use Rattle.boot_reasons.specs.Noting.{giver_in};
-ghost use Rattle.boot_reasons.specs.PeiReasons.{pei_held, pei_held_for};
+ghost use Rattle.boot_reasons.specs.{Noting.giver_in, PeiReasons.pei_held, PeiReasons.pei_held_for};
 
 use crate::coming::would;
 use crate::givers::Givers;

@@ -1,15 +1,12 @@
 // A turn of the run of PEI by a choice, and what it tells.
-ghost use Rattle.std.specs.Prelude.{◌≡◌, ◌++◌, ℕ, IfOk, OnOk};
-ghost use Rattle.std.specs.Option.{option_or, option_to_list};
+ghost use Rattle.std.specs.Prelude.{◌≡◌, ◌++◌, ℕ, IfOk, OnOk, option_to_list};
+ghost use Rattle.std.specs.Option.{option_or};
 ghost use Rattle.boot_model.specs.PeiMachine.{PeiMachine};
 ghost use Rattle.mod_catalog.specs.WellFormed.{IsWellFormed};
 ghost use Rattle.store_model.specs.Service.Install.{has_ppi};
-ghost use Rattle.pei_core.specs.Standing.{IsFor, StandsFor};
-ghost use Rattle.pei_core.specs.Steps.{IsIdle};
+ghost use Rattle.pei_core.specs.{Standing.IsFor, Standing.StandsFor, Steps.IsIdle};
 ghost use Rattle.pei_dispatch.specs.Turns.{IsChosen, IsNow};
-ghost use Rattle.boot_reasons.specs.Noting.{AreNoted, giver_in};
-ghost use Rattle.boot_reasons.specs.Moving.{moved_from};
-ghost use Rattle.boot_reasons.specs.PeiReasons.{pei_begun_at};
+ghost use Rattle.boot_reasons.specs.{Noting.AreNoted, Noting.giver_in, Moving.moved_from, PeiReasons.pei_begun_at};
 ghost use Rattle.boot_reasons.specs.PeiTelling.{IsEventNoted, IsStartTold, Turns, TurnsIdle};
 
 use crate::givers::{Givers, actor};

@@ -3,8 +3,7 @@ ghost use Rattle.std.specs.Prelude.{◌≤◌, [], IfOk, length};
 ghost use Rattle.boot_model.specs.PlanBoard.{board_of};
 ghost use Rattle.mod_catalog.specs.WellFormed.{IsWellFormed};
 ghost use Rattle.store_model.specs.StateFacts.{IsBoard};
-ghost use Rattle.boot_reasons.specs.Explained.{ExplainsTo, IsExplained};
-ghost use Rattle.boot_reasons.specs.Unseen.{choices_of};
+ghost use Rattle.boot_reasons.specs.{Explained.ExplainsTo, Explained.IsExplained, Unseen.choices_of};
 
 use crate::explain::explain_by;
 use crate::nowhere::Nowhere;

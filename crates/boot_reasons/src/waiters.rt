@@ -1,6 +1,5 @@
 // Modules that wait, one behind the other.
-ghost use Rattle.std.specs.Prelude.{◌≡◌, ◌++◌, OnOk};
-ghost use Rattle.std.specs.Option.{option_to_list};
+ghost use Rattle.std.specs.Prelude.{◌≡◌, ◌++◌, OnOk, option_to_list};
 
 use explain_text::Held;
 use pi_base::{OutOfMemory, Seq};

@@ -1,13 +1,8 @@
 -- The entries of a list that are told one behind the other, by their places.
-use Rattle.std.proofs.Common.{◌≡◌, ℕ, zero, suc, ◌+◌, ◌<◌, ◌≤◌, List, [], ◌∷◌, length, drop, Option, Some, None, ap, arith, sym, ◌∙◌, slice_get}
-use Rattle.std.specs.Prelude.{map}
+use Rattle.std.proofs.Common.{◌≡◌, ℕ, zero, suc, ◌+◌, ◌<◌, ◌≤◌, List, [], ◌∷◌, length, drop, Option, Some, None, ap, arith, sym, ◌∙◌, slice_get, map}
 use Rattle.std.proofs.lemmas.Option.{slice_get_within}
-use Rattle.store_model.specs.declared.store_handle.EntryList.{EntryList}
-use Rattle.store_model.specs.declared.store_handle.EntryTold.{EntryTold}
-use Rattle.store_model.specs.StoreState.{StoreState}
-use Rattle.store_model.specs.StateFacts.{IsStoreState}
-use Rattle.store_model.specs.StoreCall.{IsNodeIn}
-use Rattle.store_model.specs.Service.Reading.{entry_behind, told_of}
+use Rattle.store_model.specs.{declared.store_handle.EntryList.EntryList, declared.store_handle.EntryTold.EntryTold, StoreState.StoreState}
+use Rattle.store_model.specs.{StateFacts.IsStoreState, StoreCall.IsNodeIn, Service.Reading.entry_behind, Service.Reading.told_of}
 use Rattle.store_laws.specs.Behind.{EntriesAreTold, left_behind}
 use Rattle.boot_trace.specs.EntryLines.{entry_lines, told_line}
 

@@ -1,17 +1,12 @@
 -- The fixed words of lines are plain, and each is one value's.
-use Rattle.std.proofs.Common.{◌≡◌, refl, sym, ap, ◌∙◌, ℕ, suc, arith, cond, Bool, true, false, List, [], ◌∷◌, Option, Some, None}
-use Rattle.std.specs.List.{Contains, find}
-use Rattle.std.specs.Str.{bytes_eq}
+use Rattle.std.proofs.Common.{◌≡◌, refl, sym, ap, ◌∙◌, ℕ, suc, arith, cond, Bool, true, false, List, [], ◌∷◌, Option, Some, None, Contains, find, bytes_eq}
 use Rattle.boot_trace.specs.FixedWords.{IsPlain}
-use Rattle.pi_base.specs.WordText.{word_text}
+use Rattle.pi_base.specs.{WordText.word_text, declared.word.Word.Word}
 use Rattle.boot_model.specs.Text.{licence_text, call_text, reason_text, end_text, plan_cause_text, image_cause_text}
-use Rattle.pi_base.specs.declared.word.Word.{Word}
 use Rattle.pi_base.specs.declared.word.Word.TheVariants as W
-use Rattle.boot_model.specs.declared.licence.Licence.{Licence}
+use Rattle.boot_model.specs.{declared.licence.Licence.Licence, declared.line.CallName.CallName, declared.line.Reason.Reason}
 use Rattle.boot_model.specs.declared.licence.Licence.TheVariants as G
-use Rattle.boot_model.specs.declared.line.CallName.{CallName}
 use Rattle.boot_model.specs.declared.line.CallName.TheVariants as C
-use Rattle.boot_model.specs.declared.line.Reason.{Reason}
 use Rattle.boot_model.specs.declared.line.Reason.TheVariants as R
 use Rattle.boot_model.specs.declared.line.RunEnd.{RunEnd}
 use Rattle.boot_model.specs.declared.line.RunEnd.TheVariants as X

@@ -1,14 +1,10 @@
 -- Pieces of the heap, one behind another.
 use lib.Seq.{take-nil}
-use Rattle.std.proofs.Common.{◌≡◌, ℕ, zero, suc, ◌+◌, ◌-◌, ◌≤◌, List, [], ◌∷◌, ◌++◌, length, take, drop, arith, sym, ap, ◌∙◌}
-use Rattle.std.proofs.lemmas.List.{drop-drop, length-take, length-drop}
+use Rattle.std.proofs.Common.{◌≡◌, ℕ, zero, suc, ◌+◌, ◌-◌, ◌≤◌, List, [], ◌∷◌, ◌++◌, length, take, drop, arith, sym, ap, ◌∙◌, drop-drop, length-take, length-drop}
 use Rattle.hex.specs.Hex.{encode_lower}
-use Rattle.store_model.specs.StoreState.{StoreState}
-use Rattle.store_model.specs.StateFacts.{IsStoreState}
-use Rattle.store_model.specs.HeapImage.{hob_list}
+use Rattle.store_model.specs.{StoreState.StoreState, StateFacts.IsStoreState, HeapImage.hob_list}
 use Rattle.boot_trace.specs.HeapParts.{IsHeapPart, heap_part}
-use Rattle.boot_trace.proofs.Hexadecimal.{encode_lower-append}
-use Rattle.boot_trace.proofs.HeapReads.{list_length}
+use Rattle.boot_trace.proofs.{Hexadecimal.encode_lower-append, HeapReads.list_length}
 
 take_both : (a b : ℕ) (xs : List ℕ) → take (a + b) xs ≡ take a xs ++ take b (drop a xs)
 take_both zero b xs = let e : zero + b ≡ b = omega arith in ap (λ n. take n xs) e

@@ -1,25 +1,20 @@
 -- What is read of the heap: the bytes of the HOB list, and of one HOB in it.
 use lib.Seq.{take-append-add, drop-append-add}
-use Rattle.std.proofs.Common.{◌≡◌, ℕ, zero, suc, ◌+◌, ◌-◌, ◌≤◌, ◌<◌, Bool, true, false, nat_le, if◌then◌else◌, List, [], ◌∷◌, ◌++◌, length, take, drop, get_or, map, arith, sym, refl, ap, subst, ◌∙◌, append_assoc, Option, Some, None, IfSome, slice_get, sum_by}
-use Rattle.std.proofs.lemmas.List.{append-nil, drop_more, length-append, take_all}
-use Rattle.std.proofs.lemmas.List.Sums.{sum_by-cons}
-use Rattle.std.proofs.lemmas.Option.{same_Some, unwrap_or-slice_get}
+use Rattle.std.proofs.Common.{◌≡◌, ℕ, zero, suc, ◌+◌, ◌-◌, ◌≤◌, ◌<◌, Bool, true, false, nat_le, if◌then◌else◌, List, [], ◌∷◌, ◌++◌, length, take, drop, get_or, map, arith, sym, refl, ap, subst, ◌∙◌, append_assoc, Option, Some, None, IfSome, slice_get, sum_by, append-nil, length-append, take_all}
+use Rattle.std.proofs.{lemmas.List.drop_more, lemmas.List.Sums.sum_by-cons, lemmas.Option.same_Some, lemmas.Option.unwrap_or-slice_get}
 use Rattle.std.proofs.lemmas.Bool.Decides.{nat_tests}
 use Rattle.std.specs.Option.{option_or}
 use Rattle.phys_mem.specs.Region.{is_inside}
 use Rattle.hob_codec.specs.declared.kind.TheConstants.{END}
-use Rattle.store_model.specs.declared.state.DescriptorBody.{DescriptorBody}
-use Rattle.store_model.specs.declared.state.Body.{Body}
+use Rattle.store_model.specs.{declared.state.DescriptorBody.DescriptorBody, declared.state.Body.Body, declared.state.HobEntry.HobEntry}
 use Rattle.store_model.specs.declared.state.Body.TheVariants.{Bytes, Descriptor, Node, Allocation}
-use Rattle.store_model.specs.declared.state.HobEntry.{HobEntry}
 use Rattle.pi_base.specs.Lists.{Each, numbers}
 use Rattle.store_model.specs.StoreState.{StoreState, Range, hob_len, body_len, descriptor_len, end_place}
 use Rattle.store_model.specs.StateFacts.{IsStoreState, IsGuidOf, IsBodyOf, IsHobEntry, IsHeap, IsPlanned}
 use Rattle.store_model.specs.HeapImage.{Links, links_bytes, guid_behind, header_bytes, body_bytes, hobs_bytes, hob_list}
 use Rattle.store_model.specs.StoreCall.{Peeks}
 use Rattle.store_model.specs.MemoryReading.{rom_bytes, heap_byte, region_bytes, bytes_at}
-use Rattle.boot_trace.specs.HobLines.{handoff_hob, all_hobs}
-use Rattle.boot_trace.specs.HeapParts.{IsHeapPart, heap_part}
+use Rattle.boot_trace.specs.{HobLines.handoff_hob, HobLines.all_hobs, HeapParts.IsHeapPart, HeapParts.heap_part}
 use Rattle.boot_trace.proofs.HobPlaces.{place_of, place_more}
 
 -- a GUID that stands behind its descriptor has sixteen bytes

@@ -1,6 +1,5 @@
 -- Bytes in hexadecimal, piece by piece.
-use Rattle.std.proofs.Common.{◌≡◌, ℕ, ◌/◌, ◌%◌, List, [], ◌∷◌, ◌++◌, slice_index, refl, ap, sym, ◌∙◌, append_assoc}
-use Rattle.std.proofs.lemmas.List.{append-nil}
+use Rattle.std.proofs.Common.{◌≡◌, ℕ, ◌/◌, ◌%◌, List, [], ◌∷◌, ◌++◌, slice_index, refl, ap, sym, ◌∙◌, append_assoc, append-nil}
 use Rattle.boot_io.specs.Line.{line_of}
 use Rattle.boot_model.specs.Text.{bytes_text}
 use Rattle.hex.specs.Hex.{encode_lower, encode_with, lower_digits}

@@ -1,18 +1,13 @@
 -- Where the HOBs of a store stand, by their number.
-use Rattle.std.proofs.Common.{◌≡◌, ℕ, zero, suc, ◌+◌, ◌≤◌, ◌<◌, Bool, true, false, cond, List, [], ◌∷◌, length, take, arith, sym, refl, ap, ◌∙◌, Option, Some, None, option_map, slice_get, is_some, get_or, ◌==◌, sum_by, inl, inr}
-use Rattle.std.proofs.lemmas.List.{take_all}
+use Rattle.std.proofs.Common.{◌≡◌, ℕ, zero, suc, ◌+◌, ◌≤◌, ◌<◌, Bool, true, false, cond, List, [], ◌∷◌, length, take, arith, sym, refl, ap, ◌∙◌, Option, Some, None, option_map, slice_get, is_some, get_or, ◌==◌, sum_by, inl, inr, take_all}
 use Rattle.std.proofs.lemmas.List.Sums.{sum_by-cons, sum_by_more, sum_by-take-le}
 use Rattle.std.proofs.lemmas.Option.{same_Some, slice_get_within, get_or_from_slice_get}
 use Rattle.std.proofs.lemmas.Bool.Decides.{nat_tests}
-use Rattle.store_model.specs.declared.store_handle.HobSpan.{HobSpan}
-use Rattle.boot_model.specs.declared.line.Line.{Line}
+use Rattle.store_model.specs.{declared.store_handle.HobSpan.HobSpan, declared.state.HobEntry.HobEntry, HeapImage.body_bytes}
+use Rattle.boot_model.specs.{declared.line.Line.Line, Listing.hob_lines_from}
 use Rattle.boot_model.specs.declared.line.Line.TheVariants as L
 use Rattle.store_model.specs.StoreState.{StoreState, hob_len, end_place}
-use Rattle.store_model.specs.declared.state.HobEntry.{HobEntry}
-use Rattle.boot_model.specs.Listing.{hob_lines_from}
-use Rattle.store_model.specs.HeapImage.{body_bytes}
-use Rattle.store_model.specs.Service.Reading.{span_from, hob_at}
-use Rattle.store_model.specs.StoreCall.{IsHobPlace}
+use Rattle.store_model.specs.{Service.Reading.span_from, Service.Reading.hob_at, StoreCall.IsHobPlace}
 use Rattle.boot_trace.specs.HobLines.{handoff_hob, all_hobs, hob_line_from, hob_line_at}
 use Rattle.boot_trace.proofs.ListPlaces.{past}
 

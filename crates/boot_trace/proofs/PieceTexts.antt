@@ -1,12 +1,10 @@
 -- Pieces that are gathered in a line.
-use Rattle.std.proofs.Common.{◌≡◌, ◌<◌, ◌≤◌, ℕ, ◌+◌, List, [], ◌∷◌, ◌++◌, length, refl, sym, ap, ◌∙◌, take, drop, get_or, append_assoc, flat_map, Option, subst}
-use Rattle.std.proofs.lemmas.List.{append-nil, take_more, take-append-drop, take_all}
+use Rattle.std.proofs.Common.{◌≡◌, ◌<◌, ◌≤◌, ℕ, ◌+◌, List, [], ◌∷◌, ◌++◌, length, refl, sym, ap, ◌∙◌, take, drop, get_or, append_assoc, flat_map, Option, subst, append-nil, take-append-drop, take_all}
+use Rattle.std.proofs.lemmas.List.{take_more}
 use Rattle.std.specs.Io.KnownBytes.{Appends}
-use Rattle.boot_io.specs.Line.{spaced}
-use Rattle.boot_io.specs.Sink.{AppendsPart}
+use Rattle.boot_io.specs.{Line.spaced, Sink.AppendsPart}
 use Rattle.boot_io.proofs.PutsLaws.{appends_none, part_then, gathers_fails}
-use Rattle.boot_trace.specs.declared.piece.Piece.{Piece}
-use Rattle.boot_trace.specs.Pieces.{piece_text, piece_texts}
+use Rattle.boot_trace.specs.{declared.piece.Piece.Piece, Pieces.piece_text, Pieces.piece_texts}
 
 -- the text of words
 abbrev pub words_text : List Piece → List ℕ

@@ -1,12 +1,9 @@
 -- The line of a HOB whose type and length are told.
 use Rattle.std.proofs.Common.{◌≡◌, ℕ, ◌+◌, ◌-◌, ◌≤◌, arith, sym, ap, ◌∙◌, Some}
-use Rattle.store_model.specs.declared.store_handle.HobSpan.{HobSpan}
+use Rattle.store_model.specs.{declared.store_handle.HobSpan.HobSpan, StoreState.StoreState, StoreState.hob_len, StateFacts.IsStoreState}
 use Rattle.boot_model.specs.declared.line.Line.TheVariants as L
-use Rattle.store_model.specs.StoreState.{StoreState, hob_len}
-use Rattle.store_model.specs.StateFacts.{IsStoreState}
 use Rattle.store_model.specs.Service.Reading.{hob_at}
-use Rattle.boot_trace.specs.HobLines.{hob_line_at}
-use Rattle.boot_trace.specs.HeapParts.{IsHeapPart, heap_part}
+use Rattle.boot_trace.specs.{HobLines.hob_line_at, HeapParts.IsHeapPart, HeapParts.heap_part}
 use Rattle.boot_trace.proofs.HobPlaces.{told, numbered, line_at}
 use Rattle.boot_trace.proofs.HeapReads.{body_part}
 

@@ -1,12 +1,10 @@
 -- The text of the lines of a start.
-use Rattle.std.proofs.Common.{◌≡◌, ℕ, Bool, true, false, List, [], ◌∷◌, Option}
-use Rattle.std.proofs.lemmas.List.{append-nil}
+use Rattle.std.proofs.Common.{◌≡◌, ℕ, Bool, true, false, List, [], ◌∷◌, Option, append-nil}
 use Rattle.pi_base.specs.declared.word.Word.TheVariants.{Success}
 use Rattle.boot_io.specs.Sink.{AppendsPart}
 use Rattle.boot_io.proofs.PutsLaws.{part_of_more}
-use Rattle.boot_model.specs.declared.line.Line.{Line}
+use Rattle.boot_model.specs.{declared.line.Line.Line, Text.line_text, Text.text_of}
 use Rattle.boot_model.specs.declared.line.Line.TheVariants as L
-use Rattle.boot_model.specs.Text.{line_text, text_of}
 use Rattle.boot_trace.specs.StartLines.{started_lines}
 
 pub one_text : (line : Line) → text_of (line ∷ []) ≡ line_text line

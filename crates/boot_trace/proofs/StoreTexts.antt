@@ -1,12 +1,9 @@
 -- The text of all lists of a store, by its parts.
-use Rattle.std.proofs.Common.{◌≡◌, ℕ, List, [], ◌∷◌, ◌++◌, length, map, ap, refl, sym, ◌∙◌, append_assoc, flat_map}
-use Rattle.std.proofs.lemmas.List.{length-map, append-nil}
-use Rattle.std.proofs.lemmas.Grind.{flat_map-append}
-use Rattle.boot_model.specs.declared.line.Line.{Line}
-use Rattle.store_model.specs.StoreState.{StoreState}
-use Rattle.store_model.specs.Service.Reading.{entry_told, pending_told}
+use Rattle.std.proofs.Common.{◌≡◌, ℕ, List, [], ◌∷◌, ◌++◌, length, map, ap, refl, sym, ◌∙◌, append_assoc, flat_map, append-nil}
+use Rattle.std.proofs.{lemmas.List.length-map, lemmas.Grind.flat_map-append}
+use Rattle.boot_model.specs.{declared.line.Line.Line, Text.line_text, Text.text_of}
+use Rattle.store_model.specs.{StoreState.StoreState, Service.Reading.entry_told, Service.Reading.pending_told}
 use Rattle.boot_model.specs.Listing.{store_lines, ppi_lines, callback_lines, dispatch_lines, pending_lines, hob_lines, ppi_line, callback_line, dispatch_line, pending_line}
-use Rattle.boot_model.specs.Text.{line_text, text_of}
 use Rattle.store_model.specs.declared.store_handle.EntryList.TheVariants.{Ppis, Callbacks, Dispatches, Pendings}
 use Rattle.boot_trace.specs.EntryLines.{count_line, told_line, list_text}
 

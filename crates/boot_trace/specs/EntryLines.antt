@@ -1,15 +1,11 @@
 -- The lines of a store's lists of entries: PPIs, callbacks, dispatch notifications and queued pairs.
 -- Own.
 use Rattle.std.specs.Prelude.{ℕ, ◌/◌, ◌%◌, List, ◌∷◌, length, map}
-use Rattle.boot_model.specs.declared.frame.TheConstants.{BLOCKS}
-use Rattle.boot_model.specs.declared.line.Line.{Line}
+use Rattle.boot_model.specs.{declared.frame.TheConstants.BLOCKS, declared.line.Line.Line, Text.text_of}
 use Rattle.boot_model.specs.declared.line.Line.TheVariants as L
-use Rattle.store_model.specs.declared.store_handle.EntryList.{EntryList}
+use Rattle.store_model.specs.{declared.store_handle.EntryList.EntryList, declared.store_handle.EntryTold.EntryTold, StoreState.StoreState}
 use Rattle.store_model.specs.declared.store_handle.EntryList.TheVariants.{Ppis, Callbacks, Dispatches, Pendings}
-use Rattle.store_model.specs.declared.store_handle.EntryTold.{EntryTold}
-use Rattle.store_model.specs.StoreState.{StoreState}
 use Rattle.store_model.specs.Service.Reading.{told_of}
-use Rattle.boot_model.specs.Text.{text_of}
 
 -- the line of a list's count
 abbrev pub count_line : EntryList → ℕ → Line

@@ -1,8 +1,7 @@
 -- Parts of the HOB list, by their addresses.
 -- Own.
 use Rattle.std.specs.Prelude.{ℕ, ◌+◌, ◌-◌, ◌≤◌, List, take, drop}
-use Rattle.store_model.specs.StoreState.{StoreState, end_place}
-use Rattle.store_model.specs.HeapImage.{hob_list}
+use Rattle.store_model.specs.{StoreState.StoreState, StoreState.end_place, HeapImage.hob_list}
 
 -- the n bytes at an address stand in HOBs
 abbrev pub IsHeapPart : ℕ → ℕ → StoreState → Type 0

@@ -4,8 +4,7 @@ use Rattle.std.specs.Prelude.{◌≡◌, length, ℕ, ◌+◌, ◌==◌, if◌th
 use Rattle.hob_codec.specs.declared.kind.TheConstants.{HANDOFF}
 use Rattle.boot_model.specs.declared.line.Line.{Line}
 use Rattle.boot_model.specs.declared.line.Line.TheVariants as L
-use Rattle.store_model.specs.declared.state.Body.TheVariants.{Bytes}
-use Rattle.store_model.specs.declared.state.HobEntry.{HobEntry}
+use Rattle.store_model.specs.{declared.state.Body.TheVariants.Bytes, declared.state.HobEntry.HobEntry}
 use Rattle.store_model.specs.StoreState.{StoreState, end_place, hob_len, header_len}
 use Rattle.boot_trace.specs.declared.store_hobs.HobCount.{HobCount}
 use Rattle.store_model.specs.HeapImage.{handoff_body, body_bytes}

@@ -1,11 +1,8 @@
 //! The entries of a store's lists, each as a line.
 ghost use Rattle.std.specs.Prelude.{◌≡◌, ◌≢◌, ◌<◌, ◌/◌, ◌%◌, length};
 ghost use Rattle.boot_model.specs.declared.frame.TheConstants.{BLOCKS};
-ghost use Rattle.store_model.specs.declared.limits.TheConstants.{NOTE_NUMBERS};
-ghost use Rattle.store_model.specs.declared.store_handle.EntryList.TheVariants.{Ppis};
-ghost use Rattle.store_model.specs.Service.{Present, OfEach};
-ghost use Rattle.store_model.specs.Service.Reading.{told_of};
-ghost use Rattle.store_model.specs.StoreCall.{Anything};
+ghost use Rattle.store_model.specs.{declared.limits.TheConstants.NOTE_NUMBERS, declared.store_handle.EntryList.TheVariants.Ppis};
+ghost use Rattle.store_model.specs.{Service.Present, Service.OfEach, Service.Reading.told_of, StoreCall.Anything};
 ghost use Rattle.boot_trace.specs.EntryLines.{count_line, told_line};
 
 use boot_model::{BLOCKS, Line};

@@ -1,6 +1,5 @@
 //! The fixed words of lines, and the values that have them.
-ghost use Rattle.std.specs.Prelude.{◌≡◌, List, ℕ};
-ghost use Rattle.std.specs.List.{Contains};
+ghost use Rattle.std.specs.Prelude.{◌≡◌, List, ℕ, Contains};
 ghost use Rattle.pi_base.specs.WordText.{word_text};
 ghost use Rattle.boot_trace.specs.FixedWords.{IsPlain};
 ghost use Rattle.boot_model.specs.Text.{licence_text, reason_text, end_text};

@@ -1,8 +1,7 @@
 //! The line of a HOB whose bytes stand in a store's heap.
 ghost use Rattle.std.specs.Prelude.{[], ◌∷◌, ◌++◌, ◌≤◌, decimal};
 ghost use Rattle.hex.specs.Hex.{encode_lower};
-ghost use Rattle.boot_io.specs.Line.{line_of};
-ghost use Rattle.boot_io.specs.Sink.{Puts, SinkFaultsAfter};
+ghost use Rattle.boot_io.specs.{Line.line_of, Sink.Puts, Sink.SinkFaultsAfter};
 ghost use Rattle.store_model.specs.Service.{Present, OfEach};
 ghost use Rattle.boot_model.specs.declared.line.Line.TheVariants as L;
 ghost use Rattle.boot_model.specs.Text.{bytes_text, line_text};

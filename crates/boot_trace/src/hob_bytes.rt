@@ -1,8 +1,6 @@
 //! The HOB list of a store, byte by byte.
 ghost use Rattle.std.specs.Prelude.{◌≡◌, IfOk, replicate};
-ghost use Rattle.store_model.specs.HeapImage.{hob_list};
-ghost use Rattle.store_model.specs.Service.{Present, OfEach};
-ghost use Rattle.store_model.specs.StoreCall.{Anything};
+ghost use Rattle.store_model.specs.{HeapImage.hob_list, Service.Present, Service.OfEach, StoreCall.Anything};
 
 use crate::store_hobs::count_hobs;
 use pi_base::{OutOfMemory, Seq};

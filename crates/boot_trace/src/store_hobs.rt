@@ -1,11 +1,8 @@
 //! The HOBs of a store, after their count.
 ghost use Rattle.std.specs.Prelude.{◌≡◌, length, Some, IsSomeAnd};
 ghost use Rattle.boot_io.specs.Sink.{Puts, SinkFaultsAfter};
-ghost use Rattle.store_model.specs.Service.{Present, OfEach};
-ghost use Rattle.store_model.specs.Service.Reading.{hob_at};
-ghost use Rattle.store_model.specs.StoreCall.{Anything};
-ghost use Rattle.boot_model.specs.Text.{line_text, text_of};
-ghost use Rattle.boot_model.specs.Listing.{hob_lines, hob_lines_from};
+ghost use Rattle.store_model.specs.{Service.Present, Service.OfEach, Service.Reading.hob_at, StoreCall.Anything};
+ghost use Rattle.boot_model.specs.{Text.line_text, Text.text_of, Listing.hob_lines, Listing.hob_lines_from};
 ghost use Rattle.boot_trace.specs.HobLines.{IsHobCount, all_hobs, hob_line_at};
 
 use crate::heap_bytes::put_heap_line;

@@ -1,11 +1,8 @@
 //! The lists of a store, each after its count.
 ghost use Rattle.std.specs.Prelude.{◌≡◌, flat_map, length};
 ghost use Rattle.boot_io.specs.Sink.{Puts, SinkFaultsAfter};
-ghost use Rattle.store_model.specs.Service.{Present, OfEach};
-ghost use Rattle.store_model.specs.Service.Reading.{told_of};
-ghost use Rattle.store_model.specs.StoreCall.{Anything};
-ghost use Rattle.boot_model.specs.Text.{text_of};
-ghost use Rattle.boot_model.specs.Listing.{store_lines};
+ghost use Rattle.store_model.specs.{Service.Present, Service.OfEach, Service.Reading.told_of, StoreCall.Anything};
+ghost use Rattle.boot_model.specs.{Text.text_of, Listing.store_lines};
 ghost use Rattle.boot_trace.specs.EntryLines.{entry_lines, list_text};
 
 use crate::entry_list::{count_line, entry_count, told_line};

@@ -1,26 +1,15 @@
 -- The services of a machine are those of one over any store in which drivers wait for their request: the one that has started the drivers with a rank, and no others.
-use Rattle.std.proofs.Common.{◌≡◌, ℕ, zero, suc, ◌<◌, ◌≤◌, Bool, true, false, cond, ◌&&◌, ◌||◌, not, ◌==◌, List, [], ◌∷◌, length, find, filter, Option, Some, None, is_none, inl, inr, refl, sym, ap, ◌∙◌, arith}
-use Rattle.std.specs.Prelude.{is_some, ◌⊎◌, Ok}
-use Rattle.std.specs.Option.{option_and_then}
-use Rattle.std.proofs.lemmas.Option.{slice_get_past}
-use Rattle.std.proofs.lemmas.Bool.{cases_lt}
-use Rattle.std.proofs.lemmas.Bool.Decides.{nat_tests}
-use Rattle.pi_base.specs.declared.phase.Phase.TheVariants.{Dxe}
-use Rattle.pi_base.specs.Guids.{same_guid}
-use Rattle.mod_catalog.specs.declared.catalogue.Catalog.{Catalog}
-use Rattle.mod_catalog.specs.declared.catalogue.Module.{Module}
-use Rattle.mod_catalog.specs.declared.catalogue.Part.{Part}
+use Rattle.std.proofs.Common.{◌≡◌, ℕ, zero, suc, ◌<◌, ◌≤◌, Bool, true, false, cond, ◌&&◌, ◌||◌, not, ◌==◌, List, [], ◌∷◌, length, find, filter, Option, Some, None, is_none, inl, inr, refl, sym, ap, ◌∙◌, arith, is_some, ◌⊎◌, Ok, option_and_then}
+use Rattle.std.proofs.{lemmas.Option.slice_get_past, lemmas.Bool.cases_lt, lemmas.Bool.Decides.nat_tests}
+use Rattle.pi_base.specs.{declared.phase.Phase.TheVariants.Dxe, Guids.same_guid}
+use Rattle.mod_catalog.specs.{declared.catalogue.Catalog.Catalog, declared.catalogue.Module.Module, declared.catalogue.Part.Part}
 use Rattle.mod_catalog.specs.Parts.{has_number, part_of, rank_at, module_name}
-use Rattle.store_model.specs.StoreState.{StoreState}
+use Rattle.store_model.specs.{StoreState.StoreState, Service.Present, StoreCall.Anything}
 use Rattle.boot_model.specs.DxeMachine.{DxeMachine, DriverFrame}
 use Rattle.boot_model.specs.DxeChoice.{discovered_order, is_unrequested, is_waiting}
 use Rattle.boot_laws.specs.UnrequestedDrivers.{WaitForRequest}
 use Rattle.act_code.specs.declared.action.Action.{Action}
-use Rattle.store_model.specs.Service.{Present}
-use Rattle.store_model.specs.StoreCall.{Anything}
-use Rattle.dxe_core.specs.declared.reply.Reply.{Reply}
-use Rattle.dxe_core.specs.Reply.{ServesOwn}
-use Rattle.dxe_core.specs.Services.{Services, AreServicesFor}
+use Rattle.dxe_core.specs.{declared.reply.Reply.Reply, Reply.ServesOwn, Services.Services, Services.AreServicesFor}
 use Rattle.choice_trials.specs.Served.{IsServed}
 
 -- the numbers below a bound that pass a test

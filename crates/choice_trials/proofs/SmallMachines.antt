@@ -1,22 +1,14 @@
 -- Machines of DXE for the tests: some volumes are discovered, protocols are installed, the first driver is requested or none, and each start leaves the queue.
-use Rattle.std.proofs.Common.{◌≡◌, ℕ, ◌<◌, get_or, length, Bool, true, false, cond, ◌&&◌, ◌||◌, List, [], ◌∷◌, ◌++◌, Some, None, Result, Ok, Err, refl, sym, ap, subst, ◌∙◌, arith}
-use Rattle.std.specs.Prelude.{OnOk}
-use Rattle.std.proofs.lemmas.List.Folds.{list_any-append}
-use Rattle.std.proofs.lemmas.Slice.Eq.{bytes_eq-Decides}
-use Rattle.pi_base.specs.declared.guid.Guid.{Guid}
-use Rattle.pi_base.specs.Guids.{same_guid}
-use Rattle.mod_catalog.specs.declared.catalogue.Catalog.{Catalog}
-use Rattle.mod_catalog.specs.Parts.{has_number}
-use Rattle.store_model.specs.StoreState.{Range, StoreState}
-use Rattle.store_model.specs.declared.interface.Interface.{Interface}
+use Rattle.std.proofs.Common.{◌≡◌, ℕ, ◌<◌, get_or, length, Bool, true, false, cond, ◌&&◌, ◌||◌, List, [], ◌∷◌, ◌++◌, Some, None, Result, Ok, Err, refl, sym, ap, subst, ◌∙◌, arith, OnOk}
+use Rattle.std.proofs.{lemmas.List.Folds.list_any-append, lemmas.Slice.Eq.bytes_eq-Decides}
+use Rattle.pi_base.specs.{declared.guid.Guid.Guid, Guids.same_guid}
+use Rattle.mod_catalog.specs.{declared.catalogue.Catalog.Catalog, Parts.has_number}
+use Rattle.store_model.specs.{StoreState.Range, StoreState.StoreState, declared.interface.Interface.Interface}
 use Rattle.store_model.specs.HandleState.{has_protocol, no_handles}
-use Rattle.boot_model.specs.declared.driver.Scheduled.{Scheduled}
-use Rattle.boot_model.specs.DxeMachine.{DxeMachine}
+use Rattle.boot_model.specs.{declared.driver.Scheduled.Scheduled, DxeMachine.DxeMachine, Licence.AllDiffer}
 use Rattle.boot_model.specs.DxeChoice.{a_priori_drivers, drivers_of, group_scheduled}
-use Rattle.boot_model.specs.Licence.{AllDiffer}
 use Rattle.boot_laws.proofs.EachDriver.{has_each_once}
-use Rattle.boot_model.proofs.Distinct.{all_distinct}
-use Rattle.boot_model.proofs.ListFacts.{has_first}
+use Rattle.boot_model.proofs.{Distinct.all_distinct, ListFacts.has_first}
 use Rattle.dxe_core.specs.Order.{Drivers, IsOrderOf}
 use Rattle.dxe_dispatch.specs.Aim.{aimed, is_free, may_be_next}
 use Rattle.dxe_dispatch.specs.Queue.{AreNew, Changes, Discovers, HasProtocol, IsNewQueue, IsNext, IsQueueOf, IsSeen, Queue, Requests}

@@ -5,8 +5,7 @@ use Rattle.pi_base.specs.declared.phase.Phase.TheVariants.{Dxe}
 use Rattle.act_code.specs.declared.action.Action.{Action}
 use Rattle.mod_catalog.specs.declared.catalogue.Catalog.{Catalog}
 use Rattle.boot_model.specs.DxeMachine.{DxeMachine, DriverFrame}
-use Rattle.phase_parts.specs.Deed.{deed}
-use Rattle.phase_parts.specs.Needs.{IsScriptAction}
+use Rattle.phase_parts.specs.{Deed.deed, Needs.IsScriptAction}
 use Rattle.dxe_core.specs.Services.{Services, AreServicesFor, AreServicesOf}
 
 -- an action of a DXE script that scripts of PEI do not have

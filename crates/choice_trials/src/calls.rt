@@ -1,8 +1,7 @@
 // What the calls of a driver answer. What reads memory needs a whole store, and is tested over whole boots.
 ghost use Rattle.std.specs.Prelude.{None, IfSome, IsTrue};
 ghost use Rattle.mod_catalog.specs.WellFormed.{IsWellFormed};
-ghost use Rattle.store_model.specs.Service.{Present};
-ghost use Rattle.store_model.specs.StoreCall.{Anything};
+ghost use Rattle.store_model.specs.{Service.Present, StoreCall.Anything};
 ghost use Rattle.store_plain.specs.PlainState.{stands_for};
 ghost use Rattle.boot_model.specs.DxeMachine.{DriverFrame};
 ghost use Rattle.dxe_core.specs.Services.{AreCounted};

@@ -1,15 +1,11 @@
 -- An opcode that is read stands at the front, and one that stands at the front is read.
-use Rattle.std.proofs.Common.{◌≡◌, ℕ, ◌*◌, ◌≤◌, Bool, true, false, List, [], ◌∷◌, ◌++◌, length, take, drop, Option, Some, None, refl, sym, ap, subst, ◌∙◌, arith, ltb, inl, inr}
-use Rattle.std.specs.Prelude.{⊤, if◌then◌else◌, ◌==◌, option_map}
-use Rattle.std.specs.List.{AllByRecursion}
-use Rattle.std.proofs.lemmas.Bool.{eqb-true, cases_lt}
-use Rattle.std.proofs.lemmas.List.{take-append-drop, take_at, drop_at, length-append, length-take}
-use Rattle.std.proofs.lemmas.Bool.Decides.{nat_tests}
+use Rattle.std.proofs.Common.{◌≡◌, ℕ, ◌*◌, ◌≤◌, Bool, true, false, List, [], ◌∷◌, ◌++◌, length, take, drop, Option, Some, None, refl, sym, ap, subst, ◌∙◌, arith, ltb, inl, inr, if◌then◌else◌, ◌==◌, option_map, eqb-true, take-append-drop, take_at, drop_at, length-append, length-take}
+use Rattle.std.specs.{Prelude.⊤, List.AllByRecursion}
+use Rattle.std.proofs.{lemmas.Bool.cases_lt, lemmas.Bool.Decides.nat_tests}
 use Rattle.pi_base.specs.declared.guid.Guid.{Guid}
 use Rattle.depex_code.specs.declared.opcode.Opcode.TheVariants as opcode
-use Rattle.depex_code.specs.declared.instruction.Instruction.{Instruction}
+use Rattle.depex_code.specs.{declared.instruction.Instruction.Instruction, Instruction.instruction_bytes, Instruction.IsWhole}
 use Rattle.depex_code.specs.declared.instruction.Instruction.TheVariants as instruction
-use Rattle.depex_code.specs.Instruction.{instruction_bytes, IsWhole}
 use Rattle.depex_code.specs.Expression.{bytes_of}
 use Rattle.depex_code.specs.Reading.{guid_front, with_guid, instruction_at}
 

@@ -1,19 +1,14 @@
 -- An expression's opcodes in order, as a machine takes them: its states, and that each expression is taken and ends it.
-use Rattle.std.proofs.Common.{◌≡◌, ◌≢◌, Bool, true, false, List, [], ◌∷◌, ◌++◌, map, Option, Some, None, refl, sym, ap, ◌∙◌, append_assoc}
-use Rattle.std.specs.Prelude.{option_map, option_and_then, ⊤}
-use Rattle.std.specs.List.{AllByRecursion}
-use Rattle.std.proofs.lemmas.List.{append-nil, map-append}
-use Rattle.pi_base.specs.declared.phase.Phase.{Phase}
-use Rattle.pi_base.specs.declared.phase.Phase.TheVariants.{Pei, Dxe}
-use Rattle.depex_code.specs.declared.opcode.Opcode.{Opcode}
+use Rattle.std.proofs.Common.{◌≡◌, ◌≢◌, Bool, true, false, List, [], ◌∷◌, ◌++◌, map, Option, Some, None, refl, sym, ap, ◌∙◌, append_assoc, option_map, option_and_then, append-nil}
+use Rattle.std.specs.{Prelude.⊤, List.AllByRecursion}
+use Rattle.std.proofs.lemmas.List.{map-append}
+use Rattle.pi_base.specs.{declared.phase.Phase.Phase, declared.phase.Phase.TheVariants.Pei, declared.phase.Phase.TheVariants.Dxe}
+use Rattle.depex_code.specs.{declared.opcode.Opcode.Opcode, declared.instruction.Instruction.Instruction, declared.depex.Depex.Depex}
 use Rattle.depex_code.specs.declared.opcode.Opcode.TheVariants as opcode
-use Rattle.depex_code.specs.declared.instruction.Instruction.{Instruction}
 use Rattle.depex_code.specs.declared.instruction.Instruction.TheVariants as instruction
-use Rattle.depex_code.specs.declared.depex.Depex.{Depex}
 use Rattle.depex_code.specs.declared.depex.Depex.TheVariants as depex
 use Rattle.depex_code.specs.Tree.{DepexTree, True, And, postfix}
-use Rattle.depex_code.specs.TreeCode.{built, stack_after}
-use Rattle.depex_code.specs.Instruction.{IsWhole}
+use Rattle.depex_code.specs.{TreeCode.built, TreeCode.stack_after, Instruction.IsWhole}
 use Rattle.depex_code.specs.Expression.{instructions, sor_front, IsOfPhase, GoesOn}
 use Rattle.depex_code.proofs.Stacks.{stack_after-tree, spelled, spelled-after}
 use Rattle.depex_code.proofs.TreeWalk.{all-append}

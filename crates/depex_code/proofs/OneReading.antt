@@ -1,18 +1,12 @@
 -- Two lists of opcodes that stand at the front of the same bytes are the same as far as both go, so bytes have one outcome.
-use Rattle.std.proofs.Common.{◌≡◌, ℕ, ◌≤◌, List, [], ◌∷◌, ◌++◌, length, Option, Some, None, refl, sym, ap, subst, ◌∙◌, append_assoc, arith, inl, inr, ⊎_elim}
-use Rattle.std.specs.Prelude.{option_and_then, ◌⊎◌}
+use Rattle.std.proofs.Common.{◌≡◌, ℕ, ◌≤◌, List, [], ◌∷◌, ◌++◌, length, Option, Some, None, refl, sym, ap, subst, ◌∙◌, append_assoc, arith, inl, inr, ⊎_elim, option_and_then, ◌⊎◌, append-nil, length-append}
 use Rattle.std.specs.List.{AllByRecursion}
 use Rattle.std.proofs.lemmas.Option.{same_Some}
-use Rattle.std.proofs.lemmas.List.{append-nil, length-append}
-use Rattle.pi_base.specs.declared.phase.Phase.{Phase}
-use Rattle.depex_code.specs.declared.instruction.Instruction.{Instruction}
-use Rattle.depex_code.specs.declared.depex.Depex.{Depex}
-use Rattle.depex_code.specs.Instruction.{instruction_bytes, IsWhole}
+use Rattle.pi_base.specs.{declared.phase.Phase.Phase, Lists.Begins}
+use Rattle.depex_code.specs.{declared.instruction.Instruction.Instruction, declared.depex.Depex.Depex}
+use Rattle.depex_code.specs.{Instruction.instruction_bytes, Instruction.IsWhole, Reading.instruction_at}
 use Rattle.depex_code.specs.Expression.{instructions, IsOfPhase, GoesOn, bytes_of, Reads, IsMalformed}
-use Rattle.pi_base.specs.Lists.{Begins}
-use Rattle.depex_code.specs.Reading.{instruction_at}
-use Rattle.depex_code.proofs.Instructions.{instruction_again}
-use Rattle.depex_code.proofs.TreeWalk.{bytes_of-append}
+use Rattle.depex_code.proofs.{Instructions.instruction_again, TreeWalk.bytes_of-append}
 use Rattle.depex_code.proofs.Machine.{State, start, done, runs, runs-append, runs-instructions}
 
 -- one of two lists is the front of the other

@@ -1,21 +1,14 @@
 -- What was read is an expression, and what was refused is malformed.
-use Rattle.std.proofs.Common.{◌≡◌, ◌≢◌, ℕ, ◌+◌, ◌-◌, ◌≤◌, Bool, true, false, List, [], ◌∷◌, ◌++◌, length, map, Option, Some, None, Result, Ok, Err, refl, sym, ap, subst, ◌∙◌, append_assoc, arith, inl, inr, ⊎_elim}
-use Rattle.std.specs.Prelude.{option_map, ◌⊎◌, ⊤, IfOk, IfErr}
-use Rattle.std.specs.List.{AllByRecursion}
-use Rattle.std.proofs.lemmas.Option.{same_Some}
-use Rattle.std.proofs.lemmas.List.{append-nil, append_cancel_left, length-append, length-map}
-use Rattle.pi_base.specs.declared.phase.Phase.{Phase}
-use Rattle.pi_base.specs.declared.phase.Phase.TheVariants.{Pei, Dxe}
-use Rattle.depex_code.specs.declared.opcode.Opcode.{Opcode}
-use Rattle.depex_code.specs.declared.instruction.Instruction.{Instruction}
+use Rattle.std.proofs.Common.{◌≡◌, ◌≢◌, ℕ, ◌+◌, ◌-◌, ◌≤◌, Bool, true, false, List, [], ◌∷◌, ◌++◌, length, map, Option, Some, None, Result, Ok, Err, refl, sym, ap, subst, ◌∙◌, append_assoc, arith, inl, inr, ⊎_elim, option_map, ◌⊎◌, IfOk, IfErr, append-nil, length-append}
+use Rattle.std.specs.{Prelude.⊤, List.AllByRecursion}
+use Rattle.std.proofs.{lemmas.Option.same_Some, lemmas.List.append_cancel_left, lemmas.List.length-map}
+use Rattle.pi_base.specs.{declared.phase.Phase.Phase, declared.phase.Phase.TheVariants.Pei, declared.phase.Phase.TheVariants.Dxe}
+use Rattle.depex_code.specs.{declared.opcode.Opcode.Opcode, declared.instruction.Instruction.Instruction, declared.depex.Depex.Depex}
 use Rattle.depex_code.specs.declared.instruction.Instruction.TheVariants as instruction
-use Rattle.depex_code.specs.declared.depex.Depex.{Depex}
 use Rattle.depex_code.specs.declared.depex.Depex.TheVariants as depex
 use Rattle.depex_code.specs.declared.fault.DepexFault.{DepexFault}
 use Rattle.depex_code.specs.declared.fault.DepexFault.TheVariants.{Malformed, Memory}
-use Rattle.depex_code.specs.Tree.{DepexTree, postfix}
-use Rattle.depex_code.specs.TreeCode.{stack_after}
-use Rattle.depex_code.specs.Instruction.{instruction_bytes, IsWhole}
+use Rattle.depex_code.specs.{Tree.DepexTree, Tree.postfix, TreeCode.stack_after, Instruction.instruction_bytes, Instruction.IsWhole}
 use Rattle.depex_code.specs.Expression.{instructions, sor_front, GoesOn, bytes_of, Reads, IsMalformed, IsRefused}
 use Rattle.pi_base.specs.Lists.{Begins}
 use Rattle.depex_code.specs.Reading.{instruction_at, Blocks, IsStuck, IsTreeRead, IsTreeDepex, IsBeside, from_of}

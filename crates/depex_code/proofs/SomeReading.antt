@@ -1,21 +1,14 @@
 -- Bytes have a reading in each phase: a tree's opcodes are read one after another without want of memory.
 use Rattle.std.proofs.Common.{◌≡◌, ◌≢◌, ◌⊎◌, inl, inr, ℕ, zero, suc, ◌+◌, ◌-◌, ◌==◌, Bool, true, false, List, [], ◌∷◌, ◌++◌, length, Option, Some, None, Ok, Err, refl, sym, ap, ◌∙◌, arith, true≢false}
-use Rattle.std.proofs.lemmas.Bool.Decides.{nat_tests}
-use Rattle.std.proofs.lemmas.List.{length_push}
-use Rattle.pi_base.specs.declared.phase.Phase.{Phase}
-use Rattle.pi_base.specs.declared.phase.Phase.TheVariants.{Pei, Dxe}
-use Rattle.depex_code.specs.declared.opcode.Opcode.{Opcode}
-use Rattle.depex_code.specs.declared.instruction.Instruction.{Instruction}
+use Rattle.std.proofs.{lemmas.Bool.Decides.nat_tests, lemmas.List.length_push}
+use Rattle.pi_base.specs.{declared.phase.Phase.Phase, declared.phase.Phase.TheVariants.Pei, declared.phase.Phase.TheVariants.Dxe}
+use Rattle.depex_code.specs.{declared.opcode.Opcode.Opcode, declared.instruction.Instruction.Instruction, declared.depex.Depex.Depex}
 use Rattle.depex_code.specs.declared.instruction.Instruction.TheVariants as instruction
-use Rattle.depex_code.specs.declared.depex.Depex.{Depex}
 use Rattle.depex_code.specs.declared.depex.Depex.TheVariants as depex
-use Rattle.depex_code.specs.declared.fault.DepexFault.TheVariants.{Malformed}
-use Rattle.depex_code.specs.Tree.{DepexTree}
-use Rattle.depex_code.specs.Depth.{depth_after}
+use Rattle.depex_code.specs.{declared.fault.DepexFault.TheVariants.Malformed, Tree.DepexTree, Depth.depth_after}
 use Rattle.depex_code.specs.Expression.{bytes_of, sor_front, Reads, IsMalformed}
 use Rattle.depex_code.specs.Reading.{instruction_at, BlocksAt, IsStuck, IsTreeRead, from_of}
-use Rattle.depex_code.proofs.Instructions.{instruction_takes}
-use Rattle.depex_code.proofs.Machine.{MayBe}
+use Rattle.depex_code.proofs.{Instructions.instruction_takes, Machine.MayBe}
 use Rattle.depex_code.proofs.TreeWalk.{HasRead, none_read, more_read, tree_read, is_read, is_stuck}
 use Rattle.depex_code.proofs.Outcomes.{IsNamed, StartsTree, named_is, tree_is, nothing_is, first_is}
 

@@ -1,13 +1,10 @@
 -- Stacks of trees: what opcodes leave on one, and what a stack spells.
-use Rattle.std.proofs.Common.{◌≡◌, suc, List, [], ◌∷◌, ◌++◌, length, Option, Some, None, refl, sym, ap, ◌∙◌, append_assoc, arith}
-use Rattle.std.specs.Prelude.{option_map, option_and_then}
-use Rattle.std.proofs.lemmas.List.{append-nil}
+use Rattle.std.proofs.Common.{◌≡◌, suc, List, [], ◌∷◌, ◌++◌, length, Option, Some, None, refl, sym, ap, ◌∙◌, append_assoc, arith, option_map, option_and_then, append-nil}
 use Rattle.std.proofs.lemmas.Bool.Decides.{nat_tests}
-use Rattle.depex_code.specs.declared.opcode.Opcode.{Opcode}
+use Rattle.depex_code.specs.{declared.opcode.Opcode.Opcode, Depth.depth_after}
 use Rattle.depex_code.specs.declared.opcode.Opcode.TheVariants as opcode
 use Rattle.depex_code.specs.Tree.{DepexTree, Push, Not, And, Or, True, False, postfix}
 use Rattle.depex_code.specs.TreeCode.{built, stack_after, tree_of, alone, stack_after-postfix, tree_of-postfix}
-use Rattle.depex_code.specs.Depth.{depth_after}
 
 -- the opcodes of the trees on a stack, the lowest first
 abbrev pub spelled : List DepexTree → List Opcode

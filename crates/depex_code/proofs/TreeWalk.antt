@@ -1,21 +1,15 @@
 -- Reading the opcodes of a tree, one after the other.
-use Rattle.std.proofs.Common.{Bool, true, false, cond, ltb, ◌≡◌, ℕ, ◌+◌, ◌-◌, ◌*◌, ◌<◌, ◌≤◌, List, [], ◌∷◌, ◌++◌, length, map, Option, Some, None, refl, sym, ap, ◌∙◌, append_assoc, arith, inl, inr, ⊎_elim}
-use Rattle.std.specs.Prelude.{option_map, option_and_then, ◌⊎◌}
+use Rattle.std.proofs.Common.{Bool, true, false, cond, ltb, ◌≡◌, ℕ, ◌+◌, ◌-◌, ◌*◌, ◌<◌, ◌≤◌, List, [], ◌∷◌, ◌++◌, length, map, Option, Some, None, refl, sym, ap, ◌∙◌, append_assoc, arith, inl, inr, ⊎_elim, option_map, option_and_then, ◌⊎◌, append-nil, length-append}
 use Rattle.std.specs.List.{AllByRecursion}
 use Rattle.std.proofs.lemmas.Option.{same_Some}
 use Rattle.depex_code.specs.declared.opcode.Opcode.TheVariants as opcode
-use Rattle.std.proofs.lemmas.List.{append-nil, length-append, length_push, length-map, map_push}
-use Rattle.depex_code.specs.declared.opcode.Opcode.{Opcode}
-use Rattle.depex_code.specs.declared.instruction.Instruction.{Instruction}
+use Rattle.std.proofs.lemmas.List.{length_push, length-map, map_push}
+use Rattle.depex_code.specs.{declared.opcode.Opcode.Opcode, declared.instruction.Instruction.Instruction, Tree.DepexTree, Tree.postfix}
 use Rattle.depex_code.specs.declared.instruction.Instruction.TheVariants as instruction
-use Rattle.depex_code.specs.Tree.{DepexTree, postfix}
-use Rattle.depex_code.specs.TreeCode.{built, stack_after}
-use Rattle.depex_code.specs.Depth.{depth_after}
-use Rattle.depex_code.specs.Instruction.{instruction_bytes, IsWhole}
+use Rattle.depex_code.specs.{TreeCode.built, TreeCode.stack_after, Depth.depth_after, Instruction.instruction_bytes, Instruction.IsWhole}
 use Rattle.depex_code.specs.Expression.{bytes_of}
 use Rattle.depex_code.specs.Reading.{instruction_at, IsStuck, IsTreeRead, Blocks, BlocksAt}
-use Rattle.depex_code.proofs.Stacks.{depth-built, spelled-after}
-use Rattle.depex_code.proofs.Instructions.{instruction_takes, length-bytes_of}
+use Rattle.depex_code.proofs.{Stacks.depth-built, Stacks.spelled-after, Instructions.instruction_takes, Instructions.length-bytes_of}
 
 -- these opcodes were read, and this is left
 pub record HasRead (bytes : List ℕ) (code : List Opcode) (depth : ℕ) (rest : List ℕ) : Type 0 where

@@ -1,9 +1,7 @@
 -- Going over the opcodes of trees, with the stack so far.
 use Rattle.std.proofs.Common.{◌≡◌, ℕ, ◌≤◌, Bool, List, [], ◌∷◌, map, drop, length, Some}
 use Rattle.pi_base.specs.declared.guid.Guid.{Guid}
-use Rattle.depex_code.specs.declared.opcode.Opcode.{Opcode}
-use Rattle.depex_code.specs.Tree.{DepexTree, truth}
-use Rattle.depex_code.specs.TreeCode.{stack_after, tree_of}
+use Rattle.depex_code.specs.{declared.opcode.Opcode.Opcode, Tree.DepexTree, Tree.truth, TreeCode.stack_after, TreeCode.tree_of}
 
 -- the first i opcodes left so many trees
 pub record IsAt (code : List Opcode) (i depth : ℕ) : Type 0 where

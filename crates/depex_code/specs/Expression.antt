@@ -1,15 +1,11 @@
 -- Dependency expressions and their spellings (PI 1.8, volume 1, "Dependency Expression Grammar", and volume 2 for BEFORE, AFTER and SOR).
-use Rattle.std.specs.Prelude.{◌≡◌, ℕ, ◌≤◌, Bool, true, false, ⊤, List, [], ◌∷◌, ◌++◌, length, map, ◌⊎◌}
-use Rattle.std.specs.List.{flat_map, AllByRecursion}
-use Rattle.pi_base.specs.declared.phase.Phase.{Phase}
-use Rattle.pi_base.specs.declared.phase.Phase.TheVariants.{Pei, Dxe}
-use Rattle.depex_code.specs.declared.instruction.Instruction.{Instruction}
+use Rattle.std.specs.Prelude.{◌≡◌, ℕ, ◌≤◌, Bool, true, false, ⊤, List, [], ◌∷◌, ◌++◌, length, map, ◌⊎◌, flat_map}
+use Rattle.std.specs.List.{AllByRecursion}
+use Rattle.pi_base.specs.{declared.phase.Phase.Phase, declared.phase.Phase.TheVariants.Pei, declared.phase.Phase.TheVariants.Dxe}
+use Rattle.depex_code.specs.{declared.instruction.Instruction.Instruction, declared.depex.Depex.Depex, declared.fault.DepexFault.DepexFault}
 use Rattle.depex_code.specs.declared.instruction.Instruction.TheVariants as instruction
-use Rattle.depex_code.specs.declared.depex.Depex.{Depex}
 use Rattle.depex_code.specs.declared.depex.Depex.TheVariants as depex
-use Rattle.depex_code.specs.declared.fault.DepexFault.{DepexFault}
-use Rattle.depex_code.specs.declared.fault.DepexFault.TheVariants.{Malformed, Memory}
-use Rattle.depex_code.specs.Tree.{postfix}
+use Rattle.depex_code.specs.{declared.fault.DepexFault.TheVariants.Malformed, declared.fault.DepexFault.TheVariants.Memory, Tree.postfix}
 use Rattle.depex_code.specs.Instruction.{instruction_bytes, IsWhole}
 use Rattle.pi_base.specs.Lists.{Begins}
 

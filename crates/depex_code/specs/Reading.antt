@@ -1,24 +1,15 @@
 -- Reading from left to right: one opcode, and a tree up to its END.
 use Rattle.std.specs.Prelude.{◌≡◌, ◌≢◌, ℕ, ◌+◌, ◌-◌, ◌≤◌, Bool, true, false, Result, Ok, Err, ◌<◌, ⊤, List, [], ◌∷◌, ◌++◌, length, drop, map, Option, Some, None, option_map, nat_lt, ◌==◌, if◌then◌else◌, ◌⊎◌}
 use Rattle.std.specs.List.{AllByRecursion}
-use Rattle.pi_base.specs.declared.guid.Guid.{Guid}
-use Rattle.pi_base.specs.Guids.{guid_at}
-use Rattle.depex_code.specs.declared.opcode.Opcode.{Opcode}
+use Rattle.pi_base.specs.{declared.guid.Guid.Guid, Guids.guid_at, Lists.Begins}
+use Rattle.depex_code.specs.{declared.opcode.Opcode.Opcode, declared.instruction.Instruction.Instruction, declared.depex.Depex.Depex}
 use Rattle.depex_code.specs.declared.opcode.Opcode.TheVariants as opcode
-use Rattle.depex_code.specs.declared.instruction.Instruction.{Instruction}
 use Rattle.depex_code.specs.declared.instruction.Instruction.TheVariants as instruction
-use Rattle.depex_code.specs.declared.depex.Depex.{Depex}
-use Rattle.depex_code.specs.declared.depex.Depex.TheVariants.{Expr}
-use Rattle.depex_code.specs.declared.fault.DepexFault.{DepexFault}
+use Rattle.depex_code.specs.{declared.depex.Depex.TheVariants.Expr, declared.fault.DepexFault.DepexFault}
 use Rattle.depex_code.specs.declared.fault.DepexFault.TheVariants.{Malformed, Memory}
-use Rattle.depex_code.specs.declared.reading.Turn.{Turn}
+use Rattle.depex_code.specs.{declared.reading.Turn.Turn, Depth.depth_after, Tree.DepexTree, Tree.postfix}
 use Rattle.depex_code.specs.declared.reading.Turn.TheVariants as turn
-use Rattle.depex_code.specs.Depth.{depth_after}
-use Rattle.depex_code.specs.Tree.{DepexTree, postfix}
-use Rattle.depex_code.specs.TreeCode.{built, stack_after}
-use Rattle.depex_code.specs.Instruction.{IsWhole}
-use Rattle.depex_code.specs.Expression.{bytes_of}
-use Rattle.pi_base.specs.Lists.{Begins}
+use Rattle.depex_code.specs.{TreeCode.built, TreeCode.stack_after, Instruction.IsWhole, Expression.bytes_of}
 
 -- the GUID at the front, and the bytes behind it
 abbrev pub guid_front : List ℕ → Option (Guid × List ℕ)

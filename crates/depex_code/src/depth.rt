@@ -1,8 +1,6 @@
 // How many values the opcodes of trees leave.
 ghost use Rattle.std.specs.Prelude.{◌≡◌, ◌<◌, ◌+◌, ◌^◌, ◌↔◌, [], length, option_map, IsTrue};
-ghost use Rattle.depex_code.specs.Depth.{depth_after};
-ghost use Rattle.depex_code.specs.Tree.{postfix};
-ghost use Rattle.depex_code.specs.TreeCode.{stack_after, tree_of};
+ghost use Rattle.depex_code.specs.{Depth.depth_after, Tree.postfix, TreeCode.stack_after, TreeCode.tree_of};
 
 use crate::opcode::Opcode;
 

@@ -1,9 +1,7 @@
 // Laws of expressions and trees.
 ghost use Rattle.std.specs.Prelude.{◌≡◌, ◌⊎◌, ℕ, List};
 ghost use Rattle.pi_base.specs.declared.phase.Phase.{Phase};
-ghost use Rattle.depex_code.specs.declared.depex.Depex.{Depex};
-ghost use Rattle.depex_code.specs.Tree.{DepexTree, postfix};
-ghost use Rattle.depex_code.specs.Expression.{Reads, IsMalformed};
+ghost use Rattle.depex_code.specs.{declared.depex.Depex.Depex, Tree.DepexTree, Tree.postfix, Expression.Reads, Expression.IsMalformed};
 
 /// Bytes have one outcome in a phase: one expression is read from them or they are malformed at one offset, and never both.
 pub fn one_reading()

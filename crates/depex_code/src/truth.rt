@@ -1,8 +1,6 @@
 // Whether a tree holds: its opcodes are taken in order, over a stack of values.
 ghost use Rattle.std.specs.Prelude.{◌≡◌, ◌<◌, ◌≤◌, Some, IsSome, length};
-ghost use Rattle.depex_code.specs.Depth.{values_after};
-ghost use Rattle.depex_code.specs.Tree.{postfix, truth};
-ghost use Rattle.depex_code.specs.TreeCode.{tree_of};
+ghost use Rattle.depex_code.specs.{Depth.values_after, Tree.postfix, Tree.truth, TreeCode.tree_of};
 
 use crate::opcode::Opcode;
 use crate::set::GuidSet;

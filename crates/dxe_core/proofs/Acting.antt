@@ -1,35 +1,22 @@
 -- The next action of the top frame, where fuel is left.
-use Rattle.std.proofs.Common.{◌≡◌, ℕ, zero, suc, ◌+◌, ◌-◌, ◌^◌, ◌<◌, Bool, true, false, cond, List, [], ◌∷◌, ◌++◌, refl, sym, ap, ◌∙◌, subst, Option, Some, None, nat_le, arith}
-use Rattle.std.specs.Option.{option_and_then}
-use Rattle.std.specs.Prelude.{slice_get, unwrap_or}
+use Rattle.std.proofs.Common.{◌≡◌, ℕ, zero, suc, ◌+◌, ◌-◌, ◌^◌, ◌<◌, Bool, true, false, cond, List, [], ◌∷◌, ◌++◌, refl, sym, ap, ◌∙◌, subst, Option, Some, None, nat_le, arith, option_and_then, slice_get, unwrap_or, append-nil}
 use Rattle.std.proofs.lemmas.Bool.Decides.{nat_tests}
-use Rattle.std.proofs.lemmas.List.{append-nil}
-use Rattle.pi_base.specs.declared.phase.Phase.TheVariants.{Dxe}
-use Rattle.pi_base.specs.declared.word.Word.TheVariants.{Success}
-use Rattle.act_code.specs.declared.action.Action.{Action}
-use Rattle.act_code.specs.declared.action.Action.TheVariants.{Ret}
+use Rattle.pi_base.specs.{declared.phase.Phase.TheVariants.Dxe, declared.word.Word.TheVariants.Success}
+use Rattle.act_code.specs.{declared.action.Action.Action, declared.action.Action.TheVariants.Ret}
 use Rattle.mod_catalog.specs.declared.catalogue.Catalog.{Catalog}
-use Rattle.boot_model.specs.declared.driver.ProtocolSweep.{ProtocolSweep}
-use Rattle.boot_model.specs.declared.line.Line.{Line}
+use Rattle.boot_model.specs.{declared.driver.ProtocolSweep.ProtocolSweep, declared.line.Line.Line}
 use Rattle.boot_model.specs.declared.phase_end.DxeEnd.TheVariants as E
 use Rattle.boot_model.specs.DxeAction.{DxeReply, dxe_effect, own_dxe_effect}
 use Rattle.boot_model.specs.DxeMachine.{DriverFrame, DxeMachine}
 use Rattle.boot_model.specs.DxeStep.{DxeActs, after_dxe_effect, dxe_acted, dxe_action_at, with_action}
 use Rattle.boot_model.specs.EvaluationBound.{changed_protocols, dxe_action_guids, dxe_case_guids, is_dxe_called}
 use Rattle.boot_laws.specs.UnrequestedDrivers.{WaitForRequest}
-use Rattle.dxe_core.specs.Services.{AreCounted, Services}
-use Rattle.phase_parts.specs.Acted.{HasLeft}
-use Rattle.phase_parts.specs.Alike.{AreAlike, as_effect}
+use Rattle.dxe_core.specs.{Services.AreCounted, Services.Services, Event.EventLeaves, Event.quiet, Parts.TakesOwn, Parts.acted_to}
+use Rattle.phase_parts.specs.{Acted.HasLeft, Alike.AreAlike, Alike.as_effect, Found.action_at, Found.found_block}
 use Rattle.phase_parts.specs.Deed.{Deed, Wrote, Logged, Skipped, Returned, frames_after, lines_of}
-use Rattle.phase_parts.specs.Found.{action_at, found_block}
-use Rattle.phase_parts.specs.Spent.{HasSpent, IsSpent}
-use Rattle.phase_parts.specs.Took.{HasDone}
-use Rattle.phase_parts.specs.declared.fuel.Fuel.{Fuel}
-use Rattle.dxe_core.specs.Event.{EventLeaves, quiet}
-use Rattle.dxe_core.specs.Parts.{TakesOwn, acted_to}
+use Rattle.phase_parts.specs.{Spent.HasSpent, Spent.IsSpent, Took.HasDone, declared.fuel.Fuel.Fuel}
 use Rattle.dxe_core.specs.Standing.{DxeCore, IsCoreOf, IsFor}
-use Rattle.dxe_core.proofs.Cases.{quiet_leaves}
-use Rattle.dxe_core.proofs.Fired.{same_services}
+use Rattle.dxe_core.proofs.{Cases.quiet_leaves, Fired.same_services}
 
 -- the action that the frames find is the machine's
 by_block : (block : Option (List Action)) (p : ℕ) → unwrap_or (slice_get (unwrap_or block []) p) (Ret Success) ≡ unwrap_or (option_and_then (λ b. slice_get b p) block) (Ret Success)

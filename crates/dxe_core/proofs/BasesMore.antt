@@ -1,10 +1,7 @@
 -- One base more of those whose volumes are discovered.
-use Rattle.std.proofs.Common.{◌≡◌, ℕ, zero, suc, ◌+◌, ◌<◌, List, [], ◌∷◌, ◌++◌, length, drop, get_or, Option, Some, None, refl, sym, subst, ap, ◌∙◌, arith, append_assoc}
-use Rattle.std.proofs.lemmas.List.{append-nil}
-use Rattle.mod_catalog.specs.declared.catalogue.Catalog.{Catalog}
-use Rattle.mod_catalog.specs.Parts.{volume_at}
-use Rattle.boot_model.specs.Discovery.{discoveries}
-use Rattle.boot_model.specs.Reporting.{newcomers}
+use Rattle.std.proofs.Common.{◌≡◌, ℕ, zero, suc, ◌+◌, ◌<◌, List, [], ◌∷◌, ◌++◌, length, drop, get_or, Option, Some, None, refl, sym, subst, ap, ◌∙◌, arith, append_assoc, append-nil}
+use Rattle.mod_catalog.specs.{declared.catalogue.Catalog.Catalog, Parts.volume_at}
+use Rattle.boot_model.specs.{Discovery.discoveries, Reporting.newcomers}
 use Rattle.dxe_core.specs.Order.{Drivers, IsOrderOf}
 
 -- the order is that of the volumes so far, and with those of these bases they make the whole

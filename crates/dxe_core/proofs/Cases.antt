@@ -1,29 +1,19 @@
 -- Which case of a step applies, and what the step's answer then says.
-use Rattle.std.proofs.Common.{◌≡◌, ℕ, Bool, true, false, Bor, List, [], ◌∷◌, ◌++◌, Option, Some, None, refl, sym, ap, ◌∙◌, subst, Result, Ok, Err}
-use Rattle.std.specs.Prelude.{◌↔◌, is_none, is_some, IfSome, IsTrue, not, option_copied}
-use Rattle.std.specs.Option.{option_to_list}
-use Rattle.std.proofs.lemmas.List.{append-nil}
+use Rattle.std.proofs.Common.{◌≡◌, ℕ, Bool, true, false, Bor, List, [], ◌∷◌, ◌++◌, Option, Some, None, refl, sym, ap, ◌∙◌, subst, Result, Ok, Err, ◌↔◌, is_none, is_some, IfSome, IsTrue, not, option_copied, option_to_list, append-nil}
 use Rattle.boot_io.specs.declared.halt.Halt.{Halt}
-use Rattle.mod_catalog.specs.declared.catalogue.Catalog.{Catalog}
-use Rattle.mod_catalog.specs.Parts.{has_number}
+use Rattle.mod_catalog.specs.{declared.catalogue.Catalog.Catalog, Parts.has_number}
 use Rattle.store_model.specs.StoreState.{StoreState}
-use Rattle.boot_model.specs.declared.driver.ProtocolNote.{ProtocolNote}
-use Rattle.boot_model.specs.declared.driver.ProtocolSweep.{ProtocolSweep}
-use Rattle.boot_model.specs.declared.phase_end.DxeEnd.{DxeEnd}
-use Rattle.boot_model.specs.DxeChoice.{a_priori_drivers, drivers_of}
-use Rattle.boot_model.specs.DxeMachine.{DxeMachine, DriverFrame}
+use Rattle.boot_model.specs.{declared.driver.ProtocolNote.ProtocolNote, declared.driver.ProtocolSweep.ProtocolSweep}
+use Rattle.boot_model.specs.{declared.phase_end.DxeEnd.DxeEnd, DxeChoice.a_priori_drivers, DxeChoice.drivers_of}
+use Rattle.boot_model.specs.{DxeMachine.DxeMachine, DxeMachine.DriverFrame, EvaluationBound.dxe_case_guids}
 use Rattle.boot_model.specs.DxeStep.{DxeCase, DxeFires, DxeActs, dxe_case_in, dxe_case_of, dxe_step, in_dxe_case}
 use Rattle.boot_laws.specs.ChangedGuids.{is_among}
 use Rattle.phase_parts.specs.Frames.{top_of}
-use Rattle.boot_model.specs.EvaluationBound.{dxe_case_guids}
-use Rattle.dxe_core.specs.declared.event.Event.{Event}
-use Rattle.dxe_core.specs.declared.stepped.Stepped.{Stepped}
+use Rattle.dxe_core.specs.{declared.event.Event.Event, declared.stepped.Stepped.Stepped, Event.EventLeaves, Event.quiet}
 use Rattle.dxe_core.specs.declared.stepped.Stepped.TheVariants.{Went, Idle, Ended}
-use Rattle.dxe_core.specs.Event.{EventLeaves, quiet}
 use Rattle.dxe_core.specs.Parts.{FiresNext, GoesOnWith, next_of_top}
-use Rattle.dxe_core.specs.Standing.{DxeCore, StandsFor}
+use Rattle.dxe_core.specs.{Standing.DxeCore, Standing.StandsFor, Turn.PrintedPart}
 use Rattle.dxe_core.specs.Steps.{HasOver, IsAsBefore, HasStepped, IsCut, IsIdle, StepsTo}
-use Rattle.dxe_core.specs.Turn.{PrintedPart}
 use Rattle.boot_trace.specs.Printing.{Texts}
 use Rattle.dxe_core.proofs.ProtocolChanges.{protocols_change}
 

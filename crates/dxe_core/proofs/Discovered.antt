@@ -1,27 +1,19 @@
 -- A volume that is processed, and bytes that are read.
-use Rattle.std.proofs.Common.{◌≡◌, ℕ, List, Bool, false, true, refl, ap, sym, subst, ◌∙◌, ◌++◌, [], length, Option, Some, None}
-use Rattle.std.specs.Prelude.{if◌then◌else◌}
-use Rattle.pi_base.specs.declared.guid.Guid.{Guid}
-use Rattle.pi_base.specs.declared.word.Word.TheVariants.{AlreadyStarted, NotFound}
+use Rattle.std.proofs.Common.{◌≡◌, ℕ, List, Bool, false, true, refl, ap, sym, subst, ◌∙◌, ◌++◌, [], length, Option, Some, None, if◌then◌else◌}
+use Rattle.pi_base.specs.{declared.guid.Guid.Guid, declared.word.Word.TheVariants.AlreadyStarted, declared.word.Word.TheVariants.NotFound}
 use Rattle.act_code.specs.declared.action.Action.TheVariants as A
-use Rattle.mod_catalog.specs.declared.catalogue.Catalog.{Catalog}
-use Rattle.mod_catalog.specs.Parts.{has_number, volume_at}
+use Rattle.mod_catalog.specs.{declared.catalogue.Catalog.Catalog, Parts.has_number, Parts.volume_at}
 use Rattle.store_model.specs.MemoryReading.{bytes_at}
 use Rattle.boot_model.specs.declared.line.CallName.TheVariants as C
 use Rattle.boot_model.specs.declared.line.Extra.TheVariants as X
-use Rattle.boot_model.specs.Registers.{is_success, number_in}
-use Rattle.boot_model.specs.Reporting.{newcomers}
-use Rattle.boot_model.specs.DxeMachine.{DxeMachine, DriverFrame}
+use Rattle.boot_model.specs.{Registers.is_success, Registers.number_in, Reporting.newcomers, DxeMachine.DxeMachine, DxeMachine.DriverFrame}
 use Rattle.boot_model.specs.DxeAction.{DxeEffect, Called, own_dxe_effect, dxe_call_where, dxe_refusal, dxe_told, dxe_where, peek_reply, process_reply, process_volume, processed, with_volumes}
-use Rattle.dxe_core.specs.Order.{Drivers, IsOrderOf}
+use Rattle.dxe_core.specs.{Order.Drivers, Order.IsOrderOf, declared.reply.Reply.Reply, Event.EventLeaves, Event.discovers}
 use Rattle.phase_parts.specs.declared.registers.Writes.TheVariants as W
 use Rattle.phase_parts.specs.declared.reading.Answer.{Answer}
 use Rattle.phase_parts.specs.Peeked.{peeked, told_at, told_bytes}
-use Rattle.dxe_core.specs.declared.reply.Reply.{Reply}
 use Rattle.dxe_core.specs.Answered.{answered, did, refusal, told}
-use Rattle.dxe_core.specs.Event.{EventLeaves, discovers}
-use Rattle.dxe_core.specs.Reply.{IsReply, reply_in}
-use Rattle.dxe_core.specs.Services.{Services, AreServicesOf}
+use Rattle.dxe_core.specs.{Reply.IsReply, Reply.reply_in, Services.Services, Services.AreServicesOf}
 use Rattle.dxe_core.proofs.Replying.{none_more, refuses, unchanged}
 
 processes : (catalog : Catalog) (m : DxeMachine) (frame : DriverFrame) (v base volume : ℕ) → number_in frame.registers v ≡ Some base → volume_at catalog base ≡ Some volume

@@ -1,21 +1,15 @@
 -- What a service does by what was found: its row, and that it keeps the facts.
-use Rattle.std.proofs.Common.{◌≡◌, ℕ, ◌≤◌, ◌==◌, true, false, List, [], ◌∷◌, Option, Some, None, Ok, Err, refl, sym, ap, ◌∙◌, subst, get_or, is_some, option_map}
-use Rattle.std.specs.Prelude.{Result, IsErr, IsOk, IsErrAnd, find, slice_set, slice_get}
+use Rattle.std.proofs.Common.{◌≡◌, ℕ, ◌≤◌, ◌==◌, true, false, List, [], ◌∷◌, Option, Some, None, Ok, Err, refl, sym, ap, ◌∙◌, subst, get_or, is_some, option_map, Result, IsErr, IsOk, IsErrAnd, find, slice_set, slice_get}
 use Rattle.std.specs.List.{list_any}
-use Rattle.pi_base.specs.declared.guid.Guid.{Guid}
-use Rattle.pi_base.specs.Guids.{same_guid}
-use Rattle.store_model.specs.declared.interface.Interface.{Interface}
+use Rattle.pi_base.specs.{declared.guid.Guid.Guid, Guids.same_guid}
+use Rattle.store_model.specs.{declared.interface.Interface.Interface, HandleFacts.IsHandleState, HandleFacts.Keeps}
 use Rattle.store_model.specs.HandleState.{HandleState, HandleService, change_of, is_live, is_on, is_on_with, placed, with_value, without, install_on, reinstall_interface, uninstall_interface, locate_handle}
-use Rattle.store_model.specs.HandleFacts.{IsHandleState, Keeps}
 use Rattle.store_model.proofs.HandleFacts.{facts_are_kept}
-use Rattle.dxe_core.specs.declared.database.fault.HandleFault.{HandleFault}
+use Rattle.dxe_core.specs.{declared.database.fault.HandleFault.HandleFault, Index.handles_with, Rows.IsRow}
 use Rattle.dxe_core.specs.declared.database.fault.HandleFault.TheVariants as F
-use Rattle.dxe_core.specs.Index.{handles_with}
 use Rattle.dxe_core.specs.Places.{IsStretch, IsFirst, IsPlaceOn, IsPlaceWith}
-use Rattle.dxe_core.specs.Rows.{IsRow}
-use Rattle.dxe_core.proofs.Stretches.{live, less_by}
+use Rattle.dxe_core.proofs.{Stretches.live, Stretches.less_by, HandlesWith.found_by_head, HandlesWith.none_there}
 use Rattle.dxe_core.proofs.Firsts.{both_of, is_handle, first_any, first_at, first_found, none_found, valued}
-use Rattle.dxe_core.proofs.HandlesWith.{found_by_head, none_there}
 use Rattle.dxe_core.proofs.HandleRows.{install_done, change_dead, change_done, change_missing}
 
 -- what a place tells

@@ -1,14 +1,12 @@
 -- The core after a notification has begun.
 use Rattle.std.proofs.Common.{◌≡◌, Bool, true, false, cond, List, ◌∷◌, Some, refl, sym, ap, ◌∙◌, subst, nat_le, not, length}
 use Rattle.mod_catalog.specs.declared.catalogue.Catalog.{Catalog}
-use Rattle.boot_model.specs.declared.driver.ProtocolNote.{ProtocolNote}
-use Rattle.boot_model.specs.declared.driver.ProtocolSweep.{ProtocolSweep}
+use Rattle.boot_model.specs.{declared.driver.ProtocolNote.ProtocolNote, declared.driver.ProtocolSweep.ProtocolSweep}
 use Rattle.boot_model.specs.declared.phase_end.DxeEnd.TheVariants.{Deep}
 use Rattle.boot_model.specs.DxeMachine.{DxeMachine, DriverFrame, protocol_frame}
 use Rattle.boot_model.specs.DxeStep.{dxe_fired, protocol_begun, swept}
 use Rattle.dxe_core.specs.Services.{AreFlags, AreServicesOf, Services}
-use Rattle.dxe_core.specs.Order.{IsOrderOf}
-use Rattle.dxe_core.specs.Standing.{DxeCore, IsCoreOf}
+use Rattle.dxe_core.specs.{Order.IsOrderOf, Standing.DxeCore, Standing.IsCoreOf}
 
 -- the services of a machine are those of another that has the same
 pub same_services : (catalog : Catalog) (m later : DxeMachine) (s : Services) → later.handles ≡ m.handles → later.notes ≡ m.notes → later.discovered ≡ m.discovered → later.requested ≡ m.requested

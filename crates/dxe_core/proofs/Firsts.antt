@@ -1,16 +1,11 @@
 -- The first item that passes a test: what is found there, and what a change of it makes.
-use Rattle.std.proofs.Common.{◌≡◌, ℕ, zero, suc, ◌<◌, ◌≤◌, ◌==◌, Bool, true, false, ◌&&◌, ◌||◌, cond, List, [], ◌∷◌, length, get_or, Some, None, refl, sym, ap, ◌∙◌, arith}
-use Rattle.std.specs.Prelude.{find, remove, slice_set}
+use Rattle.std.proofs.Common.{◌≡◌, ℕ, zero, suc, ◌<◌, ◌≤◌, ◌==◌, Bool, true, false, ◌&&◌, ◌||◌, cond, List, [], ◌∷◌, length, get_or, Some, None, refl, sym, ap, ◌∙◌, arith, find, remove, slice_set}
 use Rattle.std.specs.List.{list_any}
-use Rattle.std.proofs.lemmas.Bool.Decides.{nat_tests}
-use Rattle.std.proofs.lemmas.Slice.Eq.{bytes_eq-Decides}
-use Rattle.pi_base.specs.declared.guid.Guid.{Guid}
-use Rattle.pi_base.specs.Guids.{same_guid}
-use Rattle.pi_base.specs.Lists.{Each, Ordered}
+use Rattle.std.proofs.{lemmas.Bool.Decides.nat_tests, lemmas.Slice.Eq.bytes_eq-Decides}
+use Rattle.pi_base.specs.{declared.guid.Guid.Guid, Guids.same_guid, Lists.Each, Lists.Ordered}
 use Rattle.pi_base.proofs.ListFacts.{each_more}
-use Rattle.store_model.specs.declared.interface.Interface.{Interface}
+use Rattle.store_model.specs.{declared.interface.Interface.Interface, HandleFacts.AreOfOthers}
 use Rattle.store_model.specs.HandleState.{is_on, is_on_with, with_value, without}
-use Rattle.store_model.specs.HandleFacts.{AreOfOthers}
 use Rattle.dxe_core.specs.Places.{IsStretch, IsFirst}
 
 -- it is within the list, and is found

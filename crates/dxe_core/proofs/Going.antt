@@ -1,21 +1,13 @@
 -- What a part of a step leaves, from what its pieces put.
-use Rattle.std.proofs.Common.{◌≡◌, ℕ, List, [], ◌∷◌, ◌++◌, refl, sym, ap, ◌∙◌, subst, Option, Result, Ok, Err}
-use Rattle.std.specs.Result.{IsErr}
+use Rattle.std.proofs.Common.{◌≡◌, ℕ, List, [], ◌∷◌, ◌++◌, refl, sym, ap, ◌∙◌, subst, Option, Result, Ok, Err, IsErr, append-nil}
 use Rattle.std.specs.Io.KnownBytes.{Appends}
-use Rattle.std.proofs.lemmas.List.{append-nil}
-use Rattle.boot_io.specs.declared.halt.Halt.{Halt}
-use Rattle.boot_io.specs.Sink.{AppendsPart}
+use Rattle.boot_io.specs.{declared.halt.Halt.Halt, Sink.AppendsPart}
 use Rattle.boot_io.proofs.PutsLaws.{appends_none, part_of_more}
 use Rattle.act_code.specs.declared.action.Action.{Action}
 use Rattle.mod_catalog.specs.declared.catalogue.Catalog.{Catalog}
-use Rattle.boot_model.specs.declared.line.Line.{Line}
-use Rattle.boot_model.specs.DxeMachine.{DxeMachine}
-use Rattle.boot_model.specs.DxeStep.{dxe_step}
-use Rattle.boot_model.specs.Text.{line_text, text_of}
-use Rattle.dxe_core.specs.declared.event.Event.{Event}
-use Rattle.dxe_core.specs.declared.stepped.Stepped.{Stepped}
+use Rattle.boot_model.specs.{declared.line.Line.Line, DxeMachine.DxeMachine, DxeStep.dxe_step, Text.line_text, Text.text_of}
+use Rattle.dxe_core.specs.{declared.event.Event.Event, declared.stepped.Stepped.Stepped, Steps.HasStepped, Steps.StepsTo}
 use Rattle.dxe_core.specs.Parts.{TakesOwn, TakesTo, acted_to}
-use Rattle.dxe_core.specs.Steps.{HasStepped, StepsTo}
 use Rattle.dxe_core.specs.Turn.{Printed, PrintedPart}
 use Rattle.boot_trace.specs.Printing.{Texts}
 

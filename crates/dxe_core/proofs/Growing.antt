@@ -1,17 +1,12 @@
 -- A service makes at most one handle and one interface.
-use Rattle.std.proofs.Common.{◌≡◌, ◌≤◌, ◌+◌, ◌||◌, not, ℕ, Bool, true, false, List, [], ◌∷◌, cond, length, Option, Some, None, Result, Ok, Err, refl, subst, arith}
-use Rattle.std.proofs.lemmas.List.{length-append}
-use Rattle.std.specs.Prelude.{IfOk, OnOk, nat_lt}
+use Rattle.std.proofs.Common.{◌≡◌, ◌≤◌, ◌+◌, ◌||◌, not, ℕ, Bool, true, false, List, [], ◌∷◌, cond, length, Option, Some, None, Result, Ok, Err, refl, subst, arith, length-append, IfOk, OnOk, nat_lt}
 use Rattle.std.specs.List.{list_any}
 use Rattle.pi_base.specs.declared.guid.Guid.{Guid}
 use Rattle.pi_base.specs.declared.word.Word.TheVariants as S
 use Rattle.store_model.specs.declared.interface.Interface.{Interface}
 use Rattle.store_model.specs.HandleState.{HandleState, HandleService, change_of, install_interface, is_live, is_on, is_on_with, placed, reinstall_interface, uninstall_interface, with_value, without}
-use Rattle.dxe_core.specs.declared.database.fault.HandleFault.{HandleFault}
+use Rattle.dxe_core.specs.{declared.database.fault.HandleFault.HandleFault, Rows.IsRow, Answered.GrowByOne, Services.Services}
 use Rattle.dxe_core.specs.declared.database.fault.HandleFault.TheVariants as F
-use Rattle.dxe_core.specs.Rows.{IsRow}
-use Rattle.dxe_core.specs.Answered.{GrowByOne}
-use Rattle.dxe_core.specs.Services.{Services}
 
 -- the state behind another
 pub record OneMore (old new : HandleState) : Type 0 where

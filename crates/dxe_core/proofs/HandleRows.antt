@@ -1,8 +1,7 @@
 -- The rows of the services by what is found in the list.
 use Rattle.std.proofs.Common.{◌≡◌, ℕ, Bool, true, false, not, ◌||◌, cond, List, Ok, Err, refl, ap, ◌∙◌}
 use Rattle.std.specs.List.{list_any}
-use Rattle.pi_base.specs.declared.guid.Guid.{Guid}
-use Rattle.pi_base.specs.declared.word.Word.TheVariants.{InvalidParameter, NotFound}
+use Rattle.pi_base.specs.{declared.guid.Guid.Guid, declared.word.Word.TheVariants.InvalidParameter, declared.word.Word.TheVariants.NotFound}
 use Rattle.store_model.specs.declared.interface.Interface.{Interface}
 use Rattle.store_model.specs.HandleState.{HandleState, HandleService, is_live, is_on, is_on_with, placed, install_on, change_of}
 

@@ -1,18 +1,13 @@
 -- The handles of a protocol: they rise, and what an interface more or less makes of them.
-use Rattle.std.proofs.Common.{◌≡◌, ℕ, zero, suc, ◌<◌, ◌≤◌, ◌==◌, Bool, true, false, ◌&&◌, ◌||◌, cond, List, [], ◌∷◌, ◌++◌, Some, refl, sym, ap, ◌∙◌, subst, arith}
-use Rattle.std.specs.Prelude.{nat_lt, find, filter, map}
+use Rattle.std.proofs.Common.{◌≡◌, ℕ, zero, suc, ◌<◌, ◌≤◌, ◌==◌, Bool, true, false, ◌&&◌, ◌||◌, cond, List, [], ◌∷◌, ◌++◌, Some, refl, sym, ap, ◌∙◌, subst, arith, nat_lt, find, filter, map}
 use Rattle.std.specs.List.{list_any}
 use Rattle.std.proofs.lemmas.Bool.Decides.{nat_tests}
-use Rattle.pi_base.specs.declared.guid.Guid.{Guid}
-use Rattle.pi_base.specs.Guids.{same_guid}
-use Rattle.pi_base.specs.Lists.{Each, Ordered}
+use Rattle.pi_base.specs.{declared.guid.Guid.Guid, Guids.same_guid, Lists.Each, Lists.Ordered}
 use Rattle.pi_base.proofs.ListFacts.{each_more, each_both}
-use Rattle.store_model.specs.declared.interface.Interface.{Interface}
+use Rattle.store_model.specs.{declared.interface.Interface.Interface, HandleFacts.IsNotBehind, HandleFacts.AreOfOthers}
 use Rattle.store_model.specs.HandleState.{is_on, is_on_with, placed, with_value, without}
-use Rattle.store_model.specs.HandleFacts.{IsNotBehind, AreOfOthers}
 use Rattle.guid_lists.specs.Lists.{Rises, with_number, without_number}
-use Rattle.dxe_core.specs.Index.{handles_with}
-use Rattle.dxe_core.specs.Places.{IsFirst}
+use Rattle.dxe_core.specs.{Index.handles_with, Places.IsFirst}
 use Rattle.dxe_core.proofs.Firsts.{both_of, both_pass, is_handle, equal, unequal, guid_is, first_passes}
 
 -- one interface more at the front

@@ -1,36 +1,25 @@
 -- What the services of handles answer is the machine's reply.
-use Rattle.std.proofs.Common.{◌≡◌, ℕ, List, [], ◌∷◌, ◌++◌, zero, refl, ap, sym, subst, ◌∙◌, Option, Some, None, Result, Err}
-use Rattle.std.specs.Prelude.{suc, length, option_map}
-use Rattle.std.specs.Option.{option_to_list}
-use Rattle.pi_base.specs.declared.guid.Guid.{Guid}
-use Rattle.pi_base.specs.declared.word.Word.{Word}
+use Rattle.std.proofs.Common.{◌≡◌, ℕ, List, [], ◌∷◌, ◌++◌, zero, refl, ap, sym, subst, ◌∙◌, Option, Some, None, Result, Err, suc, length, option_map, option_to_list}
+use Rattle.pi_base.specs.{declared.guid.Guid.Guid, declared.word.Word.Word, declared.memory.OutOfMemory.OutOfMemory}
 use Rattle.pi_base.specs.declared.word.Word.TheVariants as S
-use Rattle.pi_base.specs.declared.memory.OutOfMemory.{OutOfMemory}
 use Rattle.act_code.specs.declared.action.Action.{Action}
 use Rattle.act_code.specs.declared.action.Action.TheVariants as A
 use Rattle.mod_catalog.specs.declared.catalogue.Catalog.{Catalog}
-use Rattle.boot_model.specs.declared.line.CallName.{CallName}
+use Rattle.boot_model.specs.{declared.line.CallName.CallName, declared.line.Extra.Extra}
 use Rattle.boot_model.specs.declared.line.CallName.TheVariants as C
-use Rattle.boot_model.specs.declared.line.Extra.{Extra}
 use Rattle.boot_model.specs.declared.line.Extra.TheVariants as X
 use Rattle.store_model.specs.HandleState.{HandleState, HandleService, install_new, install_on, locate_handle, reinstall_interface, uninstall_interface}
 use Rattle.boot_model.specs.declared.frame.Register.TheVariants.{HandleIn, Number}
 use Rattle.boot_model.specs.Registers.{both, handle_in, number_in}
-use Rattle.boot_model.specs.declared.driver.ProtocolNote.{ProtocolNote}
-use Rattle.boot_model.specs.DxeMachine.{DxeMachine, DriverFrame}
+use Rattle.boot_model.specs.{declared.driver.ProtocolNote.ProtocolNote, DxeMachine.DxeMachine, DxeMachine.DriverFrame}
 use Rattle.boot_model.specs.EvaluationBound.{changed_protocols}
 use Rattle.boot_model.specs.DxeAction.{DxeReply, Called, own_dxe_effect, dxe_call_where, dxe_refusal, dxe_told, dxe_where, install_answer, install_reply, locate_reply, protocol_sweep, reinstall_answer, reinstall_reply, uninstall_answer, uninstall_reply, with_handles}
-use Rattle.dxe_core.specs.declared.database.fault.HandleFault.{HandleFault}
+use Rattle.dxe_core.specs.{declared.database.fault.HandleFault.HandleFault, Rows.IsRow, declared.reply.Reply.Reply}
 use Rattle.dxe_core.specs.declared.database.fault.HandleFault.TheVariants as F
-use Rattle.dxe_core.specs.Rows.{IsRow}
-use Rattle.phase_parts.specs.declared.registers.Writes.{Writes}
+use Rattle.phase_parts.specs.{declared.registers.Writes.Writes, Writes.written}
 use Rattle.phase_parts.specs.declared.registers.Writes.TheVariants as W
-use Rattle.phase_parts.specs.Writes.{written}
-use Rattle.dxe_core.specs.declared.reply.Reply.{Reply}
 use Rattle.dxe_core.specs.Answered.{did, refusal, refused, swept, sweep_of, told}
-use Rattle.dxe_core.specs.Event.{changes, quiet}
-use Rattle.dxe_core.specs.Reply.{IsReply, Replies}
-use Rattle.dxe_core.specs.Services.{Services, AreServicesOf}
+use Rattle.dxe_core.specs.{Event.changes, Event.quiet, Reply.IsReply, Reply.Replies, Services.Services, Services.AreServicesOf}
 use Rattle.dxe_core.proofs.Growing as G
 use Rattle.dxe_core.proofs.Replying.{changed, none_more, refuses, unchanged}
 

@@ -2,11 +2,8 @@
 use Rattle.std.proofs.Common.{◌≡◌, ℕ, Bool, true, false, not, cond, List, [], ◌∷◌, refl, sym, ap, ◌∙◌, subst, ◌==◌, length, arith}
 use Rattle.std.specs.List.{list_any}
 use Rattle.std.proofs.lemmas.Bool.Decides.{nat_tests}
-use Rattle.pi_base.specs.declared.guid.Guid.{Guid}
-use Rattle.pi_base.specs.Guids.{same_guid}
-use Rattle.pi_base.specs.Lists.{Ordered}
-use Rattle.store_model.specs.declared.interface.Interface.{Interface}
-use Rattle.store_model.specs.HandleFacts.{IsNotBehind, AreOfOthers}
+use Rattle.pi_base.specs.{declared.guid.Guid.Guid, Guids.same_guid, Lists.Ordered}
+use Rattle.store_model.specs.{declared.interface.Interface.Interface, HandleFacts.IsNotBehind, HandleFacts.AreOfOthers}
 use Rattle.guid_lists.specs.declared.lists.GuidLists.{GuidLists}
 use Rattle.guid_lists.specs.Lists.{list_of, Rises, HasInstead}
 use Rattle.dxe_core.specs.Index.{handles_with, IsIndex}

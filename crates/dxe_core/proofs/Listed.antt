@@ -1,15 +1,10 @@
 -- A write to the numbers of one name.
-use Rattle.std.proofs.Common.{◌≡◌, ℕ, Bool, true, false, cond, List, [], ◌∷◌, ◌++◌, Option, Some, None, refl, sym, ap, ◌∙◌, Vec, Global, Ok, Err, map}
-use Rattle.std.proofs.lemmas.List.{append-nil}
-use Rattle.std.specs.Prelude.{Result, OnOk, unwrap_or}
+use Rattle.std.proofs.Common.{◌≡◌, ℕ, Bool, true, false, cond, List, [], ◌∷◌, ◌++◌, Option, Some, None, refl, sym, ap, ◌∙◌, Vec, Global, Ok, Err, map, append-nil, Result, OnOk, unwrap_or}
 use Rattle.std.specs.Map.{lookup}
 use Rattle.std.proofs.lemmas.Slice.Eq.{bytes_eq-Decides}
-use Rattle.pi_base.specs.GuidMap.{value_of}
+use Rattle.pi_base.specs.{GuidMap.value_of, declared.guid.Guid.Guid, Guids.same_guid}
 use Rattle.pi_base.proofs.Ordered.{is_level, lookup-is_level, is_put}
-use Rattle.pi_base.specs.declared.guid.Guid.{Guid}
-use Rattle.pi_base.specs.Guids.{same_guid}
-use Rattle.dxe_core.specs.declared.lists.NumberLists.{NumberLists}
-use Rattle.dxe_core.specs.Lists.{numbers_under, IsPushed}
+use Rattle.dxe_core.specs.{declared.lists.NumberLists.NumberLists, Lists.numbers_under, Lists.IsPushed}
 
 -- the numbers of a list that may be there
 abbrev pub numbers_in : Option (Vec ℕ Global) → List ℕ

@@ -1,15 +1,9 @@
 -- One driver more in what is kept by the names of files.
-use Rattle.std.proofs.Common.{◌≡◌, ℕ, Bool, true, false, cond, List, [], ◌∷◌, ◌++◌, Option, Some, None, is_some, refl, ap, ◌∙◌}
-use Rattle.std.specs.Prelude.{if◌then◌else◌, filter, find}
-use Rattle.pi_base.specs.declared.guid.Guid.{Guid}
-use Rattle.pi_base.specs.Guids.{same_guid}
-use Rattle.mod_catalog.specs.declared.catalogue.Catalog.{Catalog}
-use Rattle.mod_catalog.specs.Parts.{module_name}
-use Rattle.pi_base.specs.GuidMap.{value_of}
+use Rattle.std.proofs.Common.{◌≡◌, ℕ, Bool, true, false, cond, List, [], ◌∷◌, ◌++◌, Option, Some, None, is_some, refl, ap, ◌∙◌, if◌then◌else◌, filter, find}
+use Rattle.pi_base.specs.{declared.guid.Guid.Guid, Guids.same_guid, GuidMap.value_of}
+use Rattle.mod_catalog.specs.{declared.catalogue.Catalog.Catalog, Parts.module_name}
 use Rattle.boot_model.specs.DxeChoice.{before_of, after_of, name_by}
-use Rattle.dxe_core.specs.declared.lists.NumberLists.{NumberLists}
-use Rattle.dxe_core.specs.declared.names.Names.{Names}
-use Rattle.dxe_core.specs.Lists.{numbers_under, IsPushed}
+use Rattle.dxe_core.specs.{declared.lists.NumberLists.NumberLists, declared.names.Names.Names, Lists.numbers_under, Lists.IsPushed}
 use Rattle.dxe_core.specs.Names.{IsFirstOfName, NamesGrow, first_named}
 use Rattle.dxe_core.specs.Order.{gives, name_asked}
 

@@ -1,12 +1,9 @@
 -- One notification more, and where those of a protocol stand.
-use Rattle.std.proofs.Common.{◌≡◌, ℕ, zero, suc, ◌<◌, ◌≤◌, ◌+◌, Bool, true, false, cond, List, [], ◌∷◌, ◌++◌, length, refl, sym, ap, ◌∙◌, subst, arith, length-append}
-use Rattle.std.specs.Prelude.{take}
+use Rattle.std.proofs.Common.{◌≡◌, ℕ, zero, suc, ◌<◌, ◌≤◌, ◌+◌, Bool, true, false, cond, List, [], ◌∷◌, ◌++◌, length, refl, sym, ap, ◌∙◌, subst, arith, length-append, take}
 use Rattle.std.proofs.lemmas.Slice.Eq.{bytes_eq-Decides}
-use Rattle.pi_base.specs.declared.guid.Guid.{Guid}
-use Rattle.pi_base.specs.Guids.{same_guid}
-use Rattle.guid_lists.specs.declared.lists.GuidLists.{GuidLists}
+use Rattle.pi_base.specs.{declared.guid.Guid.Guid, Guids.same_guid}
+use Rattle.guid_lists.specs.{declared.lists.GuidLists.GuidLists, Places.AreAt, Places.places}
 use Rattle.guid_lists.specs.Lists.{HasInstead, Rises, list_of, with_number}
-use Rattle.guid_lists.specs.Places.{AreAt, places}
 use Rattle.guid_lists.proofs.Placing.{added, alike, one_more, rises}
 use Rattle.boot_model.specs.declared.driver.ProtocolNote.{ProtocolNote}
 use Rattle.dxe_core.specs.Notes.{is_note}

@@ -1,17 +1,14 @@
 -- Volumes more in the order, with their drivers.
 use Rattle.std.proofs.Common.{◌≡◌, ℕ, zero, suc, ◌-◌, ◌<◌, ◌≤◌, List, [], ◌∷◌, ◌++◌, length, take, drop, refl, sym, subst, ap, ◌∙◌, arith, append_assoc, length-append}
 use Rattle.pi_base.specs.declared.phase.Phase.TheVariants.{Dxe}
-use Rattle.mod_catalog.specs.declared.catalogue.Catalog.{Catalog}
-use Rattle.mod_catalog.specs.Parts.{part_of, parts_in}
-use Rattle.boot_model.specs.DxeChoice.{drivers_of}
-use Rattle.boot_model.specs.Licence.{AllDiffer}
+use Rattle.mod_catalog.specs.{declared.catalogue.Catalog.Catalog, Parts.part_of, Parts.parts_in}
+use Rattle.boot_model.specs.{DxeChoice.drivers_of, Licence.AllDiffer}
 use Rattle.boot_model.proofs.ListFacts.{each_more, within}
 use Rattle.boot_model.proofs.Distinct.{all_differ, all_distinct, few_below}
 use Rattle.boot_laws.proofs.PartLists.{IsKnown, distinct_of, known_of, drivers_are}
 use Rattle.phase_parts.specs.Known.{AreKnown}
-use Rattle.dxe_core.specs.declared.names.Names.{Names}
+use Rattle.dxe_core.specs.{declared.names.Names.Names, Order.IsOrderOf}
 use Rattle.dxe_core.specs.Names.{AreDriverNames, NamesGrow, order_by}
-use Rattle.dxe_core.specs.Order.{IsOrderOf}
 
 -- the drivers of volumes that differ are no more than the modules
 few_drivers : (catalog : Catalog) (volumes : List ℕ) → AllDiffer volumes → length (drivers_of catalog volumes) ≤ length catalog.modules

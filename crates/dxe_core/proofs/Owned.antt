@@ -1,26 +1,14 @@
 -- What an action of DXE's own, of the top frame, leaves.
-use Rattle.std.proofs.Common.{◌≡◌, ℕ, List, [], ◌∷◌, ◌++◌, refl, sym, ap, ◌∙◌, subst, Some, None}
-use Rattle.std.specs.Prelude.{if◌then◌else◌}
-use Rattle.std.specs.Option.{option_to_list}
+use Rattle.std.proofs.Common.{◌≡◌, ℕ, List, [], ◌∷◌, ◌++◌, refl, sym, ap, ◌∙◌, subst, Some, None, if◌then◌else◌, option_to_list}
 use Rattle.act_code.specs.declared.action.Action.{Action}
 use Rattle.mod_catalog.specs.declared.catalogue.Catalog.{Catalog}
-use Rattle.boot_model.specs.declared.driver.ProtocolSweep.{ProtocolSweep}
-use Rattle.boot_model.specs.declared.line.Line.{Line}
+use Rattle.boot_model.specs.{declared.driver.ProtocolSweep.ProtocolSweep, declared.line.Line.Line, Discovery.discovery_lines}
 use Rattle.boot_model.specs.declared.line.Line.TheVariants as L
-use Rattle.boot_model.specs.Discovery.{discovery_lines}
 use Rattle.boot_model.specs.EvaluationBound.{changed_protocols, dxe_action_guids, is_dxe_called}
 use Rattle.boot_model.specs.DxeAction.{Called, DxeEffect, DxeReply, dxe_effect, own_dxe_effect}
-use Rattle.boot_model.specs.DxeMachine.{DriverFrame, DxeMachine}
-use Rattle.boot_model.specs.DxeStep.{after_dxe_call, after_dxe_effect}
-use Rattle.dxe_core.specs.Reply.{IsReply, reply_in}
-use Rattle.dxe_core.specs.Services.{Services}
-use Rattle.dxe_core.specs.declared.reply.Reply.{Reply}
-use Rattle.phase_parts.specs.Alike.{AreAlike}
-use Rattle.phase_parts.specs.Deed.{deed}
-use Rattle.phase_parts.specs.Frames.{answered, top_of}
-use Rattle.phase_parts.specs.Writes.{written}
-use Rattle.dxe_core.specs.Event.{EventLeaves}
-use Rattle.dxe_core.specs.Parts.{acted_to}
+use Rattle.boot_model.specs.{DxeMachine.DriverFrame, DxeMachine.DxeMachine, DxeStep.after_dxe_call, DxeStep.after_dxe_effect}
+use Rattle.dxe_core.specs.{Reply.IsReply, Reply.reply_in, Services.Services, declared.reply.Reply.Reply, Event.EventLeaves, Parts.acted_to}
+use Rattle.phase_parts.specs.{Alike.AreAlike, Deed.deed, Frames.answered, Frames.top_of, Writes.written}
 use Rattle.dxe_core.specs.Standing.{DxeCore, IsCoreOf}
 use Rattle.dxe_core.proofs.Fired.{same_services}
 

@@ -1,30 +1,19 @@
 -- A step of DXE changes which protocols are on the handles only for that of its event.
 use Rattle.std.proofs.Common.{◌≡◌, ℕ, ◌+◌, Bool, true, false, ◌&&◌, ◌||◌, not, cond, List, [], ◌∷◌, Option, Some, None, Ok, Err, refl, sym, ap, ◌∙◌, nat_le, nat_lt, length, subst}
-use Rattle.std.specs.Prelude.{⊤}
-use Rattle.std.specs.List.{list_any}
-use Rattle.std.proofs.lemmas.List.Folds.{list_any-append}
-use Rattle.std.proofs.lemmas.Slice.Eq.{bytes_eq-Decides}
-use Rattle.pi_base.specs.declared.guid.Guid.{Guid}
-use Rattle.pi_base.specs.declared.phase.Phase.TheVariants.{Dxe}
-use Rattle.pi_base.specs.declared.word.Word.{Word}
-use Rattle.pi_base.specs.declared.word.Word.TheVariants.{InvalidParameter, NotFound}
-use Rattle.pi_base.specs.Guids.{same_guid}
+use Rattle.std.specs.{Prelude.⊤, List.list_any}
+use Rattle.std.proofs.{lemmas.List.Folds.list_any-append, lemmas.Slice.Eq.bytes_eq-Decides}
+use Rattle.pi_base.specs.{declared.guid.Guid.Guid, declared.phase.Phase.TheVariants.Dxe, declared.word.Word.Word}
+use Rattle.pi_base.specs.{declared.word.Word.TheVariants.InvalidParameter, declared.word.Word.TheVariants.NotFound, Guids.same_guid}
 use Rattle.act_code.specs.declared.action.Action.{Action}
-use Rattle.mod_catalog.specs.declared.catalogue.Catalog.{Catalog}
-use Rattle.mod_catalog.specs.declared.catalogue.Part.{Part}
-use Rattle.mod_catalog.specs.Parts.{part_at}
+use Rattle.mod_catalog.specs.{declared.catalogue.Catalog.Catalog, declared.catalogue.Part.Part, Parts.part_at}
 use Rattle.store_model.specs.declared.interface.Interface.{Interface}
 use Rattle.store_model.specs.HandleState.{HandleState, HandleService, change_of, has_protocol, install_interface, is_live, is_on, is_on_with, placed, with_value, without}
-use Rattle.boot_model.specs.declared.driver.Scheduled.{Scheduled}
+use Rattle.boot_model.specs.{declared.driver.Scheduled.Scheduled, Registers.is_success, DxeMachine.DxeMachine, DxeMachine.DriverFrame}
 use Rattle.boot_model.specs.declared.phase_end.DxeEnd.TheVariants as DxeEnds
-use Rattle.boot_model.specs.Registers.{is_success}
-use Rattle.boot_model.specs.DxeMachine.{DxeMachine, DriverFrame}
 use Rattle.boot_model.specs.DxeAction.{DxeReply, DxeEffect, Wrote, Called, Logged, Skipped, Returned, Own, dxe_effect}
 use Rattle.boot_model.specs.DxeStep.{DxeCase, DxeFires, DxeActs, DxeStarts, DxeStops, dxe_case_of, dxe_step, in_dxe_case, protocol_begun, after_dxe_effect, with_action, dxe_action_at, driver_started}
 use Rattle.boot_model.specs.EvaluationBound.{changed_protocols, dxe_action_guids, dxe_case_guids, dxe_guids, is_dxe_called}
-use Rattle.boot_laws.specs.ChangedGuids.{is_among}
-use Rattle.boot_laws.specs.EffectForms.{EffectHas}
-use Rattle.boot_laws.specs.DriverEffectForms.{DriverRepliesHave}
+use Rattle.boot_laws.specs.{ChangedGuids.is_among, EffectForms.EffectHas, DriverEffectForms.DriverRepliesHave}
 use Rattle.boot_laws.proofs.DriverEffectForms.{driver_effect_has}
 
 -- an interface of a protocol

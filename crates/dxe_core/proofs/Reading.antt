@@ -1,8 +1,7 @@
 -- What a loop has read of interfaces.
 use Rattle.std.proofs.Common.{◌≡◌, ℕ, ◌+◌, ◌<◌, ◌≤◌, ◌==◌, Bool, true, false, List, [], get_or, subst, refl, arith}
 use Rattle.std.proofs.lemmas.Bool.Decides.{nat_tests}
-use Rattle.pi_base.specs.declared.guid.Guid.{Guid}
-use Rattle.pi_base.specs.Guids.{same_guid}
+use Rattle.pi_base.specs.{declared.guid.Guid.Guid, Guids.same_guid}
 use Rattle.store_model.specs.declared.interface.Interface.{Interface}
 
 -- what stands past the end

@@ -1,25 +1,16 @@
 -- What a service answers is the machine's reply, with the machine behind it.
-use Rattle.std.proofs.Common.{◌≡◌, ℕ, false, List, [], ◌++◌, None, refl, ap, sym, subst}
-use Rattle.std.specs.Prelude.{IfSome, if◌then◌else◌}
-use Rattle.std.specs.Option.{option_to_list}
-use Rattle.std.proofs.lemmas.List.{append-nil}
+use Rattle.std.proofs.Common.{◌≡◌, ℕ, false, List, [], ◌++◌, None, refl, ap, sym, subst, IfSome, if◌then◌else◌, option_to_list, append-nil}
 use Rattle.pi_base.specs.declared.word.Word.{Word}
 use Rattle.act_code.specs.declared.action.Action.{Action}
 use Rattle.mod_catalog.specs.declared.catalogue.Catalog.{Catalog}
-use Rattle.boot_model.specs.declared.line.CallName.{CallName}
+use Rattle.boot_model.specs.{declared.line.CallName.CallName, declared.driver.ProtocolNote.ProtocolNote}
 use Rattle.store_model.specs.HandleState.{HandleState}
-use Rattle.boot_model.specs.declared.driver.ProtocolNote.{ProtocolNote}
-use Rattle.boot_model.specs.DxeMachine.{DxeMachine, DriverFrame}
+use Rattle.boot_model.specs.{DxeMachine.DxeMachine, DxeMachine.DriverFrame, EvaluationBound.changed_protocols, Registers.is_success}
 use Rattle.boot_model.specs.DxeAction.{Called, own_dxe_effect, dxe_refusal}
-use Rattle.boot_model.specs.EvaluationBound.{changed_protocols}
-use Rattle.boot_model.specs.Registers.{is_success}
-use Rattle.dxe_core.specs.declared.event.Event.{Event}
-use Rattle.dxe_core.specs.declared.reply.Reply.{Reply}
-use Rattle.dxe_core.specs.Answered.{refusal}
+use Rattle.dxe_core.specs.{declared.event.Event.Event, declared.reply.Reply.Reply, Answered.refusal, Order.IsOrderOf}
 use Rattle.dxe_core.specs.Event.{EventLeaves, IsDiscoveredDriver, quiet}
 use Rattle.dxe_core.specs.Reply.{IsReply, changed_by, reply_in}
 use Rattle.dxe_core.specs.Services.{Services, AreServicesOf, AreFlags}
-use Rattle.dxe_core.specs.Order.{IsOrderOf}
 
 -- the machine with other handles, notifications and requests
 abbrev pub with_others : DxeMachine → HandleState → List ProtocolNote → List ℕ → DxeMachine

@@ -1,32 +1,22 @@
 -- The driver that is requested, and the flags behind it.
-use Rattle.std.proofs.Common.{◌≡◌, ◌<◌, ◌&&◌, ◌++◌, not, ℕ, Bool, true, false, List, [], ◌∷◌, cond, length, refl, ap, sym, subst, ◌∙◌, Option, Some, None}
-use Rattle.std.specs.Option.{option_and_then}
-use Rattle.std.specs.Prelude.{find, filter, if◌then◌else◌, is_none, is_some, slice_get, slice_set}
-use Rattle.pi_base.specs.declared.guid.Guid.{Guid}
-use Rattle.pi_base.specs.declared.phase.Phase.TheVariants.{Dxe}
-use Rattle.pi_base.specs.declared.word.Word.TheVariants.{NotFound}
+use Rattle.std.proofs.Common.{◌≡◌, ◌<◌, ◌&&◌, ◌++◌, not, ℕ, Bool, true, false, List, [], ◌∷◌, cond, length, refl, ap, sym, subst, ◌∙◌, Option, Some, None, option_and_then, find, filter, if◌then◌else◌, is_none, is_some, slice_get, slice_set}
+use Rattle.pi_base.specs.{declared.guid.Guid.Guid, declared.phase.Phase.TheVariants.Dxe, declared.word.Word.TheVariants.NotFound}
 use Rattle.pi_base.specs.Guids.{same_guid}
 use Rattle.act_code.specs.declared.action.Action.TheVariants as A
-use Rattle.mod_catalog.specs.declared.catalogue.Catalog.{Catalog}
-use Rattle.mod_catalog.specs.declared.catalogue.Module.{Module}
+use Rattle.mod_catalog.specs.{declared.catalogue.Catalog.Catalog, declared.catalogue.Module.Module}
 use Rattle.mod_catalog.specs.Parts.{has_number, part_of, part_at, rank_at, module_name}
 use Rattle.boot_model.specs.declared.line.CallName.TheVariants as C
 use Rattle.boot_model.specs.declared.line.Extra.TheVariants as X
-use Rattle.boot_model.specs.DxeMachine.{DxeMachine, DriverFrame}
-use Rattle.boot_model.specs.DxeChoice.{asks_for_request, discovered_order}
+use Rattle.boot_model.specs.{DxeMachine.DxeMachine, DxeMachine.DriverFrame, DxeChoice.asks_for_request, DxeChoice.discovered_order}
 use Rattle.boot_model.specs.DxeAction.{Called, dxe_where, schedule_reply, unrequested_named}
 use Rattle.boot_laws.specs.UnrequestedDrivers.{WaitForRequest}
 use Rattle.boot_model.proofs.ListFacts.{each_found, each_has}
-use Rattle.dxe_core.specs.declared.reply.Reply.{Reply}
+use Rattle.dxe_core.specs.{declared.reply.Reply.Reply, Event.requests, Reply.IsReply, Requests.first_down, Requests.is_down}
 use Rattle.phase_parts.specs.declared.registers.Writes.TheVariants as W
 use Rattle.dxe_core.specs.Answered.{did, refusal, told}
-use Rattle.dxe_core.specs.Event.{requests}
-use Rattle.dxe_core.specs.Reply.{IsReply}
 use Rattle.dxe_core.specs.Order.{gives, name_asked, asking_of}
-use Rattle.dxe_core.specs.Requests.{first_down, is_down}
 use Rattle.dxe_core.specs.Services.{Services, AreServicesOf, flag_at}
-use Rattle.dxe_core.proofs.Flags.{flag_up}
-use Rattle.dxe_core.proofs.Replying.{changed, refuses}
+use Rattle.dxe_core.proofs.{Flags.flag_up, Replying.changed, Replying.refuses}
 
 find_alike : (f g : ℕ → Bool) → ((n : ℕ) → f n ≡ g n) → (xs : List ℕ) → find f xs ≡ find g xs
 find_alike f g same [] = refl

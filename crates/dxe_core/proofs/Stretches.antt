@@ -1,10 +1,8 @@
 -- What a handle's stretch tells of the list.
-use Rattle.std.proofs.Common.{◌≡◌, ℕ, zero, suc, ◌<◌, ◌≤◌, ◌==◌, Bool, true, false, ◌||◌, cond, List, [], ◌∷◌, length, refl, sym, ap, ◌∙◌, arith}
-use Rattle.std.specs.Prelude.{nat_lt, nat_le, insert}
+use Rattle.std.proofs.Common.{◌≡◌, ℕ, zero, suc, ◌<◌, ◌≤◌, ◌==◌, Bool, true, false, ◌||◌, cond, List, [], ◌∷◌, length, refl, sym, ap, ◌∙◌, arith, nat_lt, nat_le, insert}
 use Rattle.std.specs.List.{AllWithin}
 use Rattle.std.proofs.lemmas.Bool.Decides.{nat_tests}
-use Rattle.store_model.specs.declared.interface.Interface.{Interface}
-use Rattle.store_model.specs.HandleState.{placed}
+use Rattle.store_model.specs.{declared.interface.Interface.Interface, HandleState.placed}
 use Rattle.dxe_core.specs.Places.{IsStretch, is_live_in}
 
 -- the places of two searches

@@ -1,8 +1,6 @@
 -- Behind a service that makes at most one of each, no more stand than actions were taken, and the flags are as many as before.
-use Rattle.std.proofs.Common.{◌≡◌, ◌+◌, ◌≤◌, ℕ, length, Result, Ok, Err, arith, ◌∙◌}
-use Rattle.std.specs.Prelude.{OnOk}
-use Rattle.dxe_core.specs.Answered.{GrowByOne}
-use Rattle.dxe_core.specs.Services.{AreCounted, Services}
+use Rattle.std.proofs.Common.{◌≡◌, ◌+◌, ◌≤◌, ℕ, length, Result, Ok, Err, arith, ◌∙◌, OnOk}
+use Rattle.dxe_core.specs.{Answered.GrowByOne, Services.AreCounted, Services.Services}
 
 at_most : (new old n : ℕ) → new ≤ old + 1 → old ≤ n → new ≤ n + 1
 at_most new old n one counted = omega (arith, one, counted)

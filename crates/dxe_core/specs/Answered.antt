@@ -1,29 +1,19 @@
 -- The answers of the services, and what a service does from each machine that has what the services stand on.
 -- Own; PI 1.8, volume 2, "Protocol Handler Services" and "DXE Services".
 use Rattle.std.specs.Prelude.{◌≡◌, ℕ, ◌≤◌, ◌+◌, length, None, Some, Result, Ok, Err}
-use Rattle.pi_base.specs.declared.guid.Guid.{Guid}
-use Rattle.pi_base.specs.declared.word.Word.{Word}
+use Rattle.pi_base.specs.{declared.guid.Guid.Guid, declared.word.Word.Word, declared.memory.OutOfMemory.OutOfMemory}
 use Rattle.pi_base.specs.declared.word.Word.TheVariants as S
-use Rattle.pi_base.specs.declared.memory.OutOfMemory.{OutOfMemory}
 use Rattle.act_code.specs.declared.action.Action.{Action}
 use Rattle.act_code.specs.declared.action.Action.TheVariants as A
-use Rattle.mod_catalog.specs.declared.catalogue.Catalog.{Catalog}
-use Rattle.mod_catalog.specs.Parts.{volume_at}
-use Rattle.boot_model.specs.Registers.{number_in}
-use Rattle.boot_model.specs.declared.line.CallName.{CallName}
-use Rattle.boot_model.specs.declared.line.Extra.{Extra}
-use Rattle.boot_model.specs.declared.line.Extra.TheVariants.{Nothing}
-use Rattle.boot_model.specs.declared.driver.ProtocolSweep.{ProtocolSweep}
+use Rattle.mod_catalog.specs.{declared.catalogue.Catalog.Catalog, Parts.volume_at}
+use Rattle.boot_model.specs.{Registers.number_in, declared.line.CallName.CallName, declared.line.Extra.Extra}
+use Rattle.boot_model.specs.{declared.line.Extra.TheVariants.Nothing, declared.driver.ProtocolSweep.ProtocolSweep}
 use Rattle.boot_model.specs.DxeMachine.{DxeMachine, DriverFrame}
-use Rattle.dxe_core.specs.declared.database.fault.HandleFault.{HandleFault}
+use Rattle.dxe_core.specs.{declared.database.fault.HandleFault.HandleFault, declared.event.Event.Event, declared.reply.Reply.Reply}
 use Rattle.dxe_core.specs.declared.database.fault.HandleFault.TheVariants as F
 use Rattle.phase_parts.specs.declared.registers.Writes.{Writes}
 use Rattle.phase_parts.specs.declared.registers.Writes.TheVariants as W
-use Rattle.dxe_core.specs.declared.event.Event.{Event}
-use Rattle.dxe_core.specs.declared.reply.Reply.{Reply}
-use Rattle.dxe_core.specs.Event.{quiet}
-use Rattle.dxe_core.specs.Services.{Services, AreServicesOf}
-use Rattle.dxe_core.specs.Reply.{Replies}
+use Rattle.dxe_core.specs.{Event.quiet, Services.Services, Services.AreServicesOf, Reply.Replies}
 
 -- an answer without notifications to visit, of a call that did nothing that an event tells
 abbrev pub answered : CallName → Word → Extra → Writes → Reply

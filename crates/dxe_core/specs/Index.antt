@@ -1,11 +1,9 @@
 -- The handles by protocol are those of the interfaces.
 -- Own.
 use Rattle.std.specs.Prelude.{◌≡◌, ℕ, List, filter, map}
-use Rattle.pi_base.specs.declared.guid.Guid.{Guid}
-use Rattle.pi_base.specs.Guids.{same_guid}
+use Rattle.pi_base.specs.{declared.guid.Guid.Guid, Guids.same_guid}
 use Rattle.store_model.specs.declared.interface.Interface.{Interface}
-use Rattle.guid_lists.specs.declared.lists.GuidLists.{GuidLists}
-use Rattle.guid_lists.specs.Lists.{list_of}
+use Rattle.guid_lists.specs.{declared.lists.GuidLists.GuidLists, Lists.list_of}
 
 -- the handles of the interfaces of a protocol
 abbrev pub handles_with : Guid → List Interface → List ℕ

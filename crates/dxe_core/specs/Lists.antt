@@ -2,8 +2,7 @@
 -- Own.
 use Rattle.std.specs.Prelude.{◌≡◌, ℕ, if◌then◌else◌, List, [], ◌∷◌, ◌++◌, Option, map}
 use Rattle.pi_base.specs.declared.guid.Guid.{Guid}
-use Rattle.dxe_core.specs.declared.lists.NumberLists.{NumberLists}
-use Rattle.dxe_core.specs.Order.{gives, numbers_at}
+use Rattle.dxe_core.specs.{declared.lists.NumberLists.NumberLists, Order.gives, Order.numbers_at}
 
 -- the names with their numbers
 abbrev pub lists_of : NumberLists → List (Guid × List ℕ)

@@ -1,14 +1,10 @@
 -- What is kept of drivers by the names of files.
 -- PI 1.8, volume 2, "Dependency Expressions"; that they are kept by name is own.
 use Rattle.std.specs.Prelude.{◌≡◌, ℕ, if◌then◌else◌, List, ◌++◌, Option, Some, None, find, is_some}
-use Rattle.pi_base.specs.GuidMap.{value_of}
-use Rattle.pi_base.specs.declared.guid.Guid.{Guid}
-use Rattle.pi_base.specs.Guids.{same_guid}
-use Rattle.mod_catalog.specs.declared.catalogue.Catalog.{Catalog}
-use Rattle.mod_catalog.specs.Parts.{module_name}
+use Rattle.pi_base.specs.{GuidMap.value_of, declared.guid.Guid.Guid, Guids.same_guid}
+use Rattle.mod_catalog.specs.{declared.catalogue.Catalog.Catalog, Parts.module_name}
 use Rattle.boot_model.specs.DxeChoice.{before_of, after_of}
-use Rattle.dxe_core.specs.declared.names.Names.{Names}
-use Rattle.dxe_core.specs.Lists.{lists_of, numbers_under}
+use Rattle.dxe_core.specs.{declared.names.Names.Names, Lists.lists_of, Lists.numbers_under}
 use Rattle.dxe_core.specs.Order.{Drivers, givers, askers}
 
 -- the first of these drivers that has a file name

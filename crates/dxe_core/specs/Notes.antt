@@ -1,8 +1,7 @@
 -- The notifications of a protocol among those that are registered.
 -- Own.
 use Rattle.std.specs.Prelude.{ℕ, Bool, false, List, Some, None, slice_get}
-use Rattle.pi_base.specs.declared.guid.Guid.{Guid}
-use Rattle.pi_base.specs.Guids.{same_guid}
+use Rattle.pi_base.specs.{declared.guid.Guid.Guid, Guids.same_guid}
 use Rattle.boot_model.specs.declared.driver.ProtocolNote.{ProtocolNote}
 
 -- whether the one in a place waits for a protocol

@@ -1,12 +1,8 @@
 -- The discovered volumes, their drivers in discovered order, the first driver of each file name, and for each file name the drivers whose BEFORE or whose AFTER gives it and those of this name that a request is waited for, in discovered order.
 -- PI 1.8, volume 2, "DXE Dispatcher", "Dependency Expressions" and `Schedule()`; that they are kept by name is own.
 use Rattle.std.specs.Prelude.{◌≡◌, ℕ, Bool, false, ◌&&◌, if◌then◌else◌, List, [], ◌++◌, Option, Some, None, is_none, find, filter, unwrap_or}
-use Rattle.pi_base.specs.declared.phase.Phase.TheVariants.{Dxe}
-use Rattle.pi_base.specs.declared.guid.Guid.{Guid}
-use Rattle.pi_base.specs.Guids.{same_guid}
-use Rattle.pi_base.specs.GuidMap.{value_of}
-use Rattle.mod_catalog.specs.declared.catalogue.Catalog.{Catalog}
-use Rattle.mod_catalog.specs.declared.catalogue.PartExpr.{PartExpr}
+use Rattle.pi_base.specs.{declared.phase.Phase.TheVariants.Dxe, declared.guid.Guid.Guid, Guids.same_guid, GuidMap.value_of}
+use Rattle.mod_catalog.specs.{declared.catalogue.Catalog.Catalog, declared.catalogue.PartExpr.PartExpr}
 use Rattle.mod_catalog.specs.Parts.{part_at, rank_at, module_name}
 use Rattle.boot_model.specs.DxeChoice.{drivers_of, name_by, before_of, after_of, asks_for_request}
 use Rattle.boot_model.specs.Reporting.{newcomers}

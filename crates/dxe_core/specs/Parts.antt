@@ -1,30 +1,20 @@
 -- What a part of a step leaves: the later machine with the lines that were put and the protocol that was changed, or why there is none.
 -- Own.
-use Rattle.std.specs.Prelude.{◌≡◌, ◌<◌, ℕ, List, ◌∷◌, Option, Some, None, Result, Ok, Err}
-use Rattle.std.specs.Option.{option_and_then, option_to_list}
+use Rattle.std.specs.Prelude.{◌≡◌, ◌<◌, ℕ, List, ◌∷◌, Option, Some, None, Result, Ok, Err, option_and_then, option_to_list}
 use Rattle.boot_io.specs.declared.halt.Halt.{Halt}
 use Rattle.pi_base.specs.declared.phase.Phase.TheVariants.{Dxe}
-use Rattle.act_code.specs.declared.action.Action.{Action}
+use Rattle.act_code.specs.{declared.action.Action.Action, declared.block.TheConstants.MOST_ACTIONS}
 use Rattle.mod_catalog.specs.declared.catalogue.Catalog.{Catalog}
 use Rattle.store_model.specs.StoreState.{StoreState}
-use Rattle.boot_model.specs.DxeAction.{dxe_effect}
-use Rattle.boot_model.specs.declared.driver.ProtocolNote.{ProtocolNote}
-use Rattle.boot_model.specs.declared.driver.ProtocolSweep.{ProtocolSweep}
-use Rattle.boot_model.specs.DxeMachine.{DxeMachine, DriverFrame}
-use Rattle.boot_model.specs.DxeStep.{after_dxe_effect, next_note}
+use Rattle.boot_model.specs.{DxeAction.dxe_effect, declared.driver.ProtocolNote.ProtocolNote, declared.driver.ProtocolSweep.ProtocolSweep}
+use Rattle.boot_model.specs.{DxeMachine.DxeMachine, DxeMachine.DriverFrame, DxeStep.after_dxe_effect, DxeStep.next_note}
 use Rattle.boot_model.specs.EvaluationBound.{dxe_action_guids}
 use Rattle.boot_laws.specs.UnrequestedDrivers.{WaitForRequest}
-use Rattle.phase_parts.specs.Deed.{deed}
-use Rattle.phase_parts.specs.Frames.{top_sweep}
-use Rattle.phase_parts.specs.Needs.{IsScriptAction}
-use Rattle.act_code.specs.declared.block.TheConstants.{MOST_ACTIONS}
-use Rattle.dxe_core.specs.Event.{EventLeaves}
-use Rattle.dxe_core.specs.Services.{AreCounted, AreServicesFor}
-use Rattle.dxe_core.specs.declared.event.Event.{Event}
-use Rattle.dxe_core.specs.declared.stepped.Stepped.{Stepped}
+use Rattle.phase_parts.specs.{Deed.deed, Frames.top_sweep, Needs.IsScriptAction}
+use Rattle.dxe_core.specs.{Event.EventLeaves, Services.AreCounted, Services.AreServicesFor, declared.event.Event.Event}
+use Rattle.dxe_core.specs.{declared.stepped.Stepped.Stepped, Turn.PrintedPart}
 use Rattle.dxe_core.specs.Standing.{DxeCore, IsCoreOf, IsFor, StandsFor}
 use Rattle.dxe_core.specs.Steps.{CoreCall, HasOver, HasStepped, StepsTo, texts_of}
-use Rattle.dxe_core.specs.Turn.{PrintedPart}
 use Rattle.boot_trace.specs.Printing.{Texts}
 
 -- this notification of a frame's sweep begins next, with that sweep behind it, or none does

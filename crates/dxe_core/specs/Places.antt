@@ -3,8 +3,7 @@
 use Rattle.std.specs.Prelude.{◌≡◌, ℕ, zero, suc, ◌<◌, ◌==◌, Bool, true, false, List, [], ◌∷◌, Option, Some, None, Result, Ok, Err}
 use Rattle.std.specs.List.{list_any}
 use Rattle.pi_base.specs.declared.guid.Guid.{Guid}
-use Rattle.store_model.specs.declared.interface.Interface.{Interface}
-use Rattle.store_model.specs.HandleState.{is_on, is_on_with}
+use Rattle.store_model.specs.{declared.interface.Interface.Interface, HandleState.is_on, HandleState.is_on_with}
 use Rattle.dxe_core.specs.declared.database.fault.HandleFault.{HandleFault}
 use Rattle.dxe_core.specs.declared.database.fault.HandleFault.TheVariants as F
 

@@ -1,23 +1,16 @@
 -- What a call that takes an action of DXE's own answers: what the action does by the definition, with the machine behind it.
 -- Own; PI 1.8, volume 2.
-use Rattle.std.specs.Prelude.{◌≡◌, ℕ, if◌then◌else◌, List, [], Result, Ok, Err, ⊤}
-use Rattle.std.specs.Option.{option_to_list}
-use Rattle.pi_base.specs.declared.guid.Guid.{Guid}
-use Rattle.pi_base.specs.declared.memory.OutOfMemory.{OutOfMemory}
-use Rattle.pi_base.specs.declared.word.Word.{Word}
+use Rattle.std.specs.Prelude.{◌≡◌, ℕ, if◌then◌else◌, List, [], Result, Ok, Err, ⊤, option_to_list}
+use Rattle.pi_base.specs.{declared.guid.Guid.Guid, declared.memory.OutOfMemory.OutOfMemory, declared.word.Word.Word}
 use Rattle.act_code.specs.declared.action.Action.{Action}
 use Rattle.mod_catalog.specs.declared.catalogue.Catalog.{Catalog}
 use Rattle.store_model.specs.StoreState.{StoreState}
-use Rattle.boot_model.specs.declared.frame.Register.{Register}
-use Rattle.boot_model.specs.DxeMachine.{DxeMachine, DriverFrame}
+use Rattle.boot_model.specs.{declared.frame.Register.Register, DxeMachine.DxeMachine, DxeMachine.DriverFrame}
 use Rattle.boot_model.specs.DxeAction.{DxeReply, Called, own_dxe_effect}
-use Rattle.boot_model.specs.EvaluationBound.{changed_protocols}
-use Rattle.boot_model.specs.Registers.{is_success}
+use Rattle.boot_model.specs.{EvaluationBound.changed_protocols, Registers.is_success}
 use Rattle.boot_laws.specs.UnrequestedDrivers.{WaitForRequest}
 use Rattle.phase_parts.specs.Writes.{written}
-use Rattle.dxe_core.specs.Event.{EventLeaves}
-use Rattle.dxe_core.specs.declared.reply.Reply.{Reply}
-use Rattle.dxe_core.specs.Services.{Services, AreServicesOf}
+use Rattle.dxe_core.specs.{Event.EventLeaves, declared.reply.Reply.Reply, Services.Services, Services.AreServicesOf}
 
 -- the machine's reply, by the registers before it, the machine behind it and the volumes that it discovered
 abbrev pub reply_in : Reply → List Register → DxeMachine → List ℕ → DxeReply

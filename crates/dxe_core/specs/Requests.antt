@@ -5,9 +5,8 @@ use Rattle.act_code.specs.declared.action.Action.{Action}
 use Rattle.mod_catalog.specs.declared.catalogue.Catalog.{Catalog}
 use Rattle.boot_model.specs.DxeMachine.{DxeMachine, DriverFrame}
 use Rattle.boot_laws.specs.UnrequestedDrivers.{WaitForRequest}
-use Rattle.dxe_core.specs.declared.reply.Reply.{Reply}
+use Rattle.dxe_core.specs.{declared.reply.Reply.Reply, Reply.IsReply}
 use Rattle.dxe_core.specs.Services.{Services, AreServicesOf, flag_at}
-use Rattle.dxe_core.specs.Reply.{IsReply}
 
 -- whether the flag of a module is down
 abbrev pub is_down : Catalog → List Bool → ℕ → Bool

@@ -1,11 +1,9 @@
 -- What the services of DXE stand on: the handles, the notifications, the discovered volumes with their drivers, and which drivers were requested.
 -- Own; PI 1.8, volume 2.
 use Rattle.std.specs.Prelude.{◌≡◌, ◌≤◌, ℕ, Bool, false, List, length, slice_get, unwrap_or}
-use Rattle.mod_catalog.specs.declared.catalogue.Catalog.{Catalog}
-use Rattle.mod_catalog.specs.Parts.{has_number}
+use Rattle.mod_catalog.specs.{declared.catalogue.Catalog.Catalog, Parts.has_number}
 use Rattle.store_model.specs.HandleState.{HandleState}
-use Rattle.boot_model.specs.declared.driver.ProtocolNote.{ProtocolNote}
-use Rattle.boot_model.specs.DxeMachine.{DxeMachine}
+use Rattle.boot_model.specs.{declared.driver.ProtocolNote.ProtocolNote, DxeMachine.DxeMachine}
 use Rattle.dxe_core.specs.Order.{Drivers, IsOrderOf}
 
 -- what is kept

@@ -1,30 +1,18 @@
 -- What a step of the core answers and leaves, and what a start does.
 -- Own; PI 1.8, volume 2, "DXE Dispatcher".
-use Rattle.std.specs.Prelude.{◌≡◌, ℕ, false, List, [], Option, Some, Result, Ok, Err, ⊤}
-use Rattle.std.specs.Option.{option_to_list}
+use Rattle.std.specs.Prelude.{◌≡◌, ℕ, false, List, [], Option, Some, Result, Ok, Err, ⊤, option_to_list}
 use Rattle.std.specs.Io.KnownBytes.{Appends}
-use Rattle.boot_io.specs.declared.halt.Halt.{Halt}
-use Rattle.boot_io.specs.declared.sink.SinkFault.{SinkFault}
-use Rattle.pi_base.specs.declared.guid.Guid.{Guid}
-use Rattle.pi_base.specs.declared.phase.Phase.TheVariants.{Dxe}
-use Rattle.mod_catalog.specs.declared.catalogue.Catalog.{Catalog}
-use Rattle.mod_catalog.specs.Parts.{part_at}
-use Rattle.store_model.specs.HandleState.{has_protocol}
-use Rattle.store_model.specs.StoreState.{StoreState}
-use Rattle.boot_model.specs.declared.driver.Scheduled.{Scheduled}
-use Rattle.boot_model.specs.declared.phase_end.DxeEnd.{DxeEnd}
+use Rattle.boot_io.specs.{declared.halt.Halt.Halt, declared.sink.SinkFault.SinkFault}
+use Rattle.pi_base.specs.{declared.guid.Guid.Guid, declared.phase.Phase.TheVariants.Dxe}
+use Rattle.mod_catalog.specs.{declared.catalogue.Catalog.Catalog, Parts.part_at}
+use Rattle.store_model.specs.{HandleState.has_protocol, StoreState.StoreState}
+use Rattle.boot_model.specs.{declared.driver.Scheduled.Scheduled, declared.phase_end.DxeEnd.DxeEnd, DxeMachine.DxeMachine}
 use Rattle.boot_model.specs.declared.phase_end.DxeEnd.TheVariants as E
-use Rattle.boot_model.specs.DxeMachine.{DxeMachine}
-use Rattle.boot_model.specs.DxeStep.{dxe_step, driver_started}
-use Rattle.boot_model.specs.EvaluationBound.{dxe_guids}
-use Rattle.boot_laws.specs.ChangedGuids.{is_among}
-use Rattle.boot_laws.specs.UnrequestedDrivers.{WaitForRequest}
-use Rattle.dxe_core.specs.Event.{EventLeaves}
-use Rattle.dxe_core.specs.declared.event.Event.{Event}
-use Rattle.dxe_core.specs.declared.stepped.Stepped.{Stepped}
+use Rattle.boot_model.specs.{DxeStep.dxe_step, DxeStep.driver_started, EvaluationBound.dxe_guids}
+use Rattle.boot_laws.specs.{ChangedGuids.is_among, UnrequestedDrivers.WaitForRequest}
+use Rattle.dxe_core.specs.{Event.EventLeaves, declared.event.Event.Event, declared.stepped.Stepped.Stepped, Turn.Printed, Turn.PrintedPart}
 use Rattle.dxe_core.specs.declared.stepped.Stepped.TheVariants.{Went, Idle, Ended}
 use Rattle.dxe_core.specs.Standing.{DxeCore, IsCoreOf, IsFor, StandsFor}
-use Rattle.dxe_core.specs.Turn.{Printed, PrintedPart}
 use Rattle.boot_trace.specs.Printing.{Texts}
 
 -- a call of the core: the core and the sink's text before it, and behind it

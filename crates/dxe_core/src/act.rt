@@ -3,9 +3,8 @@ ghost use Rattle.std.specs.Prelude.{◌≡◌, ◌<◌, ◌+◌, ◌-◌, ◌^�
 ghost use Rattle.boot_io.specs.Halted.{HaltsAfter};
 ghost use Rattle.boot_model.specs.DxeMachine.{DxeMachine};
 ghost use Rattle.mod_catalog.specs.WellFormed.{IsWellFormed};
-ghost use Rattle.dxe_core.specs.Services.{AreCounted, AreServicesFor};
+ghost use Rattle.dxe_core.specs.{Services.AreCounted, Services.AreServicesFor, Standing.IsFor, Standing.StandsFor};
 ghost use Rattle.dxe_core.specs.Parts.{ActsOwn, KeepsFor, RunsScript, StepsScript, TakesOwn};
-ghost use Rattle.dxe_core.specs.Standing.{IsFor, StandsFor};
 
 use crate::action::take_own;
 use crate::dxe::Dxe;

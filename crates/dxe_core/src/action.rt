@@ -2,11 +2,9 @@
 ghost use Rattle.std.specs.Prelude.{◌≡◌, ◌<◌, ◌+◌, ◌-◌, ◌^◌, ℕ, None, OnOk};
 ghost use Rattle.pi_base.specs.declared.phase.Phase.TheVariants.{Dxe as InDxe};
 ghost use Rattle.mod_catalog.specs.WellFormed.{IsWellFormed};
-ghost use Rattle.store_model.specs.Service.{Present};
-ghost use Rattle.store_model.specs.StoreCall.{Anything};
+ghost use Rattle.store_model.specs.{Service.Present, StoreCall.Anything};
 ghost use Rattle.boot_model.specs.DxeMachine.{DxeMachine};
-ghost use Rattle.phase_parts.specs.Deed.{deed};
-ghost use Rattle.phase_parts.specs.Needs.{IsScriptAction};
+ghost use Rattle.phase_parts.specs.{Deed.deed, Needs.IsScriptAction};
 ghost use Rattle.dxe_core.specs.Reply.{ServesOwn};
 ghost use Rattle.dxe_core.specs.Services.{AreCounted, AreServicesFor, AreServicesOf};
 

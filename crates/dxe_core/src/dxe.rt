@@ -1,14 +1,10 @@
 //! The core.
 ghost use Rattle.std.specs.Prelude.{◌≡◌, ◌↔◌, [], ℕ, IfOk, IsTrue, OnOk, is_some, option_map, true};
-ghost use Rattle.boot_io.specs.Halted.{HaltsAfter};
-ghost use Rattle.boot_io.specs.Sink.{SinkFaultsAfter};
+ghost use Rattle.boot_io.specs.{Halted.HaltsAfter, Sink.SinkFaultsAfter};
 ghost use Rattle.pi_base.specs.declared.phase.Phase.TheVariants.{Dxe as InDxe};
-ghost use Rattle.mod_catalog.specs.Parts.{part_at};
-ghost use Rattle.mod_catalog.specs.WellFormed.{IsWellFormed};
+ghost use Rattle.mod_catalog.specs.{Parts.part_at, WellFormed.IsWellFormed};
 ghost use Rattle.store_model.specs.StoreState.{StoreState};
-ghost use Rattle.boot_model.specs.Discovery.{discoveries};
-ghost use Rattle.boot_model.specs.DxeMachine.{DxeMachine};
-ghost use Rattle.boot_model.specs.DxeRun.{dxe_opening_of};
+ghost use Rattle.boot_model.specs.{Discovery.discoveries, DxeMachine.DxeMachine, DxeRun.dxe_opening_of};
 ghost use Rattle.phase_parts.specs.Frames.{top_of};
 ghost use Rattle.dxe_core.specs.Standing.{IsCoreOf, IsFor, StandsFor};
 ghost use Rattle.dxe_core.specs.Steps.{Starts, Steps};

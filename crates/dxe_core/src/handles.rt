@@ -2,11 +2,9 @@
 ghost use Rattle.std.specs.Prelude.{◌≡◌, ◌<◌, ◌-◌, ◌^◌, ℕ, suc, Ok, OnOk};
 ghost use Rattle.act_code.specs.declared.action.Action.TheVariants as A;
 ghost use Rattle.mod_catalog.specs.declared.catalogue.Catalog.{Catalog};
-ghost use Rattle.boot_model.specs.DxeMachine.{DriverFrame};
-ghost use Rattle.boot_model.specs.Registers.{both};
+ghost use Rattle.boot_model.specs.{DxeMachine.DriverFrame, Registers.both};
 ghost use Rattle.boot_model.specs.Registers as R;
-ghost use Rattle.dxe_core.specs.Answered.{GrowByOne, Serves};
-ghost use Rattle.dxe_core.specs.Services.{AreCounted};
+ghost use Rattle.dxe_core.specs.{Answered.GrowByOne, Answered.Serves, Services.AreCounted};
 
 use crate::event::Event;
 use crate::reply::Reply;

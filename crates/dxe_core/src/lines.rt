@@ -1,9 +1,7 @@
 //! The lines of a step and of a start.
 ghost use Rattle.std.specs.Prelude.{◌≡◌, ◌∷◌};
 ghost use Rattle.boot_io.specs.Sink.{Puts, SinkFaultsAfter};
-ghost use Rattle.boot_model.specs.Discovery.{discovery_lines};
-ghost use Rattle.boot_model.specs.DxeStep.{dxe_start_line, protocol_line};
-ghost use Rattle.boot_model.specs.Text.{text_of};
+ghost use Rattle.boot_model.specs.{Discovery.discovery_lines, DxeStep.dxe_start_line, DxeStep.protocol_line, Text.text_of};
 
 use boot_io::{Sink, SinkFault};
 use boot_model::{Line, ProtocolNote, ProtocolSweep, Scheduled};

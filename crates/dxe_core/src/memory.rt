@@ -2,11 +2,9 @@
 ghost use Rattle.std.specs.Prelude.{◌≤◌, Ok};
 ghost use Rattle.act_code.specs.declared.action.Action.TheVariants as A;
 ghost use Rattle.mod_catalog.specs.declared.catalogue.Catalog.{Catalog};
-ghost use Rattle.store_model.specs.Service.{Present};
-ghost use Rattle.store_model.specs.StoreCall.{Anything};
+ghost use Rattle.store_model.specs.{Service.Present, StoreCall.Anything};
 ghost use Rattle.boot_model.specs.DxeMachine.{DxeMachine};
-ghost use Rattle.dxe_core.specs.Reply.{Replies};
-ghost use Rattle.dxe_core.specs.Services.{Services, AreServicesOf};
+ghost use Rattle.dxe_core.specs.{Reply.Replies, Services.Services, Services.AreServicesOf};
 
 use crate::reply::Reply;
 use boot_model::{CallName, DriverFrame};

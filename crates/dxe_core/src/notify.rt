@@ -1,10 +1,8 @@
 //! The notifications of the top frame's sweep.
 ghost use Rattle.std.specs.Prelude.{◌≡◌, ℕ, OnOk};
 ghost use Rattle.boot_io.specs.Halted.{HaltsAfter};
-ghost use Rattle.boot_model.specs.DxeMachine.{DxeMachine, protocol_frame};
-ghost use Rattle.boot_model.specs.DxeStep.{next_note};
-ghost use Rattle.dxe_core.specs.Parts.{StepsFired, next_of_top};
-ghost use Rattle.dxe_core.specs.Standing.{IsFor};
+ghost use Rattle.boot_model.specs.{DxeMachine.DxeMachine, DxeMachine.protocol_frame, DxeStep.next_note};
+ghost use Rattle.dxe_core.specs.{Parts.StepsFired, Parts.next_of_top, Standing.IsFor};
 
 use crate::dxe::Dxe;
 use crate::event::Event;

@@ -1,12 +1,8 @@
 //! The discovered volumes and their drivers.
 ghost use Rattle.std.specs.Prelude.{◌≡◌, ◌≤◌, ◌<◌, ◌++◌, [], ℕ, List, IfOk, OnOk, Some, length};
-ghost use Rattle.mod_catalog.specs.declared.catalogue.Catalog.{Catalog};
-ghost use Rattle.mod_catalog.specs.declared.limits.TheConstants.{MOST_MODULES};
-ghost use Rattle.mod_catalog.specs.Parts.{has_number};
+ghost use Rattle.mod_catalog.specs.{declared.catalogue.Catalog.Catalog, declared.limits.TheConstants.MOST_MODULES, Parts.has_number};
 ghost use Rattle.mod_catalog.specs.WellFormed.{IsWellFormed};
-ghost use Rattle.boot_model.specs.Discovery.{discoveries};
-ghost use Rattle.boot_model.specs.DxeChoice.{drivers_of};
-ghost use Rattle.boot_model.specs.Reporting.{newcomers};
+ghost use Rattle.boot_model.specs.{Discovery.discoveries, DxeChoice.drivers_of, Reporting.newcomers};
 ghost use Rattle.dxe_core.specs.Order.{IsOrderOf, OrderGrows, first_driver, befores_of, afters_of, asking_of};
 
 use crate::names::Names;

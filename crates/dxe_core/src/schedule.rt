@@ -2,10 +2,8 @@
 ghost use Rattle.std.specs.Prelude.{◌≡◌, ◌<◌, length, Some, IfSome, IsTrue};
 ghost use Rattle.act_code.specs.declared.action.Action.TheVariants as A;
 ghost use Rattle.boot_model.specs.DxeMachine.{DriverFrame};
-ghost use Rattle.dxe_core.specs.Answered.{GrowByOne};
-ghost use Rattle.dxe_core.specs.Order.{asking_of};
+ghost use Rattle.dxe_core.specs.{Answered.GrowByOne, Order.asking_of, Services.AreServicesFor};
 ghost use Rattle.dxe_core.specs.Requests.{ServesRequest, first_down, is_down};
-ghost use Rattle.dxe_core.specs.Services.{AreServicesFor};
 
 use crate::event::Event;
 use crate::reply::Reply;

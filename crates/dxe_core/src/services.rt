@@ -2,8 +2,7 @@
 ghost use Rattle.std.specs.Prelude.{◌≡◌, ◌<◌, ◌^◌, [], ℕ, length, IfOk, slice_get, option_copied, replicate, false};
 ghost use Rattle.store_model.specs.StoreState.{StoreState};
 ghost use Rattle.mod_catalog.specs.WellFormed.{IsWellFormed};
-ghost use Rattle.boot_model.specs.Discovery.{discoveries};
-ghost use Rattle.boot_model.specs.DxeRun.{dxe_opening_of};
+ghost use Rattle.boot_model.specs.{Discovery.discoveries, DxeRun.dxe_opening_of};
 ghost use Rattle.dxe_core.specs.Answered.{sweep_of};
 ghost use Rattle.dxe_core.specs.Services.{AreCounted, AreServicesFor, AreServicesOf};
 

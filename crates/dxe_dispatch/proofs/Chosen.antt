@@ -1,34 +1,24 @@
 -- A turn by choices, from the machine's own step.
-use Rattle.std.proofs.Common.{◌≡◌, ◌≤◌, ◌<◌, ℕ, ◌+◌, arith, Bool, true, false, true≢false, List, [], length, Option, None, Err, Result, refl, sym, ap, ◌∙◌, subst}
-use Rattle.std.specs.Prelude.{◌↔◌, IsTrue, OnOk}
+use Rattle.std.proofs.Common.{◌≡◌, ◌≤◌, ◌<◌, ℕ, ◌+◌, arith, Bool, true, false, true≢false, List, [], length, Option, None, Err, Result, refl, sym, ap, ◌∙◌, subst, ◌↔◌, IsTrue, OnOk}
 use Rattle.boot_io.specs.declared.halt.Halt.{Halt}
-use Rattle.mod_catalog.specs.declared.catalogue.Catalog.{Catalog}
-use Rattle.mod_catalog.specs.Parts.{part_of}
-use Rattle.mod_catalog.specs.WellFormed.{IsWellFormed}
+use Rattle.mod_catalog.specs.{declared.catalogue.Catalog.Catalog, Parts.part_of, WellFormed.IsWellFormed}
 use Rattle.pi_base.specs.declared.phase.Phase.TheVariants.{Dxe}
 use Rattle.store_model.specs.StoreState.{StoreState}
-use Rattle.boot_model.specs.DxeMachine.{DxeMachine}
-use Rattle.boot_model.specs.DxeStep.{dxe_step}
-use Rattle.boot_laws.specs.UnrequestedDrivers.{WaitForRequest}
+use Rattle.boot_model.specs.{DxeMachine.DxeMachine, DxeStep.dxe_step}
+use Rattle.boot_laws.specs.{UnrequestedDrivers.WaitForRequest, DxeFree.OwnDxeStepsAreFree}
 use Rattle.boot_laws.proofs.EachDriver.{has_each_once}
-use Rattle.boot_model.proofs.Distinct.{all_differ, few_below}
-use Rattle.boot_model.proofs.ListFacts.{each_more, within}
+use Rattle.boot_model.proofs.{Distinct.all_differ, Distinct.few_below, ListFacts.each_more, ListFacts.within}
 use Rattle.boot_trace.specs.Printing.{Texts}
-use Rattle.dxe_core.specs.Order.{Drivers, IsOrderOf}
+use Rattle.dxe_core.specs.{Order.Drivers, Order.IsOrderOf, Standing.DxeCore}
 use Rattle.dxe_dispatch.specs.Queue.{IsQueueOf, IsSeen, Queue}
-use Rattle.dxe_core.specs.Standing.{DxeCore}
 use Rattle.boot_laws.specs.DxeAim.{FirstEligibleMayStart, GroupsAreAimed, aimed}
-use Rattle.boot_laws.specs.DxeFree.{OwnDxeStepsAreFree}
 use Rattle.boot_laws.specs.DxeUnderWay.{DxeStepsRunOut, IsDriverOf, IsNearerEnd, IsUnderWay}
-use Rattle.dxe_dispatch.specs.declared.answer.Turn.{Turn}
+use Rattle.dxe_dispatch.specs.{declared.answer.Turn.Turn, Ends.IsNow}
 use Rattle.dxe_dispatch.specs.Choices.{Asks, IsAimedBy, IsOnWay, TurnsBy, aimed_at}
-use Rattle.dxe_dispatch.specs.Ends.{IsNow}
 use Rattle.dxe_dispatch.specs.Turns.{AreKeptFor, IsLeft, IsAtTurn, EvaluatesWithin, TurnsDxeTo}
-use Rattle.dxe_dispatch.proofs.FirstStarts.{aimed_owns, starts_first}
-use Rattle.dxe_dispatch.proofs.Growing.{step_grew}
-use Rattle.dxe_dispatch.proofs.Requests.{aim_waits, step_waits}
+use Rattle.dxe_dispatch.proofs.{FirstStarts.aimed_owns, FirstStarts.starts_first, Growing.step_grew}
+use Rattle.dxe_dispatch.proofs.{Requests.aim_waits, Requests.step_waits, Turning.none_put}
 use Rattle.dxe_dispatch.proofs.Targets.{Aimed, First, IsChosen, IsTarget, Own, first_step, target_is, target_stands}
-use Rattle.dxe_dispatch.proofs.Turning.{none_put}
 
 -- the laws of free steps on which a turn stands
 pub record StepLaws : Type 0 where

@@ -1,37 +1,24 @@
 -- The run by choices so far.
-use Rattle.std.proofs.Common.{◌≡◌, ◌≤◌, ◌<◌, ℕ, ◌+◌, arith, Bool, false, inl, inr, List, [], ◌∷◌, ◌++◌, Option, Ok, Err, refl, sym, ap, ◌∙◌, subst, is_some, length}
-use Rattle.std.proofs.lemmas.List.{append-nil}
+use Rattle.std.proofs.Common.{◌≡◌, ◌≤◌, ◌<◌, ℕ, ◌+◌, arith, Bool, false, inl, inr, List, [], ◌∷◌, ◌++◌, Option, Ok, Err, refl, sym, ap, ◌∙◌, subst, is_some, length, append-nil}
 use Rattle.std.specs.Io.KnownBytes.{Appends}
 use Rattle.boot_io.proofs.PutsLaws.{appends_then, part_then}
-use Rattle.boot_io.specs.Sink.{AppendsPart}
-use Rattle.boot_io.specs.declared.halt.Halt.{Halt}
-use Rattle.mod_catalog.specs.declared.catalogue.Catalog.{Catalog}
-use Rattle.mod_catalog.specs.WellFormed.{IsWellFormed}
-use Rattle.store_model.specs.HandleState.{no_handles}
-use Rattle.store_model.specs.StoreState.{StoreState}
-use Rattle.boot_model.specs.declared.line.Line.{Line}
-use Rattle.boot_model.specs.declared.phase_end.DxeEnd.{DxeEnd}
-use Rattle.boot_model.specs.Discovery.{discovery_lines}
+use Rattle.boot_io.specs.{Sink.AppendsPart, declared.halt.Halt.Halt}
+use Rattle.mod_catalog.specs.{declared.catalogue.Catalog.Catalog, WellFormed.IsWellFormed}
+use Rattle.store_model.specs.{HandleState.no_handles, StoreState.StoreState}
+use Rattle.boot_model.specs.{declared.line.Line.Line, declared.phase_end.DxeEnd.DxeEnd, Discovery.discovery_lines, DxeMachine.DxeMachine}
 use Rattle.boot_model.specs.DxeChoice.{a_priori_drivers, discovered_order, drivers_of}
-use Rattle.boot_model.specs.DxeMachine.{DxeMachine}
-use Rattle.boot_model.specs.DxeRun.{dxe_bound, dxe_opening}
-use Rattle.boot_model.specs.DxeStep.{dxe_step}
-use Rattle.boot_model.specs.Licence.{AllDiffer}
-use Rattle.boot_model.specs.Text.{text_of}
+use Rattle.boot_model.specs.{DxeRun.dxe_bound, DxeRun.dxe_opening, DxeStep.dxe_step, Licence.AllDiffer, Text.text_of}
 use Rattle.boot_model.proofs.Texts.{text_of-append}
 use Rattle.boot_trace.proofs.Lines.{part_none, part_whole}
-use Rattle.boot_laws.specs.UnrequestedDrivers.{UnrequestedDriversWait}
+use Rattle.boot_laws.specs.{UnrequestedDrivers.UnrequestedDriversWait, declared.choice.Reached.Reached, DxeAim.FirstEligibleMayStart}
 use Rattle.dxe_core.specs.Order.{Drivers, IsOrderOf}
 use Rattle.dxe_dispatch.specs.Queue.{AreNew, Discovers, HasVolumes, IsNewQueue, IsQueueOf, Queue, owed}
 use Rattle.dxe_core.specs.Standing.{DxeCore, IsCoreOf, IsFor, StandsFor}
 use Rattle.boot_laws.specs.DxeUnderWay.{DxeHasEnded, DxeOpensUnderWay, steps_left}
-use Rattle.boot_laws.specs.declared.choice.Reached.{Reached}
 use Rattle.boot_laws.specs.declared.choice.Reached.TheVariants as R
-use Rattle.boot_laws.specs.DxeAim.{FirstEligibleMayStart}
 use Rattle.boot_laws.specs.Naming.{HasPut}
 use Rattle.dxe_dispatch.specs.Choices.{BarsBy, EndsBy, EvaluatesFewBy, IsOnWay, IsRunBy, RunsBy, StopsShort, TurnsBy, came, changes_of}
-use Rattle.dxe_dispatch.specs.Ends.{IsNow}
-use Rattle.dxe_dispatch.specs.declared.answer.Step.{Step}
+use Rattle.dxe_dispatch.specs.{Ends.IsNow, declared.answer.Step.Step}
 use Rattle.dxe_dispatch.specs.declared.answer.Turn.TheVariants as T
 use Rattle.dxe_dispatch.specs.Turns.{IsGivenUp, IsLeft, EvaluatesWithin}
 use Rattle.dxe_dispatch.proofs.Chosen.{Any, StepLaws, TakesFew, few_by, few_started, nearer_by, same_discovered, same_lines, target_at, waits_behind}

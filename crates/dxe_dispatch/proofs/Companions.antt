@@ -1,12 +1,8 @@
 -- The companions of a driver are found by its name: those that wait of the drivers that give the name, if the driver is the first of the name.
-use Rattle.std.proofs.Common.{◌≡◌, ℕ, ◌==◌, Bool, true, false, ◌&&◌, cond, List, [], ◌∷◌, Option, Some, None, refl, sym, subst, ap, ◌∙◌}
-use Rattle.std.specs.Prelude.{filter, find}
+use Rattle.std.proofs.Common.{◌≡◌, ℕ, ◌==◌, Bool, true, false, ◌&&◌, cond, List, [], ◌∷◌, Option, Some, None, refl, sym, subst, ap, ◌∙◌, filter, find}
 use Rattle.std.proofs.lemmas.Slice.Eq.{bytes_eq-Decides}
-use Rattle.pi_base.specs.declared.guid.Guid.{Guid}
-use Rattle.pi_base.specs.Guids.{same_guid}
-use Rattle.mod_catalog.specs.declared.catalogue.Catalog.{Catalog}
-use Rattle.mod_catalog.specs.declared.catalogue.PartExpr.{PartExpr}
-use Rattle.mod_catalog.specs.Parts.{module_name}
+use Rattle.pi_base.specs.{declared.guid.Guid.Guid, Guids.same_guid}
+use Rattle.mod_catalog.specs.{declared.catalogue.Catalog.Catalog, declared.catalogue.PartExpr.PartExpr, Parts.module_name}
 use Rattle.boot_model.specs.DxeMachine.{DxeMachine}
 use Rattle.boot_model.specs.DxeChoice.{drivers_of, waiting, is_waiting, targets, name_by, before_of, after_of, befores, afters}
 use Rattle.boot_model.proofs.ListFacts.{found_passes}

@@ -1,17 +1,12 @@
 -- Over an index that stands for a machine, a driver may be next exactly where it is the first that may start from its own place on.
-use Rattle.std.proofs.Common.{◌≡◌, ℕ, zero, suc, ◌==◌, Bool, true, false, ◌&&◌, ◌||◌, cond, List, [], ◌∷◌, ◌++◌, Option, Some, None, drop, take, refl, sym, subst, ap, ◌∙◌, arith, eqb}
-use Rattle.std.specs.Prelude.{◌↔◌, filter, find, slice_get}
-use Rattle.std.specs.Option.{option_and_then, option_eq}
+use Rattle.std.proofs.Common.{◌≡◌, ℕ, zero, suc, ◌==◌, Bool, true, false, ◌&&◌, ◌||◌, cond, List, [], ◌∷◌, ◌++◌, Option, Some, None, drop, take, refl, sym, subst, ap, ◌∙◌, arith, eqb, ◌↔◌, filter, find, slice_get, option_and_then}
+use Rattle.std.specs.Option.{option_eq}
 use Rattle.std.proofs.lemmas.Bool.Decides.{nat_tests}
-use Rattle.mod_catalog.specs.declared.catalogue.Catalog.{Catalog}
-use Rattle.mod_catalog.specs.Parts.{has_number}
-use Rattle.boot_model.specs.DxeChoice.{is_eligible_driver, is_waiting}
-use Rattle.boot_model.specs.DxeMachine.{DxeMachine}
-use Rattle.boot_model.specs.PeiChoice.{rotated}
+use Rattle.mod_catalog.specs.{declared.catalogue.Catalog.Catalog, Parts.has_number}
+use Rattle.boot_model.specs.{DxeChoice.is_eligible_driver, DxeChoice.is_waiting, DxeMachine.DxeMachine, PeiChoice.rotated}
 use Rattle.boot_model.proofs.ListFacts.{found_passes, has_first}
 use Rattle.boot_laws.proofs.PartLists.{is_equal}
-use Rattle.wait_index.specs.declared.index.WaitIndex.{WaitIndex}
-use Rattle.wait_index.specs.Dispatch.{StandsForDxe}
+use Rattle.wait_index.specs.{declared.index.WaitIndex.WaitIndex, Dispatch.StandsForDxe}
 use Rattle.wait_index.specs.Index.{IsIndex, is_eligible_in, order_in}
 use Rattle.wait_index.proofs.Dispatch.{dxe_one}
 use Rattle.dxe_dispatch.specs.Aim.{may_be_next}

@@ -1,34 +1,24 @@
 -- Where nothing is scheduled, the group of the first eligible driver is, or of the one at which the choice is aimed; and the head of the queue comes next.
-use Rattle.std.proofs.Common.{◌≡◌, ℕ, suc, ◌+◌, ◌-◌, ◌<◌, ◌≤◌, ◌==◌, Bool, true, false, true≢false, ◌&&◌, ◌||◌, not, cond, List, [], ◌∷◌, ◌++◌, Option, Some, None, length, drop, reverse, refl, sym, subst, ap, ◌∙◌, arith}
-use Rattle.std.proofs.lemmas.List.{length-drop, reverse-append, reverse-reverse}
-use Rattle.std.proofs.Math.ListN.{drop_of_length-le}
-use Rattle.std.proofs.lemmas.Bool.{eqb-true}
-use Rattle.std.proofs.lemmas.Bool.Decides.{nat_tests}
-use Rattle.std.specs.Prelude.{◌↔◌, IsTrue, nat_eq, IfSome, Result, Ok, Err, OnOk}
+use Rattle.std.proofs.Common.{◌≡◌, ℕ, suc, ◌+◌, ◌-◌, ◌<◌, ◌≤◌, ◌==◌, Bool, true, false, true≢false, ◌&&◌, ◌||◌, not, cond, List, [], ◌∷◌, ◌++◌, Option, Some, None, length, drop, reverse, refl, sym, subst, ap, ◌∙◌, arith, length-drop, eqb-true, ◌↔◌, IsTrue, nat_eq, IfSome, Result, Ok, Err, OnOk}
+use Rattle.std.proofs.{lemmas.List.reverse-append, lemmas.List.reverse-reverse, Math.ListN.drop_of_length-le, lemmas.Bool.Decides.nat_tests}
 use Rattle.std.specs.List.{list_any}
-use Rattle.pi_base.specs.Lists.{Each}
+use Rattle.pi_base.specs.{Lists.Each, declared.phase.Phase.TheVariants.Dxe}
 use Rattle.mod_catalog.specs.declared.catalogue.Catalog.{Catalog}
-use Rattle.pi_base.specs.declared.phase.Phase.TheVariants.{Dxe}
 use Rattle.mod_catalog.specs.Parts.{has_number, part_at, part_of}
-use Rattle.boot_model.specs.declared.driver.Scheduled.{Scheduled}
-use Rattle.boot_model.specs.DxeMachine.{DxeMachine}
+use Rattle.boot_model.specs.{declared.driver.Scheduled.Scheduled, DxeMachine.DxeMachine}
 use Rattle.boot_model.specs.DxeChoice.{companion_group, driver_licence, driver_queue, drivers_of, first_eligible, group_scheduled, head_of, is_eligible_driver, is_waiting, queue_from, schedule_of, waiting}
 use Rattle.boot_laws.specs.GroupUnfolds.{IsRoot}
 use Rattle.boot_model.proofs.ListFacts.{each_append, each_more, within, each_found, each_has, found_passes}
 use Rattle.boot_laws.proofs.PartLists.{IsKnown}
 use Rattle.dxe_core.specs.Order.{Drivers}
-use Rattle.wait_index.specs.declared.index.WaitIndex.{WaitIndex}
-use Rattle.wait_index.specs.Dispatch.{StandsForDxe}
+use Rattle.wait_index.specs.{declared.index.WaitIndex.WaitIndex, Dispatch.StandsForDxe, Index.IsIndex}
 use Rattle.wait_index.specs.Index as W
-use Rattle.wait_index.specs.Index.{IsIndex}
 use Rattle.dxe_dispatch.specs.Aim.{aimed, is_free, may_be_next}
 use Rattle.dxe_dispatch.specs.Choosing.{HaveWaiting, HasFlagFor, IsFilledQueue, IsSeenRoot, Schedules, TakesHead}
 use Rattle.dxe_dispatch.specs.Index.{is_scheduled_in}
 use Rattle.dxe_dispatch.specs.Queue.{ComesNext, HasStarted, IsDriver, IsQueueFor, IsQueueOf, Queue, owed, waits_at}
-use Rattle.dxe_dispatch.proofs.Machines.{stands_scheduled}
+use Rattle.dxe_dispatch.proofs.{Machines.stands_scheduled, WaitingDrivers.none_leave, Walks.group_numbers}
 use Rattle.dxe_dispatch.proofs.Scheduling.{IsKnownNext, each_map, mapped_drivers, scheduled_row}
-use Rattle.dxe_dispatch.proofs.WaitingDrivers.{none_leave}
-use Rattle.dxe_dispatch.proofs.Walks.{group_numbers}
 
 pub root_is : (catalog : Catalog) (m : DxeMachine) (root : ℕ) → first_eligible catalog m ≡ Some root → IsRoot catalog m root
 root_is catalog m root h = record {

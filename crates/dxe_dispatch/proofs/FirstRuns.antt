@@ -1,17 +1,11 @@
 -- A run by choices that name none is the run of the machine.
-use Rattle.std.proofs.Common.{◌≡◌, ◌≤◌, ℕ, zero, suc, ◌+◌, arith, Bool, true, List, [], ◌∷◌, ◌++◌, Option, Some, None, Ok, refl, sym, ap, ◌∙◌, subst, is_some, length}
-use Rattle.std.specs.Prelude.{sum_by}
+use Rattle.std.proofs.Common.{◌≡◌, ◌≤◌, ℕ, zero, suc, ◌+◌, arith, Bool, true, List, [], ◌∷◌, ◌++◌, Option, Some, None, Ok, refl, sym, ap, ◌∙◌, subst, is_some, length, sum_by}
 use Rattle.boot_io.specs.Sink.{AppendsPart}
 use Rattle.mod_catalog.specs.declared.catalogue.Catalog.{Catalog}
 use Rattle.store_model.specs.StoreState.{StoreState}
-use Rattle.boot_model.specs.declared.line.Line.{Line}
-use Rattle.boot_model.specs.declared.phase_end.DxeEnd.{DxeEnd}
-use Rattle.boot_model.specs.DxeChoice.{discovered_order}
-use Rattle.boot_model.specs.DxeMachine.{DxeMachine}
-use Rattle.boot_model.specs.DxeRun.{dxe_run}
-use Rattle.boot_model.specs.DxeStep.{dxe_step}
+use Rattle.boot_model.specs.{declared.line.Line.Line, declared.phase_end.DxeEnd.DxeEnd, DxeChoice.discovered_order, DxeMachine.DxeMachine}
+use Rattle.boot_model.specs.{DxeRun.dxe_run, DxeStep.dxe_step, Text.text_of}
 use Rattle.boot_model.specs.EvaluationBound.{dxe_asked, dxe_changes, dxe_evaluations, dxe_guids}
-use Rattle.boot_model.specs.Text.{text_of}
 use Rattle.boot_trace.proofs.Lines.{part_of_longer}
 use Rattle.dxe_dispatch.specs.Choices.{EndsBy, EvaluatesFewBy, IsAimedBy, IsRunBy, StopsShort, aimed_at, came, changes_of}
 use Rattle.dxe_dispatch.specs.Ends.{HasEnded, RunCall, RunsFirstTo, StandsAtEnd}

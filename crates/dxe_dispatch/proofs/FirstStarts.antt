@@ -1,22 +1,13 @@
 -- The first driver of a group that is scheduled, and the lines of its start.
 use Rattle.std.proofs.Common.{◌≡◌, ℕ, true, List, [], ◌∷◌, ◌++◌, Option, Some, None, refl, sym, ap, ◌∙◌, subst, is_some}
 use Rattle.act_code.specs.declared.action.Action.{Action}
-use Rattle.pi_base.specs.declared.phase.Phase.TheVariants.{Dxe}
-use Rattle.pi_base.specs.Lists.{Each}
-use Rattle.mod_catalog.specs.declared.catalogue.Catalog.{Catalog}
-use Rattle.mod_catalog.specs.declared.catalogue.Part.{Part}
-use Rattle.mod_catalog.specs.Parts.{part_at}
-use Rattle.boot_model.specs.declared.driver.Scheduled.{Scheduled}
-use Rattle.boot_model.specs.declared.line.Line.{Line}
-use Rattle.boot_model.specs.DxeChoice.{group_scheduled}
-use Rattle.boot_model.specs.DxeMachine.{DxeMachine}
+use Rattle.pi_base.specs.{declared.phase.Phase.TheVariants.Dxe, Lists.Each}
+use Rattle.mod_catalog.specs.{declared.catalogue.Catalog.Catalog, declared.catalogue.Part.Part, Parts.part_at}
+use Rattle.boot_model.specs.{declared.driver.Scheduled.Scheduled, declared.line.Line.Line, DxeChoice.group_scheduled, DxeMachine.DxeMachine}
 use Rattle.boot_model.specs.DxeStep.{DxeStarts, dxe_case_of, dxe_start_line, dxe_step, driver_started, in_dxe_case}
-use Rattle.boot_model.specs.DriverLicence.{numbers_of}
-use Rattle.boot_model.specs.FreeRun.{MaySchedule}
-use Rattle.boot_model.specs.PeiStep.{start_lines}
+use Rattle.boot_model.specs.{DriverLicence.numbers_of, FreeRun.MaySchedule, PeiStep.start_lines}
 use Rattle.boot_laws.specs.DxeAim.{GroupsAreAimed, IsChoosing, aimed}
-use Rattle.boot_laws.specs.DxeFree.{IsOwnCase}
-use Rattle.boot_laws.specs.DxeUnderWay.{IsDriverOf, IsUnderWay}
+use Rattle.boot_laws.specs.{DxeFree.IsOwnCase, DxeUnderWay.IsDriverOf, DxeUnderWay.IsUnderWay}
 
 -- the first line of a start is the start's
 start_first : (line : Line) (blocks : List (List Action)) → (rest : List Line) × (start_lines line blocks ≡ line ∷ rest)

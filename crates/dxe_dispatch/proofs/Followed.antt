@@ -1,8 +1,7 @@
 -- The way from a driver to the one to which its names lead.
 use Rattle.std.proofs.Common.{◌≡◌, ℕ, zero, suc, ◌<◌, ◌≤◌, ◌+◌, ◌-◌, Some, None, refl, ap, ◌∙◌, arith}
 use Rattle.mod_catalog.specs.declared.catalogue.Catalog.{Catalog}
-use Rattle.boot_model.specs.DriverLicence.{target_of}
-use Rattle.boot_model.specs.DxeMachine.{DxeMachine}
+use Rattle.boot_model.specs.{DriverLicence.target_of, DxeMachine.DxeMachine}
 use Rattle.boot_laws.specs.DxeAim.{follows}
 
 -- a step on the way to the root

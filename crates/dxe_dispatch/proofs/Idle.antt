@@ -1,12 +1,8 @@
 -- What a step is where no script runs: the start of the next driver, or the stop.
 use Rattle.std.proofs.Common.{◌≡◌, ℕ, ◌+◌, true, List, ◌∷◌, length, Option, Some, None, refl, ap, ◌∙◌, is_some, arith}
 use Rattle.pi_base.specs.declared.phase.Phase.TheVariants.{Dxe}
-use Rattle.mod_catalog.specs.declared.catalogue.Catalog.{Catalog}
-use Rattle.mod_catalog.specs.declared.catalogue.Part.{Part}
-use Rattle.mod_catalog.specs.Parts.{part_at}
-use Rattle.boot_model.specs.declared.driver.Scheduled.{Scheduled}
-use Rattle.boot_model.specs.DxeChoice.{next_driver}
-use Rattle.boot_model.specs.DxeMachine.{DxeMachine}
+use Rattle.mod_catalog.specs.{declared.catalogue.Catalog.Catalog, declared.catalogue.Part.Part, Parts.part_at}
+use Rattle.boot_model.specs.{declared.driver.Scheduled.Scheduled, DxeChoice.next_driver, DxeMachine.DxeMachine}
 use Rattle.boot_model.specs.DxeStep.{DxeStarts, DxeStops, dxe_case_in, dxe_case_of, in_dxe_case, queue_case, dxe_step, dxe_stopped, driver_started}
 use Rattle.dxe_dispatch.specs.Queue.{Queue, IsQueueOf, IsDriver, IsNext}
 use Rattle.dxe_core.specs.Steps.{IsIdle}

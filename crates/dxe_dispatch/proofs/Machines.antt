@@ -1,29 +1,17 @@
 -- The machine for which the index of the waiting drivers stands, where something of it changes.
-use Rattle.std.proofs.Common.{◌≡◌, ℕ, ◌==◌, Bool, true, false, ◌&&◌, ◌||◌, not, cond, List, [], ◌∷◌, ◌++◌, Some, refl, sym, ap, ◌∙◌}
-use Rattle.std.specs.Prelude.{slice_get, unwrap_or}
+use Rattle.std.proofs.Common.{◌≡◌, ℕ, ◌==◌, Bool, true, false, ◌&&◌, ◌||◌, not, cond, List, [], ◌∷◌, ◌++◌, Some, refl, sym, ap, ◌∙◌, slice_get, unwrap_or}
 use Rattle.std.specs.List.{list_any}
-use Rattle.std.proofs.lemmas.Grind.{flat_map-append}
-use Rattle.std.proofs.lemmas.List.Folds.{list_any-append}
-use Rattle.std.proofs.lemmas.Slice.Eq.{bytes_eq-Decides}
-use Rattle.pi_base.specs.GuidMap.{value_of}
-use Rattle.pi_base.specs.declared.guid.Guid.{Guid}
-use Rattle.pi_base.specs.declared.phase.Phase.TheVariants.{Dxe}
-use Rattle.pi_base.specs.Guids.{same_guid}
+use Rattle.std.proofs.{lemmas.Grind.flat_map-append, lemmas.List.Folds.list_any-append, lemmas.Slice.Eq.bytes_eq-Decides}
+use Rattle.pi_base.specs.{GuidMap.value_of, declared.guid.Guid.Guid, declared.phase.Phase.TheVariants.Dxe, Guids.same_guid}
 use Rattle.mod_catalog.specs.declared.catalogue.Catalog.{Catalog}
 use Rattle.mod_catalog.specs.Parts.{has_number, part_at, parts_in}
 use Rattle.store_model.specs.HandleState.{has_protocol}
-use Rattle.boot_model.specs.declared.driver.Scheduled.{Scheduled}
+use Rattle.boot_model.specs.{declared.driver.Scheduled.Scheduled, DxeMachine.DxeMachine, Licence.AllDiffer}
 use Rattle.boot_model.specs.DxeChoice.{asks_for_request, discovered_order, drivers_of, is_waiting}
-use Rattle.boot_model.specs.DxeMachine.{DxeMachine}
-use Rattle.boot_model.specs.Licence.{AllDiffer}
 use Rattle.boot_laws.proofs.PartLists.{is_equal}
-use Rattle.wait_index.specs.declared.index.WaitIndex.{WaitIndex}
-use Rattle.wait_index.specs.declared.installed.Installed.{Installed}
-use Rattle.wait_index.specs.declared.standing.Standing.{Standing}
-use Rattle.wait_index.specs.Discovery.{HaveCome}
-use Rattle.wait_index.specs.Dispatch.{StandsForDxe}
+use Rattle.wait_index.specs.{declared.index.WaitIndex.WaitIndex, declared.installed.Installed.Installed}
+use Rattle.wait_index.specs.{declared.standing.Standing.Standing, Discovery.HaveCome, Dispatch.StandsForDxe, Installed.is_there}
 use Rattle.wait_index.specs.Index.{IsSame, IsSet, again_in, has_in, is_open_in, order_in, waits_in}
-use Rattle.wait_index.specs.Installed.{is_there}
 use Rattle.wait_index.specs.Places.{standing_of, unknown}
 use Rattle.dxe_dispatch.specs.Index.{IsRequested, WaitNoMore, is_scheduled_in}
 use Rattle.dxe_dispatch.specs.Queue.{AreUntouched, HasProtocol, HasRequest}

@@ -1,20 +1,13 @@
 -- The core at the opening behind a hand-off.
-use Rattle.std.proofs.Common.{◌≡◌, ℕ, ◌≤◌, Bool, List, [], Option, Result, Ok, Err, refl, sym, ◌∙◌, subst, arith}
-use Rattle.std.specs.Prelude.{IfOk}
+use Rattle.std.proofs.Common.{◌≡◌, ℕ, ◌≤◌, Bool, List, [], Option, Result, Ok, Err, refl, sym, ◌∙◌, subst, arith, IfOk}
 use Rattle.boot_trace.proofs.Lines.{part_none}
 use Rattle.mod_catalog.specs.declared.catalogue.Catalog.{Catalog}
-use Rattle.store_model.specs.Service.Reading.{fv_bases}
-use Rattle.store_model.specs.HandleState.{HandleState}
-use Rattle.store_model.specs.StoreState.{StoreState}
-use Rattle.boot_model.specs.Discovery.{discoveries}
-use Rattle.boot_model.specs.DxeRun.{dxe_opening, dxe_opening_of}
-use Rattle.boot_model.specs.declared.phase_end.DxeEnd.{DxeEnd}
+use Rattle.store_model.specs.{Service.Reading.fv_bases, HandleState.HandleState, StoreState.StoreState}
+use Rattle.boot_model.specs.{Discovery.discoveries, DxeRun.dxe_opening, DxeRun.dxe_opening_of, declared.phase_end.DxeEnd.DxeEnd}
 use Rattle.boot_model.specs.DxeMachine.{DxeMachine}
-use Rattle.dxe_dispatch.specs.Queue.{Queue}
+use Rattle.dxe_dispatch.specs.{Queue.Queue, declared.boot.Run.Run, Ends.IsOpened}
 use Rattle.dxe_core.specs.Standing.{DxeCore, IsCoreOf, StandsFor}
 use Rattle.dxe_dispatch.specs.Choices.{BarsBy, BootsBy, LeavesBy, RunsBy, StopsShort, handles_of, leaves}
-use Rattle.dxe_dispatch.specs.declared.boot.Run.{Run}
-use Rattle.dxe_dispatch.specs.Ends.{IsOpened}
 use Rattle.boot_laws.specs.declared.choice.Reached.{Reached}
 use Rattle.boot_laws.specs.declared.choice.Reached.TheVariants as R
 

@@ -1,9 +1,7 @@
 -- Whether a driver that a step starts is let.
 use Rattle.std.proofs.Common.{◌≡◌, ℕ, Bool, true, List, Some, None, refl, sym, ap, ◌∙◌}
 use Rattle.mod_catalog.specs.declared.catalogue.Catalog.{Catalog}
-use Rattle.boot_model.specs.declared.driver.Scheduled.{Scheduled}
-use Rattle.boot_model.specs.DxeChoice.{next_driver}
-use Rattle.boot_model.specs.DxeMachine.{DxeMachine}
+use Rattle.boot_model.specs.{declared.driver.Scheduled.Scheduled, DxeChoice.next_driver, DxeMachine.DxeMachine}
 use Rattle.boot_model.specs.DxeStep.{DxeStarts, DxeStops}
 use Rattle.boot_laws.proofs.DxeCases.{starts_from}
 use Rattle.dxe_core.specs.Steps.{IsIdle}

@@ -1,40 +1,27 @@
 -- In each machine of a free boot a driver with SOR that nobody requested waits, unless its volume's a priori list has it.
-use Rattle.std.proofs.Common.{◌≡◌, ℕ, zero, suc, ◌==◌, Bool, true, false, not, ◌&&◌, ◌||◌, cond, List, [], ◌∷◌, ◌++◌, length, Option, Some, None, refl, sym, ap, ◌∙◌, subst, inl, inr, is_some, nat_le}
-use Rattle.std.specs.Prelude.{◌≢◌, is_none}
-use Rattle.std.specs.Option.{option_and_then}
+use Rattle.std.proofs.Common.{◌≡◌, ℕ, zero, suc, ◌==◌, Bool, true, false, not, ◌&&◌, ◌||◌, cond, List, [], ◌∷◌, ◌++◌, length, Option, Some, None, refl, sym, ap, ◌∙◌, subst, inl, inr, is_some, nat_le, ◌≢◌, is_none, option_and_then}
 use Rattle.std.specs.List.{list_any}
 use Rattle.std.proofs.lemmas.List.Folds.{list_any-append}
-use Rattle.pi_base.specs.declared.guid.Guid.{Guid}
-use Rattle.pi_base.specs.declared.phase.Phase.TheVariants.{Dxe}
-use Rattle.pi_base.specs.Guids.{same_guid}
-use Rattle.pi_base.specs.Lists.{Each}
+use Rattle.pi_base.specs.{declared.guid.Guid.Guid, declared.phase.Phase.TheVariants.Dxe, Guids.same_guid, Lists.Each}
 use Rattle.depex_code.specs.declared.depex.Depex.TheVariants as D
-use Rattle.mod_catalog.specs.declared.catalogue.Catalog.{Catalog}
-use Rattle.mod_catalog.specs.declared.catalogue.Part.{Part}
-use Rattle.mod_catalog.specs.declared.catalogue.PartExpr.{PartExpr}
+use Rattle.mod_catalog.specs.{declared.catalogue.Catalog.Catalog, declared.catalogue.Part.Part, declared.catalogue.PartExpr.PartExpr}
 use Rattle.mod_catalog.specs.declared.catalogue.PartExpr.TheVariants as E
 use Rattle.mod_catalog.specs.Parts.{has_number, part_at, rank_at, module_volume, module_name, parts_in}
 use Rattle.mod_catalog.specs.WellFormed.{IsWellFormed}
-use Rattle.boot_model.specs.declared.driver.Scheduled.{Scheduled}
+use Rattle.boot_model.specs.{declared.driver.Scheduled.Scheduled, Reporting.newcomers, DxeMachine.DxeMachine, DxeMachine.DriverFrame}
 use Rattle.boot_model.specs.declared.phase_end.DxeEnd.TheVariants as DxeEnds
-use Rattle.boot_model.specs.Reporting.{newcomers}
-use Rattle.boot_model.specs.DxeMachine.{DxeMachine, DriverFrame}
 use Rattle.boot_model.specs.DxeChoice.{driver_named, a_priori_drivers, discovered_order, is_waiting, is_sor, asks_for_request, is_unrequested, before_of, after_of, companion_group, driver_queue, group_scheduled, is_eligible_driver, schedule_of, waiting}
 use Rattle.boot_model.specs.DxeAction.{DxeEffect, Wrote, Called, Logged, Skipped, Returned, Own, dxe_effect, with_volumes}
 use Rattle.boot_model.specs.DxeStep.{DxeCase, DxeFires, DxeActs, DxeStarts, DxeStops, dxe_case_of, in_dxe_case, dxe_step, protocol_begun, after_dxe_effect, with_action, dxe_action_at, driver_started}
 use Rattle.boot_model.specs.DriverLicence.{first_of, named_by, numbers_of, IsDiscovered, Leads, target_of}
 use Rattle.boot_model.specs.FreeRun.{MaySchedule}
-use Rattle.boot_laws.specs.DriverSteps.{BeginsWith}
-use Rattle.boot_laws.specs.UnrequestedDrivers.{WaitForRequest}
+use Rattle.boot_laws.specs.{DriverSteps.BeginsWith, UnrequestedDrivers.WaitForRequest, DxeFree.IsOwnCase}
 use Rattle.boot_model.proofs.ListFacts.{each_more, each_at}
 use Rattle.boot_laws.proofs.PartLists.{ranked_in, each_flat_ranked, known_of, drivers_are}
 use Rattle.boot_laws.proofs.PeiOrders.{has_front, has_flat, part_in_volume, ranked_within, ranked_has}
 use Rattle.boot_laws.proofs.DriverActions.{Follows, EffectFollows, effect_follows}
-use Rattle.boot_laws.proofs.DriverCalls.{EffectKeeps, effect_keeps}
-use Rattle.boot_laws.proofs.DxeCases.{starts_from}
-use Rattle.boot_laws.proofs.DxeOnce.{priori_numbers}
+use Rattle.boot_laws.proofs.{DriverCalls.EffectKeeps, DriverCalls.effect_keeps, DxeCases.starts_from, DxeOnce.priori_numbers}
 use Rattle.boot_laws.proofs.Groups.{all_stand}
-use Rattle.boot_laws.specs.DxeFree.{IsOwnCase}
 use Rattle.boot_laws.specs.DxeUnderWay.{IsDriverOf, IsUnderWay}
 use Rattle.boot_laws.proofs.Unrequested.{find_filtered, still_asks, alike, some_rank}
 

@@ -1,16 +1,10 @@
 -- A run of DXE, a step at a time.
-use Rattle.std.proofs.Common.{◌≡◌, ◌≤◌, ℕ, zero, suc, ◌+◌, List, [], ◌++◌, length, Option, Some, None, refl, sym, ap, ◌∙◌, append_assoc, arith}
-use Rattle.std.proofs.lemmas.List.{append-nil, length-append}
+use Rattle.std.proofs.Common.{◌≡◌, ◌≤◌, ℕ, zero, suc, ◌+◌, List, [], ◌++◌, length, Option, Some, None, refl, sym, ap, ◌∙◌, append_assoc, arith, append-nil, length-append}
 use Rattle.std.proofs.lemmas.Grind.{flat_map-append}
 use Rattle.pi_base.specs.declared.phase.Phase.TheVariants.{Dxe}
-use Rattle.mod_catalog.specs.declared.catalogue.Catalog.{Catalog}
-use Rattle.mod_catalog.specs.Parts.{parts_in}
-use Rattle.boot_model.specs.declared.line.Line.{Line}
-use Rattle.boot_model.specs.declared.phase_end.DxeEnd.{DxeEnd}
-use Rattle.boot_model.specs.DxeMachine.{DxeMachine}
-use Rattle.boot_model.specs.DxeChoice.{drivers_of, discovered_order}
-use Rattle.boot_model.specs.DxeStep.{dxe_step}
-use Rattle.boot_model.specs.DxeRun.{dxe_run}
+use Rattle.mod_catalog.specs.{declared.catalogue.Catalog.Catalog, Parts.parts_in}
+use Rattle.boot_model.specs.{declared.line.Line.Line, declared.phase_end.DxeEnd.DxeEnd, DxeMachine.DxeMachine}
+use Rattle.boot_model.specs.{DxeChoice.drivers_of, DxeChoice.discovered_order, DxeStep.dxe_step, DxeRun.dxe_run}
 use Rattle.boot_laws.proofs.DriverGrowth.{driver_steps_grow}
 use Rattle.dxe_dispatch.proofs.Growing.{step_grew}
 

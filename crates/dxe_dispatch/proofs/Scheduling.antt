@@ -1,27 +1,18 @@
 -- Drivers are scheduled one after the other.
-use Rattle.std.proofs.Common.{◌≡◌, ℕ, zero, suc, ◌+◌, ◌<◌, ◌≤◌, ◌==◌, Bool, true, false, ◌&&◌, ◌||◌, not, List, [], ◌∷◌, ◌++◌, length, drop, get_or, map, reverse, refl, sym, subst, ap, ◌∙◌, arith, append_assoc}
-use Rattle.std.proofs.lemmas.List.{append-nil, drop-append-le, drop_at, drop_more, length-set, map-append, reverse-append}
-use Rattle.std.proofs.lemmas.List.Folds.{list_any-append}
-use Rattle.std.proofs.Math.Dec.{eqb-zero-suc, eqb-suc-zero}
-use Rattle.std.specs.Prelude.{slice_set, flat_map}
+use Rattle.std.proofs.Common.{◌≡◌, ℕ, zero, suc, ◌+◌, ◌<◌, ◌≤◌, ◌==◌, Bool, true, false, ◌&&◌, ◌||◌, not, List, [], ◌∷◌, ◌++◌, length, drop, get_or, map, reverse, refl, sym, subst, ap, ◌∙◌, arith, append_assoc, append-nil, drop_at, length-set, slice_set, flat_map}
+use Rattle.std.proofs.lemmas.List.{drop-append-le, drop_more, map-append, reverse-append}
+use Rattle.std.proofs.{lemmas.List.Folds.list_any-append, Math.Dec.eqb-zero-suc, Math.Dec.eqb-suc-zero, lemmas.Bool.Decides.nat_tests}
 use Rattle.std.specs.List.{list_any}
-use Rattle.std.proofs.lemmas.Bool.Decides.{nat_tests}
-use Rattle.pi_base.specs.declared.guid.Guid.{Guid}
-use Rattle.pi_base.specs.Lists.{Each}
+use Rattle.pi_base.specs.{declared.guid.Guid.Guid, Lists.Each, declared.phase.Phase.TheVariants.Dxe}
 use Rattle.mod_catalog.specs.declared.catalogue.Catalog.{Catalog}
-use Rattle.pi_base.specs.declared.phase.Phase.TheVariants.{Dxe}
 use Rattle.mod_catalog.specs.Parts.{has_number, module_volume, part_at, part_of, parts_in}
-use Rattle.boot_model.specs.declared.licence.Licence.{Licence}
-use Rattle.boot_model.specs.declared.driver.Scheduled.{Scheduled}
+use Rattle.boot_model.specs.{declared.licence.Licence.Licence, declared.driver.Scheduled.Scheduled, DxeMachine.DxeMachine}
 use Rattle.boot_model.specs.DxeChoice.{a_priori_drivers, discovered_order, driver_licence, drivers_of, is_waiting, schedule_of}
-use Rattle.boot_model.specs.DxeMachine.{DxeMachine}
-use Rattle.boot_model.specs.EvaluationBound.{dxe_asked}
-use Rattle.boot_model.specs.Licence.{AllDiffer}
+use Rattle.boot_model.specs.{EvaluationBound.dxe_asked, Licence.AllDiffer}
 use Rattle.boot_model.proofs.ListFacts.{each_more, each_append, within}
 use Rattle.boot_model.proofs.Distinct.{all_differ, few_below}
-use Rattle.boot_laws.proofs.EachDriver.{order_has}
+use Rattle.boot_laws.proofs.{EachDriver.order_has, Queue.has_behind}
 use Rattle.boot_laws.proofs.PartLists.{IsKnown, IsPartOfVolume, drivers_are, is_equal, known_of, ranked_in, ranked_are}
-use Rattle.boot_laws.proofs.Queue.{has_behind}
 use Rattle.wait_index.specs.declared.index.WaitIndex.{WaitIndex}
 use Rattle.dxe_core.specs.Order.{Drivers}
 use Rattle.wait_index.specs.Index.{IsIndex, IsSet, asked, order_in}

@@ -1,21 +1,14 @@
 -- The machine for which the core and the queue stand, seen by what chooses the next driver, and with other lines.
 use Rattle.std.proofs.Common.{◌≡◌, ℕ, ◌==◌, ◌&&◌, not, List, length, None, refl, sym, ap, ◌∙◌, subst}
 use Rattle.std.specs.List.{list_any}
-use Rattle.pi_base.specs.declared.guid.Guid.{Guid}
-use Rattle.pi_base.specs.declared.phase.Phase.TheVariants.{Dxe}
-use Rattle.mod_catalog.specs.declared.catalogue.Catalog.{Catalog}
-use Rattle.mod_catalog.specs.Parts.{has_number, part_at}
-use Rattle.store_model.specs.HandleState.{has_protocol}
-use Rattle.boot_model.specs.declared.driver.Scheduled.{Scheduled}
+use Rattle.pi_base.specs.{declared.guid.Guid.Guid, declared.phase.Phase.TheVariants.Dxe}
+use Rattle.mod_catalog.specs.{declared.catalogue.Catalog.Catalog, Parts.has_number, Parts.part_at}
+use Rattle.store_model.specs.{HandleState.has_protocol, StoreState.StoreState}
+use Rattle.boot_model.specs.{declared.driver.Scheduled.Scheduled, declared.line.Line.Line, DxeMachine.DxeMachine}
 use Rattle.boot_model.specs.DxeChoice.{asks_for_request, drivers_of, is_waiting}
-use Rattle.store_model.specs.StoreState.{StoreState}
-use Rattle.boot_model.specs.declared.line.Line.{Line}
-use Rattle.boot_model.specs.DxeMachine.{DxeMachine}
-use Rattle.dxe_core.specs.Order.{Drivers, IsOrderOf}
+use Rattle.dxe_core.specs.{Order.Drivers, Order.IsOrderOf, Standing.DxeCore, Standing.IsCoreOf}
 use Rattle.dxe_dispatch.specs.Queue.{Queue, IsQueueOf, IsSeen}
-use Rattle.dxe_core.specs.Standing.{DxeCore, IsCoreOf}
-use Rattle.dxe_dispatch.specs.Ends.{IsNow}
-use Rattle.dxe_dispatch.specs.Turns.{AreKeptFor}
+use Rattle.dxe_dispatch.specs.{Ends.IsNow, Turns.AreKeptFor}
 
 -- by what the core keeps
 pub seen_so : (catalog : Catalog) (core : DxeCore) (queue : Queue) (m : DxeMachine) (order : Drivers) → order ≡ core.services.order → AreKeptFor catalog core queue m → IsSeen catalog m queue order

@@ -1,25 +1,18 @@
 -- The machine from which a turn goes on: the choice is aimed at the driver to which the one leads that is named, or the machine chooses by itself where that one may not be scheduled.
-use Rattle.std.proofs.Common.{◌≡◌, ℕ, Bool, true, false, ◌&&◌, cond, List, [], ◌∷◌, Option, Some, None, refl, sym, ap, ◌∙◌, subst}
+use Rattle.std.proofs.Common.{◌≡◌, ℕ, Bool, true, false, ◌&&◌, cond, List, [], ◌∷◌, Option, Some, None, refl, sym, ap, ◌∙◌, subst, option_and_then}
 use Rattle.pi_base.specs.declared.phase.Phase.TheVariants.{Dxe}
-use Rattle.mod_catalog.specs.declared.catalogue.Catalog.{Catalog}
-use Rattle.mod_catalog.specs.declared.catalogue.Part.{Part}
-use Rattle.mod_catalog.specs.Parts.{has_number, part_at}
+use Rattle.mod_catalog.specs.{declared.catalogue.Catalog.Catalog, declared.catalogue.Part.Part, Parts.has_number, Parts.part_at}
 use Rattle.store_model.specs.StoreState.{StoreState}
-use Rattle.boot_model.specs.declared.driver.ProtocolNote.{ProtocolNote}
-use Rattle.boot_model.specs.declared.driver.ProtocolSweep.{ProtocolSweep}
-use Rattle.boot_model.specs.declared.driver.Scheduled.{Scheduled}
+use Rattle.boot_model.specs.{declared.driver.ProtocolNote.ProtocolNote, declared.driver.ProtocolSweep.ProtocolSweep}
+use Rattle.boot_model.specs.{declared.driver.Scheduled.Scheduled, DxeMachine.DriverFrame, DxeMachine.DxeMachine, FreeRun.MaySchedule}
 use Rattle.boot_model.specs.DxeChoice.{driver_queue, first_eligible, group_scheduled, head_of, is_eligible_driver, queue_from, waiting}
-use Rattle.boot_model.specs.DxeMachine.{DriverFrame, DxeMachine}
 use Rattle.boot_model.specs.DxeStep.{DxeActs, DxeCase, DxeFires, DxeStarts, dxe_case_in, dxe_case_of, dxe_step, driver_started, in_dxe_case, next_note, queue_case}
-use Rattle.std.specs.Option.{option_and_then}
-use Rattle.boot_model.specs.FreeRun.{MaySchedule}
 use Rattle.dxe_dispatch.specs.Aim.{aimed as aimed_if, is_free, may_be_next}
 use Rattle.dxe_core.specs.Standing.{DxeCore, IsCoreOf, StandsFor}
 use Rattle.boot_laws.specs.DxeAim.{FirstEligibleMayStart, GroupsAreAimed, IsChoosing, aimed}
 use Rattle.boot_laws.specs.DxeFree.{IsOwnCase}
-use Rattle.dxe_dispatch.specs.Queue.{Queue}
+use Rattle.dxe_dispatch.specs.{Queue.Queue, Turns.IsLeft}
 use Rattle.dxe_dispatch.specs.Choices.{IsAimedBy, aimed_at, root_of}
-use Rattle.dxe_dispatch.specs.Turns.{IsLeft}
 
 -- a driver is chosen that may be scheduled, and of which this is so
 pub record IsChosen (catalog : Catalog) (m : DxeMachine) (Leads : ℕ → Type 0) (root : ℕ) : Type 0 where

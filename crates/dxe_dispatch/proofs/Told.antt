@@ -1,18 +1,12 @@
 -- The queue, told of the protocol that an event changed and of the driver that it requested.
-use Rattle.std.proofs.Common.{◌≡◌, ◌≤◌, ℕ, ◌+◌, Bool, true, false, ◌||◌, [], ◌++◌, Some, None, refl, sym, ap, ◌∙◌, subst, arith}
-use Rattle.std.specs.Prelude.{IfSome, sum_by}
-use Rattle.std.specs.Option.{option_to_list}
-use Rattle.std.proofs.lemmas.List.{append-nil}
+use Rattle.std.proofs.Common.{◌≡◌, ◌≤◌, ℕ, ◌+◌, Bool, true, false, ◌||◌, [], ◌++◌, Some, None, refl, sym, ap, ◌∙◌, subst, arith, IfSome, sum_by, option_to_list, append-nil}
 use Rattle.std.proofs.lemmas.List.Sums.{sum_by-cons}
-use Rattle.pi_base.specs.declared.guid.Guid.{Guid}
-use Rattle.pi_base.specs.Guids.{same_guid}
+use Rattle.pi_base.specs.{declared.guid.Guid.Guid, Guids.same_guid}
 use Rattle.mod_catalog.specs.declared.catalogue.Catalog.{Catalog}
 use Rattle.store_model.specs.HandleState.{HandleState, has_protocol}
-use Rattle.boot_model.specs.DxeMachine.{DxeMachine}
-use Rattle.boot_model.specs.EvaluationBound.{dxe_asked}
-use Rattle.dxe_core.specs.Event.{IsDiscoveredDriver}
+use Rattle.boot_model.specs.{DxeMachine.DxeMachine, EvaluationBound.dxe_asked}
+use Rattle.dxe_core.specs.{Event.IsDiscoveredDriver, declared.event.Event.Event}
 use Rattle.dxe_dispatch.specs.Queue.{HasProtocol, HasRequest, IsQueueOf, Queue, Requests}
-use Rattle.dxe_core.specs.declared.event.Event.{Event}
 use Rattle.dxe_dispatch.specs.Events.{HasEvent, HasHandles}
 use Rattle.dxe_dispatch.proofs.Standing.{queue_same}
 

@@ -1,47 +1,32 @@
 -- A turn, from what its parts leave.
-use Rattle.std.proofs.Common.{◌≡◌, ◌≤◌, ℕ, ◌+◌, Bool, true, false, List, [], ◌++◌, Option, Some, None, Ok, Err, Result, refl, sym, ap, ◌∙◌, subst, length, arith, inl, inr}
-use Rattle.std.specs.Prelude.{IsErr, OnOk, sum_by}
-use Rattle.std.specs.Option.{option_to_list}
+use Rattle.std.proofs.Common.{◌≡◌, ◌≤◌, ℕ, ◌+◌, Bool, true, false, List, [], ◌++◌, Option, Some, None, Ok, Err, Result, refl, sym, ap, ◌∙◌, subst, length, arith, inl, inr, IsErr, OnOk, sum_by, option_to_list, append-nil, length-append}
 use Rattle.std.proofs.lemmas.Grind.{flat_map-append}
-use Rattle.std.proofs.lemmas.List.{append-nil, length-append}
 use Rattle.std.specs.Io.KnownBytes.{Appends}
 use Rattle.boot_io.proofs.PutsLaws.{appends_none}
-use Rattle.boot_io.specs.Sink.{AppendsPart}
-use Rattle.boot_io.specs.declared.halt.Halt.{Halt}
+use Rattle.boot_io.specs.{Sink.AppendsPart, declared.halt.Halt.Halt}
 use Rattle.pi_base.specs.declared.phase.Phase.TheVariants.{Dxe}
-use Rattle.mod_catalog.specs.declared.catalogue.Catalog.{Catalog}
-use Rattle.mod_catalog.specs.Parts.{part_at, parts_in}
-use Rattle.store_model.specs.HandleState.{HandleState}
-use Rattle.store_model.specs.StoreState.{StoreState}
-use Rattle.boot_model.specs.declared.driver.Scheduled.{Scheduled}
-use Rattle.boot_model.specs.declared.phase_end.DxeEnd.{DxeEnd}
-use Rattle.boot_model.specs.declared.phase_end.DxeEnd.TheVariants.{Done}
+use Rattle.mod_catalog.specs.{declared.catalogue.Catalog.Catalog, Parts.part_at, Parts.parts_in}
+use Rattle.store_model.specs.{HandleState.HandleState, StoreState.StoreState}
+use Rattle.boot_model.specs.{declared.driver.Scheduled.Scheduled, declared.phase_end.DxeEnd.DxeEnd}
+use Rattle.boot_model.specs.{declared.phase_end.DxeEnd.TheVariants.Done, DxeMachine.DxeMachine, Text.text_of}
 use Rattle.boot_model.specs.DxeChoice.{a_priori_drivers, discovered_order, drivers_of}
-use Rattle.boot_model.specs.DxeMachine.{DxeMachine}
 use Rattle.boot_model.specs.DxeStep.{dxe_step, dxe_stopped, driver_started}
-use Rattle.boot_model.specs.Text.{text_of}
 use Rattle.boot_laws.proofs.DriverGrowth.{driver_steps_grow}
-use Rattle.boot_model.specs.EvaluationBound.{dxe_asked, dxe_guids}
-use Rattle.boot_model.specs.Licence.{AllDiffer}
-use Rattle.dxe_core.specs.Order.{Drivers, IsOrderOf}
+use Rattle.boot_model.specs.{EvaluationBound.dxe_asked, EvaluationBound.dxe_guids, Licence.AllDiffer}
+use Rattle.dxe_core.specs.{Order.Drivers, Order.IsOrderOf, declared.event.Event.Event, Standing.DxeCore, Standing.StandsFor}
 use Rattle.wait_index.specs.Index.{order_in}
 use Rattle.dxe_dispatch.specs.Queue.{AreNew, Discovers, HasVolumes, Queue, IsQueueOf, IsDriver, IsNext, ComesNext}
-use Rattle.dxe_core.specs.declared.event.Event.{Event}
-use Rattle.dxe_core.specs.Standing.{DxeCore, StandsFor}
 use Rattle.dxe_core.specs.Steps.{IsIdle, IsEvent, HasOver, HasStepped, IsCutOff}
 use Rattle.dxe_core.specs.Turn.{Printed, PrintedPart}
 use Rattle.boot_trace.specs.Printing.{Texts}
 use Rattle.boot_laws.specs.declared.choice.Reached.TheVariants as R
-use Rattle.dxe_dispatch.specs.declared.answer.Turn.{Turn}
-use Rattle.dxe_dispatch.specs.declared.answer.Turn.TheVariants.{Took, Reached}
-use Rattle.dxe_dispatch.specs.Ends.{IsNow}
-use Rattle.dxe_dispatch.specs.Events.{HasEvent}
+use Rattle.dxe_dispatch.specs.{declared.answer.Turn.Turn, declared.answer.Turn.TheVariants.Took, declared.answer.Turn.TheVariants.Reached}
+use Rattle.dxe_dispatch.specs.{Ends.IsNow, Events.HasEvent}
 use Rattle.dxe_dispatch.specs.Turns.{AreLeft, AreKeptFor, HasTurned, IsGivenUp, IsHeldBack, IsLeft, HasTurnedToEnd, EvaluatesWithin, TurnsDxeTo, stop_lines}
 use Rattle.dxe_dispatch.proofs.Idle.{left_queue, step_starts, step_stops, started_queue}
 use Rattle.dxe_dispatch.proofs.Passing.{busy_passes, busy_starts_none, passes, starting, stop_passes, stop_starts_none}
 use Rattle.boot_trace.proofs.Lines.{part_whole}
-use Rattle.dxe_dispatch.proofs.Runs.{discovered_more}
-use Rattle.dxe_dispatch.proofs.Standing.{now_still}
+use Rattle.dxe_dispatch.proofs.{Runs.discovered_more, Standing.now_still}
 
 -- the start of the driver that comes next, which is let
 pub starts_so : (lets : ℕ → Bool) (catalog : Catalog) (fuel : ℕ) (later : DxeCore) (grown : Queue) (m : DxeMachine) (next : Scheduled) (t : Texts) (chosen : IsNext catalog m next grown) → IsIdle m → IsDriver catalog next → lets next.module_number ≡ true

@@ -1,17 +1,12 @@
 -- The index of the waiting drivers, where drivers are scheduled and requested.
-use Rattle.std.proofs.Common.{◌≡◌, ℕ, zero, suc, ◌<◌, ◌==◌, Bool, true, false, ◌&&◌, ◌||◌, not, cond, List, [], ◌∷◌, ◌++◌, Option, Some, None, length, refl, sym, ap, ◌∙◌, arith}
-use Rattle.std.specs.Prelude.{slice_get}
-use Rattle.std.proofs.lemmas.Bool.Decides.{nat_tests}
-use Rattle.std.proofs.lemmas.List.Folds.{list_any-append}
+use Rattle.std.proofs.Common.{◌≡◌, ℕ, zero, suc, ◌<◌, ◌==◌, Bool, true, false, ◌&&◌, ◌||◌, not, cond, List, [], ◌∷◌, ◌++◌, Option, Some, None, length, refl, sym, ap, ◌∙◌, arith, slice_get}
+use Rattle.std.proofs.{lemmas.Bool.Decides.nat_tests, lemmas.List.Folds.list_any-append}
 use Rattle.mod_catalog.specs.Parts.{has_number}
 use Rattle.boot_model.specs.declared.driver.Scheduled.{Scheduled}
 use Rattle.boot_laws.proofs.PartLists.{is_equal}
-use Rattle.wait_index.specs.declared.index.WaitIndex.{WaitIndex}
-use Rattle.wait_index.specs.declared.places.Places.{Places}
-use Rattle.wait_index.specs.declared.standing.Standing.{Standing}
-use Rattle.wait_index.specs.Change.{IsChanged, started}
+use Rattle.wait_index.specs.{declared.index.WaitIndex.WaitIndex, declared.places.Places.Places, declared.standing.Standing.Standing}
+use Rattle.wait_index.specs.{Change.IsChanged, Change.started, Places.order_of, Places.standing_of}
 use Rattle.wait_index.specs.Index.{is_open_in, order_in, waits_in}
-use Rattle.wait_index.specs.Places.{order_of, standing_of}
 use Rattle.dxe_dispatch.specs.Index.{IsRequested, WaitsNoMore, WaitNoMore, is_scheduled_in}
 
 place_by : (x : ℕ) (xs : List ℕ) (n : ℕ) (b : Bool) → (x == n) ≡ b → (b || has_number xs n) ≡ true → (has_number xs n ≡ true → (place : ℕ) × (slice_get xs place ≡ Some n))

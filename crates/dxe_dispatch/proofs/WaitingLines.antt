@@ -1,19 +1,13 @@
 -- The lines of the stop, driver by driver, and how far they were put.
-use Rattle.std.proofs.Common.{◌≡◌, ℕ, Bool, true, false, cond, List, [], ◌∷◌, ◌++◌, Option, refl, ap, ◌∙◌, subst, map, Result}
-use Rattle.std.specs.Prelude.{filter, flat_map}
+use Rattle.std.proofs.Common.{◌≡◌, ℕ, Bool, true, false, cond, List, [], ◌∷◌, ◌++◌, Option, refl, ap, ◌∙◌, subst, map, Result, filter, flat_map}
 use Rattle.std.specs.Io.KnownBytes.{Appends}
 use Rattle.boot_io.proofs.PutsLaws.{part_of_more}
-use Rattle.boot_io.specs.declared.sink.SinkFault.{SinkFault}
-use Rattle.boot_io.specs.Sink.{Puts, AppendsPart}
+use Rattle.boot_io.specs.{declared.sink.SinkFault.SinkFault, Sink.Puts, Sink.AppendsPart}
 use Rattle.mod_catalog.specs.declared.catalogue.Catalog.{Catalog}
-use Rattle.boot_model.specs.declared.line.Line.{Line}
+use Rattle.boot_model.specs.{declared.line.Line.Line, DxeChoice.is_waiting, DxeChoice.discovered_order, DxeMachine.DxeMachine}
 use Rattle.boot_model.specs.declared.line.Line.TheVariants as L
-use Rattle.boot_model.specs.DxeChoice.{is_waiting, discovered_order}
-use Rattle.boot_model.specs.DxeMachine.{DxeMachine}
-use Rattle.boot_model.specs.DxeStep.{driver_waiting_line, driver_waiting_lines}
-use Rattle.boot_model.specs.Text.{line_text, text_of}
-use Rattle.dxe_dispatch.specs.Turns.{stop_lines}
-use Rattle.dxe_dispatch.specs.Waiting.{line_where, waiting_lines_of}
+use Rattle.boot_model.specs.{DxeStep.driver_waiting_line, DxeStep.driver_waiting_lines, Text.line_text, Text.text_of}
+use Rattle.dxe_dispatch.specs.{Turns.stop_lines, Waiting.line_where, Waiting.waiting_lines_of}
 use Rattle.boot_trace.proofs.Lines.{line_then}
 
 one_more : (b : Bool) (line : ℕ → Line) (number : ℕ) (numbers : List ℕ) (rest : List Line) → rest ≡ map line numbers → line_where b (line number) ++ rest ≡ map line (cond b (number ∷ numbers) numbers)

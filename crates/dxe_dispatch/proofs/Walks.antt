@@ -1,27 +1,21 @@
 -- A group is walked with a stack: what the items on the stack stand for, and the drivers that were put, make the group; and each turn takes something off what is left.
-use Rattle.std.proofs.Common.{◌≡◌, ℕ, ◌+◌, ◌*◌, ◌<◌, ◌≤◌, Bool, true, List, [], ◌∷◌, ◌++◌, length, map, reverse, refl, sym, subst, ap, ◌∙◌, arith, append_assoc}
-use Rattle.std.proofs.lemmas.List.{append-nil, reverse-append, length-append}
+use Rattle.std.proofs.Common.{◌≡◌, ℕ, ◌+◌, ◌*◌, ◌<◌, ◌≤◌, Bool, true, List, [], ◌∷◌, ◌++◌, length, map, reverse, refl, sym, subst, ap, ◌∙◌, arith, append_assoc, append-nil, length-append, flat_map, sum_by}
+use Rattle.std.proofs.{lemmas.List.reverse-append, lemmas.Grind.flat_map-append}
 use Rattle.std.proofs.lemmas.List.Sums.{sum_by-append, sum_by-cons, sum_by_push}
-use Rattle.std.proofs.lemmas.Grind.{flat_map-append}
-use Rattle.std.specs.Prelude.{flat_map, sum_by, ⊤}
-use Rattle.pi_base.specs.Lists.{Each}
-use Rattle.pi_base.specs.declared.phase.Phase.TheVariants.{Dxe}
-use Rattle.mod_catalog.specs.declared.catalogue.Catalog.{Catalog}
-use Rattle.mod_catalog.specs.Parts.{has_number, part_of}
+use Rattle.std.specs.Prelude.{⊤}
+use Rattle.pi_base.specs.{Lists.Each, declared.phase.Phase.TheVariants.Dxe}
+use Rattle.mod_catalog.specs.{declared.catalogue.Catalog.Catalog, Parts.has_number, Parts.part_of}
 use Rattle.boot_model.specs.DxeMachine.{DxeMachine}
 use Rattle.boot_model.specs.DxeChoice.{befores, afters, companion_group, waiting}
 use Rattle.boot_laws.specs.GroupUnfolds.{IsOver, IsRoot, Unfolds}
 use Rattle.boot_model.proofs.ListFacts.{each_more, each_append, each_at, within}
 use Rattle.boot_model.proofs.Distinct.{few_below}
-use Rattle.boot_laws.proofs.PartLists.{IsKnown}
-use Rattle.boot_laws.proofs.Queue.{waiting_known}
-use Rattle.boot_laws.proofs.GroupUnfolds.{groups_unfold, groups_are_small}
+use Rattle.boot_laws.proofs.{PartLists.IsKnown, Queue.waiting_known, GroupUnfolds.groups_unfold, GroupUnfolds.groups_are_small}
 use Rattle.dxe_core.specs.Order.{Drivers, befores_of}
 use Rattle.dxe_dispatch.specs.declared.group.Item.{Item}
 use Rattle.dxe_dispatch.specs.declared.group.Item.TheVariants as I
 use Rattle.dxe_dispatch.specs.Choosing.{HaveWaiting, TakesItem, companions, unfolded}
-use Rattle.dxe_dispatch.proofs.Scheduling.{each_front}
-use Rattle.dxe_dispatch.proofs.Companions.{befores_are, afters_are}
+use Rattle.dxe_dispatch.proofs.{Scheduling.each_front, Companions.befores_are, Companions.afters_are}
 
 -- the drivers that an item stands for
 abbrev pub items_of : Catalog → DxeMachine → Item → List ℕ

@@ -1,11 +1,9 @@
 -- A choice that is aimed at a driver: where nothing is scheduled, and the driver waits and may start, its group is scheduled in the place of the first eligible one's.
 -- Own; PI 1.8, volume 2, "DXE Dispatcher", leaves the order of the drivers that may start to the dispatcher.
 use Rattle.std.specs.Prelude.{ℕ, Bool, true, false, ◌&&◌, List, [], ◌∷◌, Some, if◌then◌else◌}
-use Rattle.mod_catalog.specs.declared.catalogue.Catalog.{Catalog}
-use Rattle.mod_catalog.specs.Parts.{has_number}
-use Rattle.boot_model.specs.declared.driver.Scheduled.{Scheduled}
+use Rattle.mod_catalog.specs.{declared.catalogue.Catalog.Catalog, Parts.has_number}
+use Rattle.boot_model.specs.{declared.driver.Scheduled.Scheduled, DxeMachine.DxeMachine}
 use Rattle.boot_model.specs.DxeChoice.{group_scheduled, is_eligible_driver, waiting}
-use Rattle.boot_model.specs.DxeMachine.{DxeMachine}
 
 -- whether a driver of a discovered volume waits and may start
 abbrev pub may_be_next : Catalog → DxeMachine → ℕ → Bool

@@ -2,34 +2,19 @@
 -- Own; PI 1.8, volume 2, "DXE Dispatcher", leaves the order to the dispatcher.
 use Rattle.std.specs.Prelude.{◌≡◌, ◌≤◌, ◌+◌, ◌-◌, ℕ, Bool, false, length, sum_by, List, [], ◌∷◌, Option, Some, None, Result, Ok, Err, OnOk, ⊤}
 use Rattle.std.specs.Io.KnownBytes.{Appends}
-use Rattle.boot_io.specs.declared.halt.Halt.{Halt}
-use Rattle.boot_io.specs.Sink.{AppendsPart}
+use Rattle.boot_io.specs.{declared.halt.Halt.Halt, Sink.AppendsPart}
 use Rattle.mod_catalog.specs.declared.catalogue.Catalog.{Catalog}
-use Rattle.store_model.specs.HandleState.{HandleState}
-use Rattle.store_model.specs.StoreState.{StoreState}
-use Rattle.boot_model.specs.declared.phase_end.DxeEnd.{DxeEnd}
-use Rattle.boot_model.specs.DxeChoice.{discovered_order}
-use Rattle.boot_model.specs.DxeMachine.{DxeMachine}
-use Rattle.boot_model.specs.DxeRun.{dxe_opening}
-use Rattle.boot_model.specs.DxeStep.{dxe_step}
-use Rattle.boot_model.specs.EvaluationBound.{dxe_asked, dxe_guids}
-use Rattle.boot_model.specs.Text.{text_of}
-use Rattle.boot_laws.specs.UnrequestedDrivers.{WaitForRequest}
+use Rattle.store_model.specs.{HandleState.HandleState, StoreState.StoreState}
+use Rattle.boot_model.specs.{declared.phase_end.DxeEnd.DxeEnd, DxeChoice.discovered_order, DxeMachine.DxeMachine, DxeRun.dxe_opening}
+use Rattle.boot_model.specs.{DxeStep.dxe_step, EvaluationBound.dxe_asked, EvaluationBound.dxe_guids, Text.text_of}
+use Rattle.boot_laws.specs.{UnrequestedDrivers.WaitForRequest, DxeAim.IsChoosing, DxeAim.follows, DxeUnderWay.IsUnderWay}
 use Rattle.boot_trace.specs.Printing.{Texts}
-use Rattle.boot_laws.specs.DxeAim.{IsChoosing, follows}
-use Rattle.boot_laws.specs.DxeUnderWay.{IsUnderWay}
-use Rattle.boot_laws.specs.declared.choice.Reached.{Reached}
+use Rattle.boot_laws.specs.{declared.choice.Reached.Reached, Naming.HasPut, Naming.MayName}
 use Rattle.boot_laws.specs.declared.choice.Reached.TheVariants as R
-use Rattle.boot_laws.specs.Naming.{HasPut, MayName}
-use Rattle.dxe_dispatch.specs.Aim.{aimed}
-use Rattle.dxe_dispatch.specs.Queue.{IsQueueOf, Queue}
+use Rattle.dxe_dispatch.specs.{Aim.aimed, Queue.IsQueueOf, Queue.Queue, declared.answer.Turn.Turn, declared.boot.Barred.Barred}
 use Rattle.dxe_core.specs.Standing.{DxeCore, IsFor, StandsFor}
-use Rattle.dxe_dispatch.specs.declared.answer.Turn.{Turn}
-use Rattle.dxe_dispatch.specs.declared.boot.Barred.{Barred}
-use Rattle.dxe_dispatch.specs.declared.boot.Ended.{Ended}
-use Rattle.dxe_dispatch.specs.declared.boot.Left.{Left}
+use Rattle.dxe_dispatch.specs.{declared.boot.Ended.Ended, declared.boot.Left.Left, declared.boot.Run.Run}
 use Rattle.dxe_dispatch.specs.declared.boot.Left.TheVariants as V
-use Rattle.dxe_dispatch.specs.declared.boot.Run.{Run}
 use Rattle.dxe_dispatch.specs.Ends.{HasEnded, IsNow, StandsAtEnd}
 use Rattle.dxe_dispatch.specs.Turns.{AreKeptFor, IsLeft, IsStarting, EvaluatesWithin, PassesStart, TurnsDxeTo}
 

@@ -1,20 +1,15 @@
 -- What is told of the machine to what chooses its next driver, and how a group is walked with a stack.
 -- Own; PI 1.8, volume 2, "DXE Dispatcher".
 use Rattle.std.specs.Prelude.{◌≡◌, ℕ, ◌<◌, ◌≤◌, ◌+◌, Bool, true, false, ◌==◌, ◌&&◌, not, if◌then◌else◌, List, [], ◌∷◌, ◌++◌, length, map, filter, Option, Some, None}
-use Rattle.pi_base.specs.declared.guid.Guid.{Guid}
-use Rattle.pi_base.specs.declared.phase.Phase.TheVariants.{Dxe}
-use Rattle.mod_catalog.specs.declared.catalogue.Catalog.{Catalog}
-use Rattle.mod_catalog.specs.Parts.{module_name}
-use Rattle.boot_model.specs.declared.driver.Scheduled.{Scheduled}
-use Rattle.boot_model.specs.DxeChoice.{driver_queue, is_waiting}
-use Rattle.boot_model.specs.DxeMachine.{DxeMachine}
+use Rattle.pi_base.specs.{declared.guid.Guid.Guid, declared.phase.Phase.TheVariants.Dxe}
+use Rattle.mod_catalog.specs.{declared.catalogue.Catalog.Catalog, Parts.module_name}
+use Rattle.boot_model.specs.{declared.driver.Scheduled.Scheduled, DxeChoice.driver_queue, DxeChoice.is_waiting, DxeMachine.DxeMachine}
 use Rattle.boot_laws.specs.GroupUnfolds.{IsRoot}
 use Rattle.dxe_core.specs.Order.{Drivers, IsOrderOf, first_driver, befores_of, afters_of}
 use Rattle.wait_index.specs.Discovery.{HaveCome}
-use Rattle.dxe_dispatch.specs.declared.group.Item.{Item}
+use Rattle.dxe_dispatch.specs.{declared.group.Item.Item, Index.WaitNoMore, Index.is_scheduled_in}
 use Rattle.dxe_dispatch.specs.declared.group.Item.TheVariants as I
 use Rattle.boot_model.specs.declared.licence.Licence.TheVariants as G
-use Rattle.dxe_dispatch.specs.Index.{WaitNoMore, is_scheduled_in}
 use Rattle.dxe_dispatch.specs.Queue.{Queue, IsQueueOf, IsSeen, owed, waits_at}
 
 -- the flags say which drivers wait

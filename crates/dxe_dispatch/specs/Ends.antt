@@ -2,15 +2,11 @@
 -- Own; PI 1.8, volume 2, "DXE Dispatcher".
 use Rattle.std.specs.Prelude.{◌≡◌, ◌≤◌, ℕ, ◌+◌, List, Option, Some, None, Result, Ok, Err}
 use Rattle.std.specs.Io.KnownBytes.{Appends}
-use Rattle.boot_io.specs.declared.halt.Halt.{Halt}
-use Rattle.boot_io.specs.Sink.{AppendsPart}
+use Rattle.boot_io.specs.{declared.halt.Halt.Halt, Sink.AppendsPart}
 use Rattle.mod_catalog.specs.declared.catalogue.Catalog.{Catalog}
 use Rattle.store_model.specs.StoreState.{StoreState}
-use Rattle.boot_model.specs.declared.phase_end.DxeEnd.{DxeEnd}
-use Rattle.boot_model.specs.DxeMachine.{DxeMachine}
+use Rattle.boot_model.specs.{declared.phase_end.DxeEnd.DxeEnd, DxeMachine.DxeMachine, EvaluationBound.dxe_evaluations, Text.text_of}
 use Rattle.boot_model.specs.DxeRun.{dxe_opening, dxe_bound, dxe_end}
-use Rattle.boot_model.specs.EvaluationBound.{dxe_evaluations}
-use Rattle.boot_model.specs.Text.{text_of}
 use Rattle.dxe_dispatch.specs.Queue.{Queue, IsQueueOf}
 use Rattle.dxe_core.specs.Standing.{DxeCore, IsFor, StandsFor}
 

@@ -1,17 +1,13 @@
 -- What an event of the machine is to the queue: the protocol that it changed, and the driver that it requested.
 -- Own.
-use Rattle.std.specs.Prelude.{◌≡◌, ◌≤◌, ◌+◌, false, ◌++◌, Option, IfSome, sum_by}
-use Rattle.std.specs.Option.{option_to_list}
+use Rattle.std.specs.Prelude.{◌≡◌, ◌≤◌, ◌+◌, false, ◌++◌, Option, IfSome, sum_by, option_to_list}
 use Rattle.pi_base.specs.declared.guid.Guid.{Guid}
 use Rattle.mod_catalog.specs.declared.catalogue.Catalog.{Catalog}
 use Rattle.store_model.specs.HandleState.{HandleState, has_protocol}
-use Rattle.boot_model.specs.DxeMachine.{DxeMachine}
-use Rattle.boot_model.specs.EvaluationBound.{dxe_asked}
+use Rattle.boot_model.specs.{DxeMachine.DxeMachine, EvaluationBound.dxe_asked}
 use Rattle.boot_laws.specs.ChangedGuids.{is_among}
-use Rattle.dxe_core.specs.Event.{IsDiscoveredDriver}
+use Rattle.dxe_core.specs.{Event.IsDiscoveredDriver, declared.event.Event.Event, Standing.DxeCore}
 use Rattle.dxe_dispatch.specs.Queue.{Queue, IsQueueOf, owed}
-use Rattle.dxe_core.specs.declared.event.Event.{Event}
-use Rattle.dxe_core.specs.Standing.{DxeCore}
 
 -- these are the handles now, which differ for one protocol alone
 pub record HasHandles (handles : HandleState) (changed : Option Guid) (m later : DxeMachine) : Type 0 where

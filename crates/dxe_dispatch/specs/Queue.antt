@@ -1,21 +1,13 @@
 -- The scheduled queue, how many drivers have left it to start, and which drivers wait: those that are neither scheduled nor started. Those of the discovered volumes stand in the index, with what they wait for.
 -- Own; PI 1.8, volume 2, "DXE Dispatcher".
 use Rattle.std.specs.Prelude.{◌≡◌, ◌≤◌, ℕ, ◌+◌, Bool, true, false, List, [], ◌∷◌, ◌++◌, length, Option, Some, None, is_some, slice_get, unwrap_or}
-use Rattle.pi_base.specs.declared.guid.Guid.{Guid}
-use Rattle.pi_base.specs.declared.phase.Phase.TheVariants.{Dxe}
-use Rattle.pi_base.specs.Guids.{same_guid}
-use Rattle.pi_base.specs.Lists.{Each}
-use Rattle.mod_catalog.specs.declared.catalogue.Catalog.{Catalog}
-use Rattle.mod_catalog.specs.Parts.{has_number, part_at}
+use Rattle.pi_base.specs.{declared.guid.Guid.Guid, declared.phase.Phase.TheVariants.Dxe, Guids.same_guid, Lists.Each}
+use Rattle.mod_catalog.specs.{declared.catalogue.Catalog.Catalog, Parts.has_number, Parts.part_at}
 use Rattle.store_model.specs.HandleState.{has_protocol, no_handles}
-use Rattle.boot_model.specs.declared.driver.Scheduled.{Scheduled}
+use Rattle.boot_model.specs.{declared.driver.Scheduled.Scheduled, DxeMachine.DxeMachine, EvaluationBound.dxe_asked, Licence.AllDiffer}
 use Rattle.boot_model.specs.DxeChoice.{a_priori_drivers, discovered_order, drivers_of, is_waiting, next_driver}
-use Rattle.boot_model.specs.DxeMachine.{DxeMachine}
-use Rattle.boot_model.specs.EvaluationBound.{dxe_asked}
-use Rattle.boot_model.specs.Licence.{AllDiffer}
 use Rattle.dxe_core.specs.Order.{Drivers, IsOrderOf}
-use Rattle.wait_index.specs.declared.index.WaitIndex.{WaitIndex}
-use Rattle.wait_index.specs.Dispatch.{StandsForDxe}
+use Rattle.wait_index.specs.{declared.index.WaitIndex.WaitIndex, Dispatch.StandsForDxe}
 use Rattle.wait_index.specs.Index as W
 
 -- what is kept: the queue, how many drivers have left it, by number which drivers wait, and the index of those of the discovered volumes

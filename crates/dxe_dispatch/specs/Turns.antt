@@ -2,33 +2,23 @@
 -- Own.
 use Rattle.std.specs.Prelude.{◌≡◌, ◌⊎◌, ◌≤◌, ◌+◌, ℕ, Bool, true, false, length, sum_by, List, [], ◌∷◌, Option, Some, None, Result, Ok, Err, IfOk}
 use Rattle.std.specs.Io.KnownBytes.{Appends}
-use Rattle.boot_io.specs.Sink.{Puts}
-use Rattle.boot_io.specs.declared.halt.Halt.{Halt}
-use Rattle.boot_io.specs.declared.sink.SinkFault.{SinkFault}
+use Rattle.boot_io.specs.{Sink.Puts, declared.halt.Halt.Halt, declared.sink.SinkFault.SinkFault}
 use Rattle.pi_base.specs.declared.memory.OutOfMemory.{OutOfMemory}
 use Rattle.mod_catalog.specs.declared.catalogue.Catalog.{Catalog}
 use Rattle.store_model.specs.StoreState.{StoreState}
-use Rattle.boot_model.specs.declared.driver.Scheduled.{Scheduled}
-use Rattle.boot_model.specs.declared.line.Line.{Line}
+use Rattle.boot_model.specs.{declared.driver.Scheduled.Scheduled, declared.line.Line.Line, declared.phase_end.DxeEnd.DxeEnd}
 use Rattle.boot_model.specs.declared.line.Line.TheVariants as L
-use Rattle.boot_model.specs.declared.phase_end.DxeEnd.{DxeEnd}
-use Rattle.boot_model.specs.DxeChoice.{discovered_order}
-use Rattle.boot_model.specs.DxeMachine.{DxeMachine}
+use Rattle.boot_model.specs.{DxeChoice.discovered_order, DxeMachine.DxeMachine, EvaluationBound.dxe_asked, EvaluationBound.dxe_guids}
 use Rattle.boot_model.specs.DxeStep.{DxeStarts, dxe_case_of, dxe_step, driver_waiting_lines}
-use Rattle.boot_model.specs.EvaluationBound.{dxe_asked, dxe_guids}
-use Rattle.boot_model.specs.Licence.{AllDiffer}
-use Rattle.boot_model.specs.Text.{text_of}
+use Rattle.boot_model.specs.{Licence.AllDiffer, Text.text_of}
 use Rattle.boot_laws.specs.UnrequestedDrivers.{WaitForRequest}
 use Rattle.dxe_dispatch.specs.Queue.{Queue, IsQueueOf, ComesNext}
 use Rattle.dxe_core.specs.Standing.{DxeCore, IsCoreOf, IsFor, StandsFor}
-use Rattle.dxe_core.specs.Steps.{IsEvent, IsIdle}
-use Rattle.dxe_core.specs.Turn.{Printed, PrintedPart}
+use Rattle.dxe_core.specs.{Steps.IsEvent, Steps.IsIdle, Turn.Printed, Turn.PrintedPart}
 use Rattle.boot_trace.specs.Printing.{Texts}
 use Rattle.boot_laws.specs.declared.choice.Reached.TheVariants as R
-use Rattle.dxe_dispatch.specs.declared.answer.Step.{Step}
-use Rattle.dxe_dispatch.specs.declared.answer.Step.TheVariants.{Acted, Started}
-use Rattle.dxe_dispatch.specs.declared.answer.Turn.{Turn}
-use Rattle.dxe_dispatch.specs.declared.answer.Turn.TheVariants.{Took, Reached}
+use Rattle.dxe_dispatch.specs.{declared.answer.Step.Step, declared.answer.Step.TheVariants.Acted, declared.answer.Step.TheVariants.Started}
+use Rattle.dxe_dispatch.specs.{declared.answer.Turn.Turn, declared.answer.Turn.TheVariants.Took, declared.answer.Turn.TheVariants.Reached}
 use Rattle.dxe_dispatch.specs.Ends.{IsNow}
 
 -- the core and the queue stand for a machine, whatever its store

@@ -1,14 +1,9 @@
 -- The lines of the drivers that wait after the stop, as they are put.
 -- Own.
 use Rattle.std.specs.Prelude.{◌≡◌, ℕ, Bool, if◌then◌else◌, List, [], ◌∷◌, Option, Result, flat_map}
-use Rattle.boot_io.specs.Sink.{Puts}
-use Rattle.boot_io.specs.declared.sink.SinkFault.{SinkFault}
-use Rattle.mod_catalog.specs.declared.catalogue.Catalog.{Catalog}
-use Rattle.mod_catalog.specs.Parts.{has_number}
-use Rattle.boot_model.specs.declared.line.Line.{Line}
-use Rattle.boot_model.specs.DxeChoice.{is_waiting}
-use Rattle.boot_model.specs.DxeMachine.{DxeMachine}
-use Rattle.boot_model.specs.DxeStep.{driver_waiting_line}
+use Rattle.boot_io.specs.{Sink.Puts, declared.sink.SinkFault.SinkFault}
+use Rattle.mod_catalog.specs.{declared.catalogue.Catalog.Catalog, Parts.has_number}
+use Rattle.boot_model.specs.{declared.line.Line.Line, DxeChoice.is_waiting, DxeMachine.DxeMachine, DxeStep.driver_waiting_line}
 use Rattle.boot_model.specs.Text.{text_of}
 use Rattle.dxe_core.specs.Services.{AreFlags}
 use Rattle.dxe_dispatch.specs.Queue.{Queue, IsQueueOf}

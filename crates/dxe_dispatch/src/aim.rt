@@ -1,11 +1,8 @@
 // The driver that a choice names, and the machine that is aimed at it.
 ghost use Rattle.std.specs.Prelude.{◌≡◌, ◌↔◌, ◌≤◌, ◌+◌, [], IsTrue, OnOk};
 ghost use Rattle.boot_model.specs.DxeMachine.{DxeMachine};
-ghost use Rattle.mod_catalog.specs.declared.catalogue.Catalog.{Catalog as OfCatalog};
-ghost use Rattle.mod_catalog.specs.WellFormed.{IsWellFormed};
-ghost use Rattle.dxe_dispatch.specs.Queue.{IsQueueFor, owed};
-ghost use Rattle.dxe_dispatch.specs.Choices.{Aims, Asks};
-ghost use Rattle.dxe_dispatch.specs.Turns.{AreKeptFor};
+ghost use Rattle.mod_catalog.specs.{declared.catalogue.Catalog.Catalog as OfCatalog, WellFormed.IsWellFormed};
+ghost use Rattle.dxe_dispatch.specs.{Queue.IsQueueFor, Queue.owed, Choices.Aims, Choices.Asks, Turns.AreKeptFor};
 
 use crate::DriverQueue;
 use crate::root::root_of;

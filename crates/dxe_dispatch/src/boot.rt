@@ -2,8 +2,7 @@
 ghost use Rattle.std.specs.Prelude.{◌≡◌, ◌≤◌, ◌<◌, ◌^◌, ℕ, IfOk, OnOk, length};
 ghost use Rattle.boot_io.specs.Halted.{HaltsAfter};
 ghost use Rattle.mod_catalog.specs.WellFormed.{IsWellFormed};
-ghost use Rattle.store_model.specs.Service.{Present, OfEach};
-ghost use Rattle.store_model.specs.StoreCall.{Anything};
+ghost use Rattle.store_model.specs.{Service.Present, Service.OfEach, StoreCall.Anything};
 ghost use Rattle.dxe_core.specs.Standing.{IsFor};
 ghost use Rattle.boot_laws.specs.declared.choice.Reached.TheVariants as R;
 ghost use Rattle.dxe_dispatch.specs.Choices.{BootsByChoice, LeavesByChoice, handles_of, leaves};

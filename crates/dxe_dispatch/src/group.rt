@@ -1,12 +1,10 @@
 //! The group of an eligible driver: those BEFORE it with their groups, the driver, and those AFTER it with theirs.
 ghost use Rattle.std.specs.Prelude.{◌≡◌, ◌≤◌, ◌++◌, map, filter, reverse, OnOk, IfOk, length};
 ghost use Rattle.mod_catalog.specs.declared.limits.TheConstants.{MOST_MODULES};
-ghost use Rattle.boot_model.specs.DxeMachine.{DxeMachine};
-ghost use Rattle.boot_model.specs.DxeChoice.{companion_group};
+ghost use Rattle.boot_model.specs.{DxeMachine.DxeMachine, DxeChoice.companion_group};
 ghost use Rattle.boot_laws.specs.GroupUnfolds.{IsRoot};
 ghost use Rattle.dxe_dispatch.specs.Choosing.{HaveWaiting, TakesItem, unfolded};
-ghost use Rattle.dxe_dispatch.specs.Queue.{waits_at};
-ghost use Rattle.dxe_dispatch.specs.declared.group.Item.TheVariants.{Group};
+ghost use Rattle.dxe_dispatch.specs.{Queue.waits_at, declared.group.Item.TheVariants.Group};
 
 use crate::waits::waits_at;
 use dxe_core::DriverOrder;

@@ -6,8 +6,7 @@ ghost use Rattle.boot_model.specs.DxeChoice as C;
 ghost use Rattle.boot_model.specs.DxeMachine.{DxeMachine};
 ghost use Rattle.wait_index.specs.Dispatch.{StandsForDxe};
 ghost use Rattle.wait_index.specs.Index.{IsIndex, IsSame, owed};
-ghost use Rattle.dxe_dispatch.specs.Aim.{may_be_next};
-ghost use Rattle.dxe_dispatch.specs.Index.{IsRequested, WaitsNoMore};
+ghost use Rattle.dxe_dispatch.specs.{Aim.may_be_next, Index.IsRequested, Index.WaitsNoMore};
 
 use depex_code::Steps;
 use mod_catalog::Catalog;

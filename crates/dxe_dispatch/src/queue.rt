@@ -1,15 +1,13 @@
 //! The scheduled queue, the drivers that wait, and the next driver.
 ghost use Rattle.std.specs.Prelude.{◌≡◌, ◌≤◌, ◌<◌, ◌+◌, ◌↔◌, IsTrue, [], ◌∷◌, ◌++◌, drop, IfOk, OnOk, IfSome, length, map, reverse};
 ghost use Rattle.pi_base.specs.Lists.{Each};
-ghost use Rattle.mod_catalog.specs.WellFormed.{IsWellFormed};
-ghost use Rattle.mod_catalog.specs.declared.catalogue.Catalog.{Catalog as OfCatalog};
+ghost use Rattle.mod_catalog.specs.{WellFormed.IsWellFormed, declared.catalogue.Catalog.Catalog as OfCatalog};
 ghost use Rattle.boot_model.specs.DxeChoice.{a_priori_drivers, companion_group, drivers_of, schedule_of};
 ghost use Rattle.boot_model.specs.DxeChoice as C;
-ghost use Rattle.boot_model.specs.DxeMachine.{DxeMachine};
+ghost use Rattle.boot_model.specs.{DxeMachine.DxeMachine, Licence.AllDiffer};
 ghost use Rattle.dxe_dispatch.specs.Aim.{aimed, may_be_next};
 ghost use Rattle.dxe_dispatch.specs.Choosing.{AllWait, Come, IsFilledQueue, HasFlagFor, IsSeenRoot, Schedules, TakesHead, as_apriori};
 ghost use Rattle.dxe_dispatch.specs.Queue.{AreNew, Changes, ComesNext, Discovers, IsDriver, IsNewQueue, IsQueueFor, IsQueueOf, IsSeen, OwesFor, Requests, owed, waits_at};
-ghost use Rattle.boot_model.specs.Licence.{AllDiffer};
 ghost use Rattle.wait_index.specs.Index.{order_in};
 
 use crate::group::backward_group;

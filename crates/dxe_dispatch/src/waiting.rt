@@ -2,8 +2,7 @@
 ghost use Rattle.std.specs.Prelude.{◌≡◌, ◌&&◌, not, Some};
 ghost use Rattle.boot_io.specs.Sink.{SinkFaultsAfter};
 ghost use Rattle.mod_catalog.specs.Parts.{has_number};
-ghost use Rattle.boot_model.specs.DxeChoice.{asks_for_request};
-ghost use Rattle.boot_model.specs.DxeMachine.{DxeMachine};
+ghost use Rattle.boot_model.specs.{DxeChoice.asks_for_request, DxeMachine.DxeMachine};
 ghost use Rattle.boot_model.specs.DxeStep as D;
 ghost use Rattle.dxe_dispatch.specs.Waiting.{PutsWaiting, PutsAllWaiting};
 

@@ -1,23 +1,11 @@
 -- The chains of the modules that may install a GUID, as modules are put in front.
-use Rattle.std.proofs.Common.{◌≡◌, ℕ, suc, ◌+◌, ◌<◌, ◌==◌, Bool, true, false, cond, ◌||◌, List, [], ◌∷◌, ◌++◌, length, Option, Some, None, refl, sym, ap, subst, ◌∙◌, arith}
-use Rattle.std.specs.Prelude.{slice_get}
-use Rattle.std.specs.List.{list_any}
-use Rattle.std.specs.Map.{lookup}
-use Rattle.std.proofs.lemmas.Bool.Decides.{nat_tests}
-use Rattle.std.proofs.lemmas.Cmp.{nat_list_eq_equiv}
-use Rattle.std.proofs.lemmas.List.Folds.{list_any-append}
-use Rattle.std.proofs.Math.Bool.{or-false}
-use Rattle.pi_base.specs.declared.guid.Guid.{Guid}
-use Rattle.pi_base.specs.declared.phase.Phase.{Phase}
-use Rattle.pi_base.specs.Guids.{same_guid}
-use Rattle.pi_base.specs.GuidMap.{IsPut, value_of}
-use Rattle.mod_catalog.specs.declared.catalogue.Module.{Module}
-use Rattle.mod_catalog.specs.declared.catalogue.Part.{Part}
-use Rattle.mod_catalog.specs.Parts.{part_of}
-use Rattle.explain_text.specs.Gives.{given_in}
+use Rattle.std.proofs.Common.{◌≡◌, ℕ, suc, ◌+◌, ◌<◌, ◌==◌, Bool, true, false, cond, ◌||◌, List, [], ◌∷◌, ◌++◌, length, Option, Some, None, refl, sym, ap, subst, ◌∙◌, arith, slice_get}
+use Rattle.std.specs.{List.list_any, Map.lookup}
+use Rattle.std.proofs.{lemmas.Bool.Decides.nat_tests, lemmas.Cmp.nat_list_eq_equiv, lemmas.List.Folds.list_any-append, Math.Bool.or-false}
+use Rattle.pi_base.specs.{declared.guid.Guid.Guid, declared.phase.Phase.Phase, Guids.same_guid, GuidMap.IsPut, GuidMap.value_of}
+use Rattle.mod_catalog.specs.{declared.catalogue.Module.Module, declared.catalogue.Part.Part, Parts.part_of}
+use Rattle.explain_text.specs.{Gives.given_in, declared.givers.Givers.Givers, declared.givers.Link.Link}
 use Rattle.explain_text.specs.Givers.{AddsName, AddsNames, AreGivers, AreKept, Chain, givers_from, has_number, in_front, is_first, link_at, part_gives}
-use Rattle.explain_text.specs.declared.givers.Givers.{Givers}
-use Rattle.explain_text.specs.declared.givers.Link.{Link}
 
 -- two GUIDs that are the same have one value
 same_value : {V : Type 0} (map : List (Guid × V)) (a b : Guid) → same_guid a b ≡ true → value_of map a ≡ value_of map b

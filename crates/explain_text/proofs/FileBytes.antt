@@ -1,12 +1,9 @@
 -- The bytes of a module's file.
-use Rattle.std.proofs.Common.{◌≡◌, ◌-◌, ◌<◌, ◌≤◌, ℕ, List, [], get_or, length, take, drop, sym, ap, ◌∙◌, refl, arith}
-use Rattle.std.proofs.lemmas.List.{drop_all, length-drop, take_all}
-use Rattle.std.proofs.lemmas.Option.{slice_get_past, slice_get_read}
+use Rattle.std.proofs.Common.{◌≡◌, ◌-◌, ◌<◌, ◌≤◌, ℕ, List, [], get_or, length, take, drop, sym, ap, ◌∙◌, refl, arith, length-drop, take_all}
+use Rattle.std.proofs.{lemmas.List.drop_all, lemmas.Option.slice_get_past, lemmas.Option.slice_get_read}
 use Rattle.boot_model.specs.PlanBoard.{roms_of}
-use Rattle.mod_catalog.specs.declared.catalogue.Module.{Module}
-use Rattle.mod_catalog.specs.declared.catalogue.VolumeEntry.{VolumeEntry}
-use Rattle.explain_text.specs.Mapped.{mapped_from}
-use Rattle.explain_text.specs.Title.{file_of, volume_bytes}
+use Rattle.mod_catalog.specs.{declared.catalogue.Module.Module, declared.catalogue.VolumeEntry.VolumeEntry}
+use Rattle.explain_text.specs.{Mapped.mapped_from, Title.file_of, Title.volume_bytes}
 
 -- the module has no volume
 pub no_volume : (volumes : List VolumeEntry) (images : List (List ℕ)) (m : Module) → length volumes ≤ m.volume → [] ≡ file_of volumes images m

@@ -1,14 +1,10 @@
 -- The flags of modules, as they are set.
-use Rattle.std.proofs.Common.{◌≡◌, ℕ, ◌<◌, ◌==◌, Bool, true, false, cond, ◌||◌, ◌&&◌, List, [], ◌∷◌, ◌++◌, length, replicate, refl, sym, ap, ◌∙◌, arith}
-use Rattle.std.specs.Prelude.{nat_lt, slice_set}
+use Rattle.std.proofs.Common.{◌≡◌, ℕ, ◌<◌, ◌==◌, Bool, true, false, cond, ◌||◌, ◌&&◌, List, [], ◌∷◌, ◌++◌, length, replicate, refl, sym, ap, ◌∙◌, arith, nat_lt, slice_set, get_or-set_same, get_or-set_other, length-set}
 use Rattle.std.specs.List.{list_any}
-use Rattle.std.proofs.lemmas.Bool.Decides.{nat_tests}
-use Rattle.std.proofs.lemmas.List.{get_or-replicate, get_or-set_same, get_or-set_other, length-replicate, length-set}
-use Rattle.std.proofs.lemmas.List.Folds.{list_any-append}
-use Rattle.std.proofs.Math.Bool.{or-false}
+use Rattle.std.proofs.{lemmas.Bool.Decides.nat_tests, lemmas.List.get_or-replicate, lemmas.List.length-replicate}
+use Rattle.std.proofs.{lemmas.List.Folds.list_any-append, Math.Bool.or-false}
 use Rattle.pi_base.specs.declared.phase.Phase.{Phase}
-use Rattle.explain_text.specs.declared.reasons.Begun.{Begun}
-use Rattle.explain_text.specs.declared.reasons.Held.{Held}
+use Rattle.explain_text.specs.{declared.reasons.Begun.Begun, declared.reasons.Held.Held}
 use Rattle.explain_text.specs.Flags.{AddsHeld, AreStarted, flag, is_held, is_start_of, is_wait_of, marked, same_phase}
 
 -- the flags are as many as before

@@ -1,25 +1,14 @@
 -- The words of who may install a GUID, as they are put one by one.
-use Rattle.std.proofs.Common.{◌≡◌, ℕ, suc, ◌+◌, ◌-◌, ◌<◌, ◌≤◌, ◌==◌, Bool, true, false, cond, List, [], ◌∷◌, ◌++◌, length, take, drop, get_or, map, flat_map, decimal, Option, Some, None, refl, sym, ap, subst, ◌∙◌, append_assoc, arith}
-use Rattle.std.specs.Prelude.{nat_lt, OnOk, Result, Ok, Err}
-use Rattle.std.proofs.lemmas.Bool.Decides.{nat_tests}
-use Rattle.std.proofs.lemmas.Grind.{flat_map-append}
-use Rattle.std.proofs.lemmas.List.{append-nil, take_all, take_more, flat_map_more, length-drop}
+use Rattle.std.proofs.Common.{◌≡◌, ℕ, suc, ◌+◌, ◌-◌, ◌<◌, ◌≤◌, ◌==◌, Bool, true, false, cond, List, [], ◌∷◌, ◌++◌, length, take, drop, get_or, map, flat_map, decimal, Option, Some, None, refl, sym, ap, subst, ◌∙◌, append_assoc, arith, nat_lt, OnOk, Result, Ok, Err, append-nil, take_all, length-drop}
+use Rattle.std.proofs.{lemmas.Bool.Decides.nat_tests, lemmas.Grind.flat_map-append, lemmas.List.take_more, lemmas.List.flat_map_more}
 use Rattle.boot_io.specs.Line.{line_of, spaced}
-use Rattle.pi_base.specs.Lists.{Each}
-use Rattle.pi_base.specs.declared.guid.Guid.{Guid}
-use Rattle.pi_base.specs.declared.phase.Phase.{Phase}
-use Rattle.mod_catalog.specs.declared.catalogue.Module.{Module}
-use Rattle.mod_catalog.specs.Parts.{part_of}
-use Rattle.explain_text.specs.Fronts.{front_of}
-use Rattle.explain_text.specs.declared.reasons.Begun.{Begun}
-use Rattle.explain_text.specs.declared.givers.Link.{Link}
+use Rattle.pi_base.specs.{Lists.Each, declared.guid.Guid.Guid, declared.phase.Phase.Phase}
+use Rattle.mod_catalog.specs.{declared.catalogue.Module.Module, Parts.part_of}
+use Rattle.explain_text.specs.{Fronts.front_of, declared.reasons.Begun.Begun, declared.givers.Link.Link, Context.IsContext}
 use Rattle.explain_text.specs.declared.keyword.Keyword.TheVariants as K
-use Rattle.explain_text.specs.Context.{IsContext}
-use Rattle.explain_text.specs.declared.context.Context.{Context}
-use Rattle.explain_text.specs.Flags.{flag, has_started}
+use Rattle.explain_text.specs.{declared.context.Context.Context, Flags.flag, Flags.has_started, Words.word_of}
 use Rattle.explain_text.specs.Givers.{Chain, givers_from, link_at, part_gives}
 use Rattle.explain_text.specs.HeldLines.{core_gives, lacks_words, or_dash, pair_words, told_words, with_core}
-use Rattle.explain_text.specs.Words.{word_of}
 
 -- what follows from what was put without a failure
 pub on_ok : {E : Type 0} (r : Result (Unit {0}) E) (P Q : Type 0) → (P → Q) → OnOk r P → OnOk r Q

@@ -1,7 +1,6 @@
 -- The lines of modules, with one module more.
-use Rattle.std.proofs.Common.{◌≡◌, ℕ, suc, ◌+◌, ◌-◌, List, [], ◌∷◌, ◌++◌, length, take, get_or, ◌<◌, Option, sym, ap, subst, ◌∙◌, append_assoc, arith, length-append}
-use Rattle.std.proofs.lemmas.List.{append-nil, length-take-le, take_more}
-use Rattle.std.proofs.Math.Seq.{take-append_seam}
+use Rattle.std.proofs.Common.{◌≡◌, ℕ, suc, ◌+◌, ◌-◌, List, [], ◌∷◌, ◌++◌, length, take, get_or, ◌<◌, Option, sym, ap, subst, ◌∙◌, append_assoc, arith, length-append, append-nil, length-take-le}
+use Rattle.std.proofs.{lemmas.List.take_more, Math.Seq.take-append_seam}
 use Rattle.pi_base.specs.Lists.{EachPair}
 use Rattle.mod_catalog.specs.declared.catalogue.Module.{Module}
 use Rattle.explain_text.specs.Lines.{catalog_lines, module_lines}

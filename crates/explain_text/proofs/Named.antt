@@ -1,16 +1,9 @@
 -- The GUIDs that actions name, with one more.
-use Rattle.std.proofs.Common.{◌≡◌, ℕ, ◌+◌, ◌<◌, length, take, get_or, Bool, true, false, cond, not, ◌||◌, List, [], ◌∷◌, ◌++◌, filter, flat_map, Some, is_some, refl, sym, ap, ◌∙◌, append_assoc}
+use Rattle.std.proofs.Common.{◌≡◌, ℕ, ◌+◌, ◌<◌, length, take, get_or, Bool, true, false, cond, not, ◌||◌, List, [], ◌∷◌, ◌++◌, filter, flat_map, Some, is_some, refl, sym, ap, ◌∙◌, append_assoc, option_to_list, append-nil}
 use Rattle.std.specs.List.{list_any}
-use Rattle.std.specs.Option.{option_to_list}
-use Rattle.std.proofs.lemmas.Cmp.{nat_list_eq_equiv}
-use Rattle.std.proofs.lemmas.List.{append-nil, take_more}
-use Rattle.std.proofs.lemmas.List.Elements.{filter-append}
-use Rattle.std.proofs.lemmas.List.Folds.{list_any-append}
-use Rattle.std.proofs.lemmas.Grind.{flat_map-append}
-use Rattle.pi_base.specs.declared.guid.Guid.{Guid}
-use Rattle.pi_base.specs.Guids.{same_guid}
-use Rattle.pi_base.specs.Lists.{firsts}
-use Rattle.pi_base.specs.GuidMap.{IsPut, value_of}
+use Rattle.std.proofs.{lemmas.Cmp.nat_list_eq_equiv, lemmas.List.take_more, lemmas.List.Elements.filter-append}
+use Rattle.std.proofs.{lemmas.List.Folds.list_any-append, lemmas.Grind.flat_map-append}
+use Rattle.pi_base.specs.{declared.guid.Guid.Guid, Guids.same_guid, Lists.firsts, GuidMap.IsPut, GuidMap.value_of}
 use Rattle.act_code.specs.declared.action.Action.{Action}
 use Rattle.explain_text.specs.Gives.{AreMet, named_by, named_in_all, named_in_block, names}
 use Rattle.explain_text.specs.declared.catalog.gives.Met.{Met}

@@ -1,7 +1,6 @@
 -- A module has one name, or none.
 use Rattle.std.proofs.Common.{◌≡◌, ℕ, List, Option, Some, None, sym, ap, ◌∙◌, inl, inr}
-use Rattle.fv_volume.specs.declared.sections.section.Section.{Section}
-use Rattle.fv_volume.specs.declared.sections.fault.SecFault.{SecFault}
+use Rattle.fv_volume.specs.{declared.sections.section.Section.Section, declared.sections.fault.SecFault.SecFault}
 use Rattle.fv_volume.specs.Stream.{AreSections, IsFirstFault}
 use Rattle.explain_text.specs.Title.{IsTitleIn, IsTitleOf, title_among}
 

@@ -1,7 +1,6 @@
 -- Words that are put one by one.
-use Rattle.std.proofs.Common.{◌≡◌, ◌<◌, ℕ, ◌+◌, List, [], ◌∷◌, ◌++◌, length, refl, sym, ap, ◌∙◌, take, get_or, append_assoc, flat_map}
-use Rattle.std.proofs.lemmas.List.{append-nil, take_more, flat_map_more}
-use Rattle.std.specs.Borrow.{Bor}
+use Rattle.std.proofs.Common.{◌≡◌, ◌<◌, ℕ, ◌+◌, List, [], ◌∷◌, ◌++◌, length, refl, sym, ap, ◌∙◌, take, get_or, append_assoc, flat_map, append-nil, Bor}
+use Rattle.std.proofs.lemmas.List.{take_more, flat_map_more}
 use Rattle.boot_io.specs.Line.{spaced, words_now}
 
 -- the text of words

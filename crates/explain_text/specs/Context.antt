@@ -1,13 +1,9 @@
 -- What the lines of modules that wait ask of a phase: which modules may install a GUID, and which started.
 -- Own.
 use Rattle.std.specs.Prelude.{List, length}
-use Rattle.pi_base.specs.declared.phase.Phase.{Phase}
-use Rattle.pi_base.specs.declared.phase.Phase.TheVariants.{Pei, Dxe}
+use Rattle.pi_base.specs.{declared.phase.Phase.Phase, declared.phase.Phase.TheVariants.Pei, declared.phase.Phase.TheVariants.Dxe}
 use Rattle.mod_catalog.specs.declared.catalogue.Module.{Module}
-use Rattle.explain_text.specs.declared.reasons.Begun.{Begun}
-use Rattle.explain_text.specs.declared.context.Context.{Context}
-use Rattle.explain_text.specs.Flags.{AreStarted}
-use Rattle.explain_text.specs.Givers.{AreGivers}
+use Rattle.explain_text.specs.{declared.reasons.Begun.Begun, declared.context.Context.Context, Flags.AreStarted, Givers.AreGivers}
 
 -- of a phase
 pub record IsContext (begun : List Begun) (modules : List Module) (phase : Phase) (context : Context) : Type 0 where

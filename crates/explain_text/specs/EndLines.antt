@@ -4,10 +4,8 @@ use Rattle.std.specs.Prelude.{ℕ, List, [], ◌∷◌, ◌++◌, decimal, Optio
 use Rattle.boot_io.specs.Line.{line_of}
 use Rattle.boot_model.specs.Text.{end_text}
 use Rattle.pi_base.specs.WordText.{hexadecimal}
-use Rattle.explain_text.specs.declared.reasons.Explained.{Explained}
-use Rattle.explain_text.specs.declared.reasons.Moved.{Moved}
+use Rattle.explain_text.specs.{declared.reasons.Explained.Explained, declared.reasons.Moved.Moved, Words.word_of}
 use Rattle.explain_text.specs.declared.keyword.Keyword.TheVariants as K
-use Rattle.explain_text.specs.Words.{word_of}
 
 -- how many bytes the HOB list takes, at a moment
 abbrev pub heap_line : List ℕ → ℕ → List ℕ

@@ -2,10 +2,8 @@
 -- Own.
 use Rattle.std.specs.Prelude.{◌≡◌, ℕ, ◌<◌, Bool, true, false, ◌==◌, ◌&&◌, ◌||◌, if◌then◌else◌, nat_lt, List, length, slice_set, slice_index_or}
 use Rattle.std.specs.List.{list_any}
-use Rattle.pi_base.specs.declared.phase.Phase.{Phase}
-use Rattle.pi_base.specs.declared.phase.Phase.TheVariants.{Pei, Dxe}
-use Rattle.explain_text.specs.declared.reasons.Begun.{Begun}
-use Rattle.explain_text.specs.declared.reasons.Held.{Held}
+use Rattle.pi_base.specs.{declared.phase.Phase.Phase, declared.phase.Phase.TheVariants.Pei, declared.phase.Phase.TheVariants.Dxe}
+use Rattle.explain_text.specs.{declared.reasons.Begun.Begun, declared.reasons.Held.Held}
 
 abbrev pub same_phase : Phase → Phase → Bool
 same_phase Pei Pei = true

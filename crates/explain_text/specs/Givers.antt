@@ -1,18 +1,10 @@
 -- Which modules may install a GUID in a phase: those whose script of the phase names it.
 -- Own.
-use Rattle.std.specs.Prelude.{◌≡◌, ℕ, ◌+◌, Bool, false, ◌==◌, if◌then◌else◌, List, [], ◌∷◌, ◌++◌, Option, Some, None, slice_get}
-use Rattle.std.specs.Option.{option_and_then}
+use Rattle.std.specs.Prelude.{◌≡◌, ℕ, ◌+◌, Bool, false, ◌==◌, if◌then◌else◌, List, [], ◌∷◌, ◌++◌, Option, Some, None, slice_get, option_and_then}
 use Rattle.std.specs.List.{list_any}
-use Rattle.pi_base.specs.declared.guid.Guid.{Guid}
-use Rattle.pi_base.specs.declared.phase.Phase.{Phase}
-use Rattle.pi_base.specs.Guids.{same_guid}
-use Rattle.pi_base.specs.GuidMap.{value_of}
-use Rattle.mod_catalog.specs.declared.catalogue.Module.{Module}
-use Rattle.mod_catalog.specs.declared.catalogue.Part.{Part}
-use Rattle.mod_catalog.specs.Parts.{part_of}
-use Rattle.explain_text.specs.Gives.{given_in}
-use Rattle.explain_text.specs.declared.givers.Givers.{Givers}
-use Rattle.explain_text.specs.declared.givers.Link.{Link}
+use Rattle.pi_base.specs.{declared.guid.Guid.Guid, declared.phase.Phase.Phase, Guids.same_guid, GuidMap.value_of}
+use Rattle.mod_catalog.specs.{declared.catalogue.Module.Module, declared.catalogue.Part.Part, Parts.part_of}
+use Rattle.explain_text.specs.{Gives.given_in, declared.givers.Givers.Givers, declared.givers.Link.Link}
 
 -- whether the script of a part names a GUID of what it may install
 abbrev pub part_gives : Guid → Option Part → Bool

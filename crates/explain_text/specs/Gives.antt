@@ -1,19 +1,13 @@
 -- The GUIDs of what a script may install. In PEI a script installs descriptors; those that it makes name their GUIDs, or read them in a volume, and one that it was handed was installed before.
 -- In DXE an action that installs an interface, also in the place of another, names its protocol.
 -- PI 1.8, volume 1, `InstallPpi()` and `ReinstallPpi()`; UEFI, `InstallProtocolInterface()`; the actions are own.
-use Rattle.std.specs.Prelude.{◌≡◌, Bool, true, false, ◌==◌, if◌then◌else◌, List, flat_map, Option, Some, None, is_some}
+use Rattle.std.specs.Prelude.{◌≡◌, Bool, true, false, ◌==◌, if◌then◌else◌, List, flat_map, Option, Some, None, is_some, option_to_list}
 use Rattle.std.specs.List.{list_any}
-use Rattle.std.specs.Option.{option_to_list}
-use Rattle.pi_base.specs.declared.guid.Guid.{Guid}
-use Rattle.pi_base.specs.Guids.{same_guid}
-use Rattle.pi_base.specs.Lists.{firsts}
-use Rattle.pi_base.specs.GuidMap.{value_of}
-use Rattle.act_code.specs.declared.action.Action.{Action}
+use Rattle.pi_base.specs.{declared.guid.Guid.Guid, Guids.same_guid, Lists.firsts, GuidMap.value_of}
+use Rattle.act_code.specs.{declared.action.Action.Action, declared.action.GuidArg.GuidArg}
 use Rattle.act_code.specs.declared.action.Action.TheVariants.{Desc, DxeInstall, DxeReinstall}
-use Rattle.act_code.specs.declared.action.GuidArg.{GuidArg}
 use Rattle.act_code.specs.declared.action.GuidArg.TheVariants.{Inline, Register}
-use Rattle.act_code.specs.declared.descriptor_kind.TheConstants.{PPI}
-use Rattle.act_code.specs.declared.script.Script.{Script}
+use Rattle.act_code.specs.{declared.descriptor_kind.TheConstants.PPI, declared.script.Script.Script}
 use Rattle.explain_text.specs.declared.catalog.gives.Met.{Met}
 
 -- the GUID that is named

@@ -3,25 +3,14 @@
 use Rattle.std.specs.Prelude.{ℕ, Bool, false, if◌then◌else◌, nat_lt, List, [], ◌∷◌, ◌++◌, length, map, take, decimal, flat_map, Option, Some, None}
 use Rattle.boot_io.specs.Line.{line_of}
 use Rattle.boot_model.specs.Text.{reason_text}
-use Rattle.pi_base.specs.declared.guid.Guid.{Guid}
-use Rattle.pi_base.specs.declared.known_guid.TheConstants.{MEMORY_PPI}
-use Rattle.pi_base.specs.declared.phase.Phase.{Phase}
-use Rattle.pi_base.specs.declared.phase.Phase.TheVariants.{Pei, Dxe}
-use Rattle.pi_base.specs.Guids.{same_guid}
-use Rattle.pi_base.specs.WordText.{guid_text}
+use Rattle.pi_base.specs.{declared.guid.Guid.Guid, declared.known_guid.TheConstants.MEMORY_PPI, declared.phase.Phase.Phase}
+use Rattle.pi_base.specs.{declared.phase.Phase.TheVariants.Pei, declared.phase.Phase.TheVariants.Dxe, Guids.same_guid, WordText.guid_text}
 use Rattle.mod_catalog.specs.declared.catalogue.Module.{Module as OfModule}
-use Rattle.explain_text.specs.declared.reasons.Begun.{Begun}
-use Rattle.explain_text.specs.declared.reasons.Held.{Held}
-use Rattle.explain_text.specs.declared.reasons.Need.{Need}
-use Rattle.explain_text.specs.declared.reasons.Giver.{Giver}
+use Rattle.explain_text.specs.{declared.reasons.Begun.Begun, declared.reasons.Held.Held, declared.reasons.Need.Need}
+use Rattle.explain_text.specs.{declared.reasons.Giver.Giver, Lines.phase_text, declared.held_lines.TheConstants.MOST_TOLD}
 use Rattle.explain_text.specs.declared.reasons.Giver.TheVariants.{Core, Module, Absent}
-use Rattle.explain_text.specs.Lines.{phase_text}
-use Rattle.explain_text.specs.declared.held_lines.TheConstants.{MOST_TOLD}
 use Rattle.explain_text.specs.declared.keyword.Keyword.TheVariants as K
-use Rattle.explain_text.specs.Flags.{has_started}
-use Rattle.explain_text.specs.Givers.{givers_from}
-use Rattle.explain_text.specs.StartLines.{giver_text}
-use Rattle.explain_text.specs.Words.{word_of}
+use Rattle.explain_text.specs.{Flags.has_started, Givers.givers_from, StartLines.giver_text, Words.word_of}
 
 abbrev pub waits_line : Held → List ℕ
 waits_line wait = line_of (word_of K.Waits) (decimal wait.number ∷ phase_text wait.phase ∷ reason_text wait.reason ∷ [])

@@ -2,14 +2,10 @@
 -- Own.
 use Rattle.std.specs.Prelude.{ℕ, ◌+◌, Bool, ◌&&◌, not, if◌then◌else◌, List, [], ◌∷◌, ◌++◌, decimal, is_some}
 use Rattle.boot_io.specs.Line.{line_of}
-use Rattle.pi_base.specs.declared.phase.Phase.{Phase}
-use Rattle.pi_base.specs.declared.phase.Phase.TheVariants.{Pei, Dxe}
-use Rattle.mod_catalog.specs.declared.catalogue.Module.{Module}
-use Rattle.mod_catalog.specs.Parts.{has_number, part_of}
-use Rattle.explain_text.specs.Lines.{phase_text}
-use Rattle.explain_text.specs.declared.keyword.Keyword.{Keyword}
+use Rattle.pi_base.specs.{declared.phase.Phase.Phase, declared.phase.Phase.TheVariants.Pei, declared.phase.Phase.TheVariants.Dxe}
+use Rattle.mod_catalog.specs.{declared.catalogue.Module.Module, Parts.has_number, Parts.part_of}
+use Rattle.explain_text.specs.{Lines.phase_text, declared.keyword.Keyword.Keyword, Words.word_of}
 use Rattle.explain_text.specs.declared.keyword.Keyword.TheVariants as K
-use Rattle.explain_text.specs.Words.{word_of}
 
 -- the word where a volume never came to be known: PEI was not reported it, or DXE did not discover it
 abbrev pub unknown_word : Phase → Keyword

@@ -3,21 +3,14 @@
 use Rattle.std.specs.Prelude.{◌≡◌, ℕ, ◌+◌, if◌then◌else◌, List, [], ◌∷◌, ◌++◌, codes, decimal, flat_map, Option, Some, None}
 use Rattle.hex.specs.Hex.{encode_lower}
 use Rattle.boot_io.specs.Line.{line_of}
-use Rattle.pi_base.specs.WordText.{guid_text}
-use Rattle.pi_base.specs.Lists.{EachPair}
-use Rattle.pi_base.specs.declared.phase.Phase.{Phase}
+use Rattle.pi_base.specs.{WordText.guid_text, Lists.EachPair, declared.phase.Phase.Phase}
 use Rattle.pi_base.specs.declared.phase.Phase.TheVariants.{Pei, Dxe}
 use Rattle.act_code.specs.declared.script.Script.{Script}
 use Rattle.asm_text.specs.ExpressionText.{expression_text}
-use Rattle.mod_catalog.specs.declared.catalogue.Module.{Module}
-use Rattle.mod_catalog.specs.declared.catalogue.Part.{Part}
-use Rattle.mod_catalog.specs.declared.catalogue.PartExpr.{PartExpr}
+use Rattle.mod_catalog.specs.{declared.catalogue.Module.Module, declared.catalogue.Part.Part, declared.catalogue.PartExpr.PartExpr}
 use Rattle.mod_catalog.specs.declared.catalogue.PartExpr.TheVariants.{Absent, Malformed, Held}
 use Rattle.mod_catalog.specs.declared.catalogue.VolumeEntry.{VolumeEntry}
-use Rattle.explain_text.specs.Name.{title_word}
-use Rattle.explain_text.specs.Title.{IsTitle}
-use Rattle.explain_text.specs.Gives.{given_in, gives_any}
-use Rattle.explain_text.specs.Words.{word_of}
+use Rattle.explain_text.specs.{Name.title_word, Title.IsTitle, Gives.given_in, Gives.gives_any, Words.word_of}
 use Rattle.explain_text.specs.declared.keyword.Keyword.TheVariants as K
 
 -- the word of a phase

@@ -1,9 +1,7 @@
 -- What is added to a text.
 use Rattle.std.specs.Prelude.{◌≡◌, ℕ, List, ◌++◌, Option}
-use Rattle.mod_catalog.specs.declared.catalogue.Module.{Module}
-use Rattle.mod_catalog.specs.declared.catalogue.VolumeEntry.{VolumeEntry}
-use Rattle.explain_text.specs.Title.{IsTitle}
-use Rattle.explain_text.specs.Lines.{IsCatalogText, module_lines}
+use Rattle.mod_catalog.specs.{declared.catalogue.Module.Module, declared.catalogue.VolumeEntry.VolumeEntry}
+use Rattle.explain_text.specs.{Title.IsTitle, Lines.IsCatalogText, Lines.module_lines}
 
 -- the lines of a module
 abbrev pub AddsModule : List VolumeEntry → List (List ℕ) → ℕ → Module → List ℕ → List ℕ → Type 0

@@ -4,11 +4,8 @@ use Rattle.std.specs.Prelude.{ℕ, List, [], ◌∷◌, ◌++◌, decimal, flat_
 use Rattle.boot_io.specs.Line.{line_of}
 use Rattle.boot_model.specs.Text.{licence_text}
 use Rattle.pi_base.specs.WordText.{guid_text}
-use Rattle.explain_text.specs.declared.reasons.Begun.{Begun}
-use Rattle.explain_text.specs.declared.reasons.Need.{Need}
-use Rattle.explain_text.specs.declared.reasons.Giver.{Giver}
+use Rattle.explain_text.specs.{declared.reasons.Begun.Begun, declared.reasons.Need.Need, declared.reasons.Giver.Giver, Lines.phase_text}
 use Rattle.explain_text.specs.declared.reasons.Giver.TheVariants.{Core, Module, Absent}
-use Rattle.explain_text.specs.Lines.{phase_text}
 use Rattle.explain_text.specs.declared.keyword.Keyword.TheVariants as K
 use Rattle.explain_text.specs.Words.{word_of}
 

@@ -1,15 +1,10 @@
 -- The text of an explained boot: its starts, the modules that wait, the parts that neither started nor wait, and its end.
 -- Own.
 use Rattle.std.specs.Prelude.{ℕ, Bool, ◌||◌, List, ◌++◌, flat_map}
-use Rattle.pi_base.specs.declared.phase.Phase.{Phase}
-use Rattle.pi_base.specs.declared.phase.Phase.TheVariants.{Pei, Dxe}
+use Rattle.pi_base.specs.{declared.phase.Phase.Phase, declared.phase.Phase.TheVariants.Pei, declared.phase.Phase.TheVariants.Dxe}
 use Rattle.mod_catalog.specs.declared.catalogue.Module.{Module}
-use Rattle.explain_text.specs.declared.reasons.Explained.{Explained}
-use Rattle.explain_text.specs.EndLines.{end_lines}
-use Rattle.explain_text.specs.Flags.{has_started, is_held}
-use Rattle.explain_text.specs.HeldLines.{held_lines}
-use Rattle.explain_text.specs.LeftLines.{left_lines}
-use Rattle.explain_text.specs.StartLines.{start_lines}
+use Rattle.explain_text.specs.{declared.reasons.Explained.Explained, EndLines.end_lines, Flags.has_started, Flags.is_held}
+use Rattle.explain_text.specs.{HeldLines.held_lines, LeftLines.left_lines, StartLines.start_lines}
 
 -- whether a module started in a phase or waits at its end
 abbrev pub is_told : Explained → Phase → ℕ → Bool

@@ -1,18 +1,12 @@
 -- The name of a module: that of the file whose header stands at the module's place.
 -- PI 1.8, volume 3, `EFI_SECTION_USER_INTERFACE`.
-use Rattle.std.specs.Prelude.{◌≡◌, ◌⊎◌, ℕ, ◌==◌, List, [], find, take, drop, Option, Some, None, option_map, slice_get}
-use Rattle.std.specs.Option.{option_and_then}
-use Rattle.fv_volume.specs.declared.sections.fault.SecFault.{SecFault}
-use Rattle.fv_volume.specs.declared.sections.section.Section.{Section}
-use Rattle.fv_volume.specs.declared.sections.section_type.TheConstants.{USER_INTERFACE}
-use Rattle.fv_volume.specs.Stream.{AreSections, IsFirstFault}
+use Rattle.std.specs.Prelude.{◌≡◌, ◌⊎◌, ℕ, ◌==◌, List, [], find, take, drop, Option, Some, None, option_map, slice_get, option_and_then}
+use Rattle.fv_volume.specs.{declared.sections.fault.SecFault.SecFault, declared.sections.section.Section.Section}
+use Rattle.fv_volume.specs.{declared.sections.section_type.TheConstants.USER_INTERFACE, Stream.AreSections, Stream.IsFirstFault}
 use Rattle.pi_base.specs.Field.{words_of}
-use Rattle.mod_catalog.specs.declared.catalogue.Module.{Module}
-use Rattle.mod_catalog.specs.declared.catalogue.VolumeEntry.{VolumeEntry}
+use Rattle.mod_catalog.specs.{declared.catalogue.Module.Module, declared.catalogue.VolumeEntry.VolumeEntry}
 use Rattle.boot_model.specs.PlanBoard.{roms_of}
-use Rattle.explain_text.specs.File.{file_body}
-use Rattle.explain_text.specs.Mapped.{mapped_from}
-use Rattle.explain_text.specs.Name.{before_null}
+use Rattle.explain_text.specs.{File.file_body, Mapped.mapped_from, Name.before_null}
 
 -- the body of the first section of a type
 abbrev pub first_body : ℕ → List ℕ → List Section → Option (List ℕ)

@@ -1,8 +1,6 @@
 // Which modules may install a GUID in a phase.
 ghost use Rattle.std.specs.Prelude.{◌≡◌, ◌≤◌, ◌+◌, ◌∷◌, List, length, IfOk, OnOk};
-ghost use Rattle.mod_catalog.specs.declared.limits.TheConstants.{MOST_MODULES};
-ghost use Rattle.mod_catalog.specs.declared.catalogue.Module.{Module as OfModule};
-ghost use Rattle.mod_catalog.specs.Parts.{part_of};
+ghost use Rattle.mod_catalog.specs.{declared.limits.TheConstants.MOST_MODULES, declared.catalogue.Module.Module as OfModule, Parts.part_of};
 ghost use Rattle.explain_text.specs.Givers.{AddsName, AddsNames, AreGivers, is_first, link_at};
 
 use crate::catalog::given_in;

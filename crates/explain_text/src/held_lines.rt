@@ -3,9 +3,7 @@ ghost use Rattle.std.specs.Prelude.{◌≡◌, ◌++◌, ℕ, List, flat_map, ma
 ghost use Rattle.boot_io.specs.Line.{spaced};
 ghost use Rattle.pi_base.specs.WordText.{guid_text};
 ghost use Rattle.mod_catalog.specs.declared.catalogue.Module.{Module as OfModule};
-ghost use Rattle.explain_text.specs.declared.reasons.Begun.{Begun as Start};
-ghost use Rattle.explain_text.specs.Context.{AreContexts, IsContext};
-ghost use Rattle.explain_text.specs.Flags.{flag};
+ghost use Rattle.explain_text.specs.{declared.reasons.Begun.Begun as Start, Context.AreContexts, Context.IsContext, Flags.flag};
 ghost use Rattle.explain_text.specs.Givers.{Chain};
 ghost use Rattle.explain_text.specs.HeldLines.{core_gives, has_line, held_lines, lacks_line, lacks_words, need_line, or_dash, pair_words, told_words, waits_line, would_lines};
 

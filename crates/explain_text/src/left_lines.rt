@@ -1,7 +1,6 @@
 // The lines of the parts that neither started nor wait.
 ghost use Rattle.std.specs.Prelude.{◌≡◌, ◌≤◌, ◌++◌, length, OnOk};
-ghost use Rattle.mod_catalog.specs.declared.limits.TheConstants.{MOST_MODULES};
-ghost use Rattle.mod_catalog.specs.Parts.{has_number};
+ghost use Rattle.mod_catalog.specs.{declared.limits.TheConstants.MOST_MODULES, Parts.has_number};
 ghost use Rattle.explain_text.specs.Flags.{flag};
 ghost use Rattle.explain_text.specs.LeftLines.{left_line, left_lines, left_word};
 

@@ -2,10 +2,7 @@
 ghost use Rattle.std.specs.Prelude.{◌≡◌, ◌≤◌, ◌++◌, flat_map, length, IfOk, OnOk};
 ghost use Rattle.pi_base.specs.declared.phase.Phase.TheVariants.{Pei};
 ghost use Rattle.mod_catalog.specs.declared.limits.TheConstants.{MOST_MODULES};
-ghost use Rattle.explain_text.specs.Context.{IsContext};
-ghost use Rattle.explain_text.specs.HeldLines.{held_lines};
-ghost use Rattle.explain_text.specs.LeftLines.{left_lines};
-ghost use Rattle.explain_text.specs.Text.{explained_text, is_told};
+ghost use Rattle.explain_text.specs.{Context.IsContext, HeldLines.held_lines, LeftLines.left_lines, Text.explained_text, Text.is_told};
 ghost use Rattle.explain_text.specs.Told.{AreTold, known_in};
 
 use crate::context::{Context, context_of};

@@ -1,8 +1,7 @@
 -- The Attributes bytes of files that may be large and have no file checksum.
 use Rattle.std.proofs.Common.{◌≡◌, Bool, true, false, refl}
-use Rattle.fv_volume.specs.declared.build.attributes.Alignment.{Alignment}
+use Rattle.fv_volume.specs.{declared.build.attributes.Alignment.Alignment, declared.build.attributes.FileAttributes.FileAttributes}
 use Rattle.fv_volume.specs.declared.build.attributes.Alignment.TheVariants.{Byte, Bytes16, Bytes128, Bytes512, Kib1, Kib4, Kib32, Kib64, Kib128, Kib256, Kib512, Mib1, Mib2, Mib4, Mib8, Mib16}
-use Rattle.fv_volume.specs.declared.build.attributes.FileAttributes.{FileAttributes}
 use Rattle.fv_volume.specs.Attributes.{attributes_byte, attributes_in}
 use Rattle.fv_volume.proofs.Spelled.{AreAttributes}
 

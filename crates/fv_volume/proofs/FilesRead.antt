@@ -1,29 +1,19 @@
 -- The files of a built volume are read again.
-use Rattle.std.proofs.Common.{◌≡◌, ℕ, suc, ◌+◌, ◌-◌, ◌%◌, ◌<◌, ◌≤◌, ◌^◌, Bool, true, false, cond, List, [], ◌∷◌, ◌++◌, length, take, drop, map, sum, replicate, refl, sym, ap, ◌∙◌, arith, append_assoc, length-append, All, subst}
-use Rattle.std.proofs.lemmas.Bool.Decides.{nat_tests}
-use Rattle.std.proofs.lemmas.List.{length-replicate}
-use Rattle.std.proofs.lemmas.List.Elements.{All-tail}
+use Rattle.std.proofs.Common.{◌≡◌, ℕ, suc, ◌+◌, ◌-◌, ◌%◌, ◌<◌, ◌≤◌, ◌^◌, Bool, true, false, cond, List, [], ◌∷◌, ◌++◌, length, take, drop, map, sum, replicate, refl, sym, ap, ◌∙◌, arith, append_assoc, length-append, All, subst, ◌==◌, not, slice_index}
+use Rattle.std.proofs.{lemmas.Bool.Decides.nat_tests, lemmas.List.length-replicate, lemmas.List.Elements.All-tail}
 use Rattle.std.proofs.lemmas.List.Sums.{sum_by-append}
-use Rattle.std.specs.Prelude.{◌==◌, not, slice_index}
 use Rattle.pi_base.specs.Field.{little_bytes}
-use Rattle.fv_volume.specs.declared.file.FfsFile.{FfsFile}
-use Rattle.fv_volume.specs.Frame.{aligned}
-use Rattle.fv_volume.specs.Attributes.{attributes_byte, attributes_in}
-use Rattle.fv_volume.proofs.AttributeBytes.{are_attributes, attributes_back}
+use Rattle.fv_volume.specs.{declared.file.FfsFile.FfsFile, Frame.aligned, Attributes.attributes_byte, Attributes.attributes_in}
+use Rattle.fv_volume.proofs.{AttributeBytes.are_attributes, AttributeBytes.attributes_back, Flags.or_first, Flags.none_pass, Sizes.not_past}
 use Rattle.fv_volume.proofs.Spelled.{Lists, lists_none, lists_file, IsSpelled, listed_file, stands_attributes}
-use Rattle.fv_volume.specs.declared.build.file_header.FileHead.{FileHead}
-use Rattle.fv_volume.specs.declared.build.new_file.NewFile.{NewFile}
+use Rattle.fv_volume.specs.{declared.build.file_header.FileHead.FileHead, declared.build.new_file.NewFile.NewFile}
 use Rattle.fv_volume.specs.FileSystems.{FileSystem, Ffs2, Ffs3}
-use Rattle.fv_volume.specs.Placing.{gap, laid}
-use Rattle.fv_volume.specs.Checksum.{checksum8}
-use Rattle.fv_volume.specs.declared.build.new_file.Body.{Body}
+use Rattle.fv_volume.specs.{Placing.gap, Placing.laid, Checksum.checksum8, declared.build.new_file.Body.Body}
 use Rattle.fv_volume.specs.declared.build.new_file.Body.TheVariants.{Sections, Bytes}
 use Rattle.fv_volume.specs.Sections.{is_section_too_long}
 use Rattle.fv_volume.specs.Files.{bytes_in, has_long_section, is_large, short_fields, extended_size, header_with, file_header, file_bytes, is_past_size, is_file_too_long, HasWholeName}
 use Rattle.fv_volume.specs.Reading.{AreEach, IsBodyRead, IsFileRead, AreSectionsRead, listed, listed_at}
-use Rattle.fv_volume.proofs.Flags.{or_first, none_pass}
 use Rattle.fv_volume.proofs.Parts.{drop_behind, room_at, drop_text, take_text}
-use Rattle.fv_volume.proofs.Sizes.{not_past}
 use Rattle.fv_volume.proofs.SectionsRead.{sections_read}
 
 -- whether a file system has large files

@@ -1,12 +1,9 @@
 -- The frame of a volume, step by step.
 use Rattle.std.proofs.Common.{◌≡◌, ℕ, ◌+◌, ◌≤◌, List, length, Option, Some, None, Result, ap, ◌∙◌, arith, IfSome}
 use Rattle.std.proofs.lemmas.Bool.{cond_above}
-use Rattle.fv_volume.specs.declared.volume_header.VolumeHeader.{VolumeHeader}
-use Rattle.fv_volume.specs.declared.extended_header.ExtendedHeader.{ExtendedHeader}
-use Rattle.fv_volume.specs.declared.frame.Frame.{Frame}
-use Rattle.fv_volume.specs.declared.fault.VolFault.{VolFault}
-use Rattle.fv_volume.specs.VolumeHeader.{volume_header, header_fault}
-use Rattle.fv_volume.specs.ExtendedHeader.{extended_header}
+use Rattle.fv_volume.specs.{declared.volume_header.VolumeHeader.VolumeHeader, declared.extended_header.ExtendedHeader.ExtendedHeader}
+use Rattle.fv_volume.specs.{declared.frame.Frame.Frame, declared.fault.VolFault.VolFault}
+use Rattle.fv_volume.specs.{VolumeHeader.volume_header, VolumeHeader.header_fault, ExtendedHeader.extended_header}
 use Rattle.fv_volume.specs.Frame.{frame_with, frame_or_fault, frame_of}
 
 -- the frame by the header, its fault and the extended header

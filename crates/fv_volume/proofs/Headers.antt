@@ -1,12 +1,10 @@
 -- The bytes of a volume's header.
 use Rattle.std.proofs.Common.{◌≡◌, ℕ, zero, suc, ◌+◌, ◌-◌, ◌*◌, ◌%◌, ◌<◌, List, [], ◌∷◌, ◌++◌, length, take, drop, replicate, sum, refl, sym, ap, ◌∙◌, arith, append_assoc}
-use Rattle.std.proofs.lemmas.List.Sums.{sum_by-append}
-use Rattle.std.proofs.Math.ListN.{set}
+use Rattle.std.proofs.{lemmas.List.Sums.sum_by-append, Math.ListN.set}
 use borrow.Rule.Slice.PartMut.{put_mid}
 use Rattle.pi_base.specs.Field.{little_bytes, words_of}
 use Rattle.fv_volume.specs.FileSystems.{FileSystem, Ffs2, Ffs3, file_system_guid}
-use Rattle.fv_volume.specs.Checksum.{checksum16}
-use Rattle.fv_volume.specs.declared.build.volume_header.VolumeHead.{VolumeHead}
+use Rattle.fv_volume.specs.{Checksum.checksum16, declared.build.volume_header.VolumeHead.VolumeHead}
 use Rattle.fv_volume.specs.Header.{attributes_of, header_front, header_with}
 
 -- bytes with a text written over a part

@@ -1,25 +1,18 @@
 -- The header and the extended header of a built volume are read as themselves, and the volume with them.
-use Rattle.std.proofs.Common.{◌≡◌, ℕ, ◌+◌, ◌-◌, ◌%◌, ◌<◌, ◌≤◌, ◌^◌, Bool, true, false, cond, List, [], ◌∷◌, ◌++◌, length, take, drop, sum, replicate, Option, Some, None, Ok, Err, refl, sym, ap, ◌∙◌, arith, append_assoc, subst}
-use Rattle.std.proofs.lemmas.Bool.Decides.{nat_tests}
-use Rattle.std.proofs.Math.Seq.{take-length}
-use Rattle.std.specs.Prelude.{⊤, bit_and, nat_lt, ◌==◌, not}
-use Rattle.pi_base.specs.declared.guid.Guid.{Guid}
+use Rattle.std.proofs.Common.{◌≡◌, ℕ, ◌+◌, ◌-◌, ◌%◌, ◌<◌, ◌≤◌, ◌^◌, Bool, true, false, cond, List, [], ◌∷◌, ◌++◌, length, take, drop, sum, replicate, Option, Some, None, Ok, Err, refl, sym, ap, ◌∙◌, arith, append_assoc, subst, bit_and, nat_lt, ◌==◌, not}
+use Rattle.std.proofs.{lemmas.Bool.Decides.nat_tests, Math.Seq.take-length}
+use Rattle.std.specs.Prelude.{⊤}
+use Rattle.pi_base.specs.{declared.guid.Guid.Guid, Guids.guid_at}
 use Rattle.pi_base.specs.Field.{little_number, little_bytes, words_of}
-use Rattle.pi_base.specs.Guids.{guid_at}
 use Rattle.pi_base.proofs.FieldLaws.{little_number-little_bytes}
 use Rattle.fv_volume.specs.declared.fault.VolCause.TheVariants.{Short, Length, HeaderLength, HeaderSum}
-use Rattle.fv_volume.specs.declared.file.FfsFile.{FfsFile}
+use Rattle.fv_volume.specs.{declared.file.FfsFile.FfsFile, Search.IsListing, Volume.IsVolume}
 use Rattle.fv_volume.specs.declared.volume_header.TheConstants as constant
 use Rattle.fv_volume.specs.VolumeHeader.{volume_header, file_system_at, fault_at, header_fault}
 use Rattle.fv_volume.specs.ExtendedHeader.{misplaced, extended_with, extended_header}
 use Rattle.fv_volume.specs.Frame.{aligned, frame_or_fault, frame_of}
-use Rattle.fv_volume.specs.Search.{IsListing}
-use Rattle.fv_volume.specs.Volume.{IsVolume}
-use Rattle.fv_volume.proofs.Spelled.{ones, Lists}
-use Rattle.fv_volume.proofs.SpelledHeaders.{guid_of as system_guid}
-use Rattle.fv_volume.specs.declared.build.volume_name.VolumeName.{VolumeName}
-use Rattle.fv_volume.specs.Front.{ext_at, extended_bytes}
-use Rattle.fv_volume.specs.Reading.{guid_of}
+use Rattle.fv_volume.proofs.{Spelled.ones, Spelled.Lists, SpelledHeaders.guid_of as system_guid}
+use Rattle.fv_volume.specs.{declared.build.volume_name.VolumeName.VolumeName, Front.ext_at, Front.extended_bytes, Reading.guid_of}
 use Rattle.fv_volume.proofs.Parts.{drop_behind, drop_text, take_text}
 
 -- the header's fields of a volume that is erased to ones, and what stands behind them

@@ -1,20 +1,14 @@
 -- Where a sound item lies.
-use Rattle.std.proofs.Common.{◌≡◌, ℕ, ◌+◌, ◌-◌, ◌<◌, ◌≤◌, Bool, true, false, cond, List, length, Option, Some, None, Result, Ok, Err, refl, arith, subst, take, drop, slice_index}
+use Rattle.std.proofs.Common.{◌≡◌, ℕ, ◌+◌, ◌-◌, ◌<◌, ◌≤◌, Bool, true, false, cond, List, length, Option, Some, None, Result, Ok, Err, refl, arith, subst, take, drop, slice_index, not, ◌==◌}
 use Rattle.std.proofs.lemmas.Bool.Decides.{nat_tests}
-use Rattle.std.specs.Prelude.{not, ◌==◌}
-use Rattle.fv_volume.specs.declared.item.Item.{Item}
-use Rattle.fv_volume.specs.declared.item.ItemKind.{ItemKind}
+use Rattle.fv_volume.specs.{declared.item.Item.Item, declared.item.ItemKind.ItemKind, declared.file_header.FileHeader.FileHeader}
 use Rattle.fv_volume.specs.declared.item.ItemKind.TheVariants.{Dead, Skipped, Pad, Listed}
-use Rattle.fv_volume.specs.declared.file_header.FileHeader.{FileHeader}
-use Rattle.fv_volume.specs.declared.file_state.FileState.{FileState}
-use Rattle.fv_volume.specs.declared.volume_header.Format.{Format}
-use Rattle.fv_volume.specs.declared.fault.VolCause.{VolCause}
+use Rattle.fv_volume.specs.{declared.file_state.FileState.FileState, declared.volume_header.Format.Format, declared.fault.VolCause.VolCause}
 use Rattle.fv_volume.specs.declared.fault.VolCause.TheVariants.{FileSum, FileSize, DataSum}
-use Rattle.fv_volume.specs.declared.file_type.TheConstants.{PAD}
+use Rattle.fv_volume.specs.{declared.file_type.TheConstants.PAD, Search.ends_at}
 use Rattle.fv_volume.specs.FileState.{file_state, is_dead, is_whole}
 use Rattle.fv_volume.specs.FileHeader.{file_header, header_sum, size_is_wrong, data_is_wrong}
 use Rattle.fv_volume.specs.Item.{file_of, body_of, sound_item, item_of, item_or_cause, item_at}
-use Rattle.fv_volume.specs.Search.{ends_at}
 
 -- the file of an item stands at its place and fills it
 abbrev pub FileLies : ℕ → ℕ → ItemKind → Type 0

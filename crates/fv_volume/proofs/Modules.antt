@@ -1,29 +1,19 @@
 -- The modules of the generated volume: their scripts are right, and nothing stands against the volume.
-use Rattle.std.proofs.Common.{◌≡◌, ℕ, zero, suc, ◌+◌, ◌-◌, ◌*◌, ◌<◌, ◌≤◌, ◌^◌, Bool, true, false, cond, List, [], ◌∷◌, ◌++◌, length, map, min, replicate, Option, Some, None, refl, sym, ap, ◌∙◌, arith, length-append, Result, Ok, Err, IfErr}
-use Rattle.std.proofs.lemmas.Bool.Decides.{nat_tests}
-use Rattle.std.proofs.lemmas.List.{length-replicate, length-map}
-use Rattle.std.specs.Prelude.{nat_lt, ◌==◌, ◌||◌, ◌&&◌}
+use Rattle.std.proofs.Common.{◌≡◌, ℕ, zero, suc, ◌+◌, ◌-◌, ◌*◌, ◌<◌, ◌≤◌, ◌^◌, Bool, true, false, cond, List, [], ◌∷◌, ◌++◌, length, map, min, replicate, Option, Some, None, refl, sym, ap, ◌∙◌, arith, length-append, Result, Ok, Err, IfErr, nat_lt, ◌==◌, ◌||◌, ◌&&◌}
+use Rattle.std.proofs.{lemmas.Bool.Decides.nat_tests, lemmas.List.length-replicate, lemmas.List.length-map}
 use Rattle.std.specs.List.{list_any}
-use Rattle.pi_base.specs.declared.guid.Guid.{Guid}
-use Rattle.pi_base.specs.declared.phase.Phase.TheVariants.{Pei}
-use Rattle.pi_base.specs.declared.word.Word.TheVariants.{Success}
-use Rattle.act_code.specs.declared.action.Action.{Action}
+use Rattle.pi_base.specs.{declared.guid.Guid.Guid, declared.phase.Phase.TheVariants.Pei, declared.word.Word.TheVariants.Success}
+use Rattle.act_code.specs.{declared.action.Action.Action, declared.action.GuidArg.TheVariants.Inline}
 use Rattle.act_code.specs.declared.action.Action.TheVariants.{Set, Desc, Install, Memory, Ret}
-use Rattle.act_code.specs.declared.action.GuidArg.TheVariants.{Inline}
-use Rattle.act_code.specs.Script.{IsInGrammar, IsBlock, IsSound, AreSound}
+use Rattle.act_code.specs.Script.{IsInGrammar, IsBlock, IsSound, AreSound, script_bytes}
 use Rattle.pi_base.specs.declared.known_guid.TheConstants.{DXE_IPL_PPI}
-use Rattle.fv_volume.specs.declared.build.new_file.NewSection.{NewSection}
-use Rattle.fv_volume.specs.FileSystems.{Ffs2}
-use Rattle.fv_volume.specs.declared.build.new_file.NewFile.{NewFile}
-use Rattle.fv_volume.specs.declared.build.fault.BuildFault.{BuildFault}
+use Rattle.fv_volume.specs.{declared.build.new_file.NewSection.NewSection, FileSystems.Ffs2, declared.build.new_file.NewFile.NewFile}
+use Rattle.fv_volume.specs.{declared.build.fault.BuildFault.BuildFault, Placing.gap, Placing.laid}
 use Rattle.fv_volume.specs.declared.build.fault.BuildFault.TheVariants.{TooMany, Size, NoRoom, Memory as Wanting}
-use Rattle.fv_volume.specs.Placing.{gap, laid}
-use Rattle.fv_volume.specs.Sections.{body_bytes, is_section_too_long}
+use Rattle.fv_volume.specs.{Sections.body_bytes, Sections.is_section_too_long, Header.plain}
 use Rattle.fv_volume.specs.Files.{file_bytes, is_past_size, is_file_too_long}
 use Rattle.fv_volume.specs.Building.{need, volume_fault, IsRefusal}
-use Rattle.fv_volume.specs.Header.{plain}
 use Rattle.fv_volume.proofs.Sizes.{length-file_with}
-use Rattle.act_code.specs.Script.{script_bytes}
 use Rattle.fv_volume.specs.Generated.{numbered, installs, memory_said, hand_off, actions_of, script_of, expression_of, module_of, downward, generated_files}
 
 -- each action is sound, whatever follows in its block

@@ -1,18 +1,10 @@
 -- Behind sound headers there is a listing or a fault of the search, and not both.
-use Rattle.std.proofs.Common.{◌≡◌, ℕ, zero, suc, ◌+◌, ◌-◌, ◌≤◌, ◌⊎◌, Bool, true, false, List, [], ◌∷◌, ◌++◌, length, Result, Ok, Err, refl, sym, ap, ◌∙◌, arith, subst, inl, inr, length-append}
-use Rattle.std.proofs.lemmas.Bool.Decides.{nat_tests}
-use Rattle.std.proofs.lemmas.List.Concat.{flat_map-cons}
-use Rattle.std.specs.Prelude.{nat_le}
-use Rattle.fv_volume.specs.declared.item.Item.{Item}
-use Rattle.fv_volume.specs.declared.item.ItemKind.{ItemKind}
+use Rattle.std.proofs.Common.{◌≡◌, ℕ, zero, suc, ◌+◌, ◌-◌, ◌≤◌, ◌⊎◌, Bool, true, false, List, [], ◌∷◌, ◌++◌, length, Result, Ok, Err, refl, sym, ap, ◌∙◌, arith, subst, inl, inr, length-append, nat_le}
+use Rattle.std.proofs.{lemmas.Bool.Decides.nat_tests, lemmas.List.Concat.flat_map-cons}
+use Rattle.fv_volume.specs.{declared.item.Item.Item, declared.item.ItemKind.ItemKind, declared.file.FfsFile.FfsFile}
 use Rattle.fv_volume.specs.declared.item.ItemKind.TheVariants.{Dead, Skipped, Pad, Listed}
-use Rattle.fv_volume.specs.declared.file.FfsFile.{FfsFile}
-use Rattle.fv_volume.specs.declared.frame.Frame.{Frame}
-use Rattle.fv_volume.specs.declared.volume_header.Format.{Format}
-use Rattle.fv_volume.specs.declared.fault.VolCause.{VolCause}
-use Rattle.fv_volume.specs.declared.fault.VolFault.{VolFault}
-use Rattle.fv_volume.specs.Frame.{aligned}
-use Rattle.fv_volume.specs.Item.{item_at, listed_of}
+use Rattle.fv_volume.specs.{declared.frame.Frame.Frame, declared.volume_header.Format.Format, declared.fault.VolCause.VolCause}
+use Rattle.fv_volume.specs.{declared.fault.VolFault.VolFault, Frame.aligned, Item.item_at, Item.listed_of}
 use Rattle.fv_volume.specs.Search.{ends_at, Leads, files_of, counted, counted_or_cause, met_at, IsListing, IsSearchFault}
 use Rattle.fv_volume.proofs.Items.{has_room}
 use Rattle.fv_volume.proofs.Searches.{leads_more, files_more, step}

@@ -1,12 +1,8 @@
 -- All bytes are sections or have a first fault, and not both.
-use Rattle.std.proofs.Common.{◌≡◌, ℕ, zero, suc, false, ◌+◌, ◌-◌, ◌<◌, ◌≤◌, List, [], ◌∷◌, ◌++◌, length, Result, Ok, Err, refl, sym, ap, ◌∙◌, arith, subst, inl, inr, ◌⊎◌, length-append}
-use Rattle.std.proofs.lemmas.Bool.{cases_lt}
-use Rattle.std.proofs.lemmas.Bool.Decides.{nat_tests}
-use Rattle.std.specs.Prelude.{nat_le}
-use Rattle.fv_volume.specs.declared.sections.section.Section.{Section}
-use Rattle.fv_volume.specs.declared.sections.fault.SecCause.{SecCause}
-use Rattle.fv_volume.specs.declared.sections.fault.SecFault.{SecFault}
-use Rattle.fv_volume.specs.SectionHeader.{section_at}
+use Rattle.std.proofs.Common.{◌≡◌, ℕ, zero, suc, false, ◌+◌, ◌-◌, ◌<◌, ◌≤◌, List, [], ◌∷◌, ◌++◌, length, Result, Ok, Err, refl, sym, ap, ◌∙◌, arith, subst, inl, inr, ◌⊎◌, length-append, nat_le}
+use Rattle.std.proofs.{lemmas.Bool.cases_lt, lemmas.Bool.Decides.nat_tests}
+use Rattle.fv_volume.specs.{declared.sections.section.Section.Section, declared.sections.fault.SecCause.SecCause}
+use Rattle.fv_volume.specs.{declared.sections.fault.SecFault.SecFault, SectionHeader.section_at}
 use Rattle.fv_volume.specs.Stream.{GoesOn, Leads, place_after, met_at, AreSections, IsFirstFault}
 use Rattle.fv_volume.proofs.Streams.{leads_more, met_ok, section_lies}
 

@@ -1,16 +1,9 @@
 -- A search that goes on by one item.
-use Rattle.std.proofs.Common.{◌≡◌, ℕ, ◌+◌, ◌<◌, ◌≤◌, Bool, true, false, cond, List, [], ◌∷◌, ◌++◌, length, Result, Ok, Err, refl, ap, ◌∙◌, arith, subst}
-use Rattle.std.proofs.lemmas.Bool.Decides.{nat_tests}
-use Rattle.std.proofs.lemmas.Grind.{flat_map-append}
-use Rattle.std.proofs.lemmas.List.{append-nil}
-use Rattle.std.specs.Prelude.{nat_le}
-use Rattle.fv_volume.specs.declared.item.Item.{Item}
-use Rattle.fv_volume.specs.declared.item.ItemKind.{ItemKind}
+use Rattle.std.proofs.Common.{◌≡◌, ℕ, ◌+◌, ◌<◌, ◌≤◌, Bool, true, false, cond, List, [], ◌∷◌, ◌++◌, length, Result, Ok, Err, refl, ap, ◌∙◌, arith, subst, append-nil, nat_le}
+use Rattle.std.proofs.{lemmas.Bool.Decides.nat_tests, lemmas.Grind.flat_map-append}
+use Rattle.fv_volume.specs.{declared.item.Item.Item, declared.item.ItemKind.ItemKind, declared.volume_header.Format.Format}
 use Rattle.fv_volume.specs.declared.item.ItemKind.TheVariants.{Dead, Skipped, Pad, Listed}
-use Rattle.fv_volume.specs.declared.volume_header.Format.{Format}
-use Rattle.fv_volume.specs.declared.fault.VolCause.{VolCause}
-use Rattle.fv_volume.specs.declared.fault.VolCause.TheVariants.{TooManyFiles}
-use Rattle.fv_volume.specs.Frame.{aligned}
+use Rattle.fv_volume.specs.{declared.fault.VolCause.VolCause, declared.fault.VolCause.TheVariants.TooManyFiles, Frame.aligned}
 use Rattle.fv_volume.specs.Item.{item_at, listed_of}
 use Rattle.fv_volume.specs.Search.{ends_at, Leads, files_of, counted, counted_or_cause, met_at}
 use Rattle.fv_volume.proofs.Items.{Lies, item_lies}

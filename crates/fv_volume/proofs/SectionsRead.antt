@@ -1,17 +1,11 @@
 -- The sections of a built file are read again.
-use Rattle.std.proofs.Common.{◌≡◌, ◌≢◌, ℕ, suc, ◌+◌, ◌-◌, ◌<◌, ◌≤◌, Bool, true, false, List, [], ◌∷◌, ◌++◌, length, take, drop, map, replicate, Ok, refl, sym, ap, ◌∙◌, arith, append_assoc, length-append, All, subst}
-use Rattle.std.proofs.lemmas.Bool.Decides.{nat_tests}
-use Rattle.std.proofs.lemmas.List.{length-replicate}
-use Rattle.std.proofs.lemmas.List.Elements.{All-tail}
-use Rattle.std.specs.Prelude.{if◌then◌else◌}
+use Rattle.std.proofs.Common.{◌≡◌, ◌≢◌, ℕ, suc, ◌+◌, ◌-◌, ◌<◌, ◌≤◌, Bool, true, false, List, [], ◌∷◌, ◌++◌, length, take, drop, map, replicate, Ok, refl, sym, ap, ◌∙◌, arith, append_assoc, length-append, All, subst, if◌then◌else◌}
+use Rattle.std.proofs.{lemmas.Bool.Decides.nat_tests, lemmas.List.length-replicate, lemmas.List.Elements.All-tail}
 use Rattle.pi_base.specs.Field.{little_bytes}
-use Rattle.fv_volume.specs.declared.sections.section.Section.{Section}
-use Rattle.fv_volume.specs.SectionHeader.{section_at}
-use Rattle.fv_volume.specs.Stream.{aligned, Leads}
+use Rattle.fv_volume.specs.{declared.sections.section.Section.Section, SectionHeader.section_at, Stream.aligned, Stream.Leads}
 use Rattle.fv_volume.proofs.SpelledSections.{short_section, long_section}
-use Rattle.fv_volume.specs.declared.build.new_file.NewSection.{NewSection}
+use Rattle.fv_volume.specs.{declared.build.new_file.NewSection.NewSection, Placing.gap, Placing.laid}
 use Rattle.fv_volume.specs.FileSystems.{FileSystem, Ffs2, Ffs3}
-use Rattle.fv_volume.specs.Placing.{gap, laid}
 use Rattle.fv_volume.specs.Sections.{is_extended, section_header, section_bytes, body_bytes, is_section_too_long}
 use Rattle.fv_volume.specs.Reading.{AreEach, IsSectionRead, AreReadable, AreSectionsRead}
 use Rattle.fv_volume.proofs.Parts.{drop_behind, room_at, drop_text, take_text}

@@ -1,7 +1,6 @@
 -- Where the sections of a stream stand.
 use Rattle.std.proofs.Common.{ℕ, ◌+◌, ◌≤◌, List, [], ◌∷◌, length, arith, All}
-use Rattle.std.proofs.lemmas.List.Elements.{All-cons}
-use Rattle.std.proofs.lemmas.List.Kept.{AllPairs-cons}
+use Rattle.std.proofs.{lemmas.List.Elements.All-cons, lemmas.List.Kept.AllPairs-cons}
 use Rattle.fv_volume.specs.declared.sections.section.Section.{Section}
 use Rattle.fv_volume.specs.Stream.{Leads, place_after, AreInOrder}
 use Rattle.fv_volume.proofs.Streams.{section_lies}

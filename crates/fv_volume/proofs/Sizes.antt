@@ -1,19 +1,13 @@
 -- Sizes as numbers and as lengths of bytes.
-use Rattle.std.proofs.Common.{◌≡◌, ℕ, ◌+◌, ◌<◌, ◌≤◌, zero, suc, replicate, Bool, true, false, List, [], ◌∷◌, ◌++◌, length, map, min, refl, sym, ap, ◌∙◌, arith, length-append, inl, inr, get_or, take}
-use Rattle.std.proofs.lemmas.Bool.{cases_lt}
-use Rattle.std.proofs.lemmas.Bool.Decides.{nat_tests}
-use Rattle.std.proofs.lemmas.List.{map-append, take_more}
-use Rattle.std.specs.Prelude.{nat_lt, if◌then◌else◌}
+use Rattle.std.proofs.Common.{◌≡◌, ℕ, ◌+◌, ◌<◌, ◌≤◌, zero, suc, replicate, Bool, true, false, List, [], ◌∷◌, ◌++◌, length, map, min, refl, sym, ap, ◌∙◌, arith, length-append, inl, inr, get_or, take, nat_lt, if◌then◌else◌}
+use Rattle.std.proofs.{lemmas.Bool.cases_lt, lemmas.Bool.Decides.nat_tests, lemmas.List.map-append, lemmas.List.take_more}
 use Rattle.pi_base.specs.Field.{little_bytes}
-use Rattle.fv_volume.specs.declared.build.new_file.NewFile.{NewFile}
-use Rattle.fv_volume.specs.declared.build.new_file.NewSection.{NewSection}
+use Rattle.fv_volume.specs.{declared.build.new_file.NewFile.NewFile, declared.build.new_file.NewSection.NewSection}
 use Rattle.fv_volume.specs.FileSystems.{FileSystem, Ffs2, Ffs3}
-use Rattle.fv_volume.specs.Placing.{gap, laid}
+use Rattle.fv_volume.specs.{Placing.gap, Placing.laid, Building.need}
 use Rattle.fv_volume.specs.Sections.{is_extended, section_size, section_bytes, body_bytes}
 use Rattle.fv_volume.specs.Files.{bytes_in, has_long_section, is_large, file_size, file_header, head_of, file_with, file_bytes, is_past_size, is_file_too_long}
-use Rattle.fv_volume.specs.Building.{need}
-use Rattle.fv_volume.proofs.Flags.{or_second}
-use Rattle.fv_volume.proofs.Placings.{length-laid_more}
+use Rattle.fv_volume.proofs.{Flags.or_second, Placings.length-laid_more}
 
 -- a sum that stands still at its last value
 pub saturated : (most true_end end : ℕ) (skip : ℕ → ℕ) (place size true_size next : ℕ)

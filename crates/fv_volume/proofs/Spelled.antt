@@ -1,27 +1,18 @@
 -- Files that are spelled out are read as themselves. Callers who write volumes cite this.
-use Rattle.std.proofs.Common.{◌≡◌, ℕ, zero, suc, ◌+◌, ◌-◌, ◌%◌, ◌<◌, ◌≤◌, ◌^◌, Bool, true, false, cond, List, [], ◌∷◌, ◌++◌, length, take, drop, sum, replicate, Some, None, Result, Ok, Err, refl, sym, ap, ◌∙◌, arith, subst, get_or-drop, length-drop, length-append}
-use Rattle.std.proofs.lemmas.Bool.Decides.{nat_tests}
-use Rattle.std.proofs.lemmas.List.{drop-drop, append-nil, get_or-append-add, length-replicate, drop-replicate, take-replicate}
-use Rattle.std.proofs.lemmas.List.Concat.{flat_map-cons}
-use Rattle.std.proofs.lemmas.List.Folds.{list_all-append}
-use Rattle.std.proofs.lemmas.List.Sums.{sum_by-append, sum_by-cons}
-use Rattle.std.proofs.Math.Seq.{drop-append-add, take-append-add}
-use Rattle.std.specs.Prelude.{bit_and, nat_lt, ◌==◌, ◌&&◌, ◌||◌, not, slice_index}
+use Rattle.std.proofs.Common.{◌≡◌, ℕ, zero, suc, ◌+◌, ◌-◌, ◌%◌, ◌<◌, ◌≤◌, ◌^◌, Bool, true, false, cond, List, [], ◌∷◌, ◌++◌, length, take, drop, sum, replicate, Some, None, Result, Ok, Err, refl, sym, ap, ◌∙◌, arith, subst, get_or-drop, length-drop, length-append, drop-drop, append-nil, get_or-append-add, bit_and, nat_lt, ◌==◌, ◌&&◌, ◌||◌, not, slice_index}
+use Rattle.std.proofs.{lemmas.Bool.Decides.nat_tests, lemmas.List.Concat.flat_map-cons, lemmas.List.Folds.list_all-append}
+use Rattle.std.proofs.lemmas.List.{length-replicate, drop-replicate, take-replicate}
+use Rattle.std.proofs.{lemmas.List.Sums.sum_by-append, lemmas.List.Sums.sum_by-cons, Math.Seq.drop-append-add, Math.Seq.take-append-add}
 use Rattle.std.specs.List.{list_all}
 use Rattle.pi_base.specs.Field.{little_number, little_bytes}
 use Rattle.pi_base.proofs.FieldLaws.{little_number-little_bytes}
-use Rattle.fv_volume.specs.declared.file.FfsFile.{FfsFile}
-use Rattle.fv_volume.specs.declared.item.Item.{Item}
+use Rattle.fv_volume.specs.{declared.file.FfsFile.FfsFile, declared.item.Item.Item, declared.file_header.FileHeader.FileHeader}
 use Rattle.fv_volume.specs.declared.item.ItemKind.TheVariants.{Dead, Pad, Listed}
-use Rattle.fv_volume.specs.declared.file_header.FileHeader.{FileHeader}
-use Rattle.fv_volume.specs.declared.file_state.FileState.TheVariants.{DataValid}
-use Rattle.fv_volume.specs.declared.volume_header.Format.{Format}
-use Rattle.fv_volume.specs.declared.fault.VolCause.{VolCause}
+use Rattle.fv_volume.specs.{declared.file_state.FileState.TheVariants.DataValid, declared.volume_header.Format.Format}
+use Rattle.fv_volume.specs.{declared.fault.VolCause.VolCause, FileState.file_state, FileState.is_dead, Frame.aligned}
 use Rattle.fv_volume.specs.declared.fault.VolCause.TheVariants.{FileSum, FileSize, DataSum}
-use Rattle.fv_volume.specs.FileState.{file_state, is_dead}
 use Rattle.fv_volume.specs.FileHeader.{fields_at, is_large, file_header, header_sum, size_is_wrong, data_is_wrong}
 use Rattle.fv_volume.specs.Item.{listed_of, item_or_cause, sound_item, item_at}
-use Rattle.fv_volume.specs.Frame.{aligned}
 use Rattle.fv_volume.specs.Search.{ends_at, Leads, files_of}
 
 -- a volume that is erased to ones

@@ -1,23 +1,16 @@
 -- A volume's header that is spelled out is read as itself, and the volume with it. Callers who write volumes cite this.
-use Rattle.std.proofs.Common.{◌≡◌, ℕ, ◌+◌, ◌%◌, ◌<◌, ◌≤◌, ◌^◌, Bool, true, false, cond, List, ◌∷◌, ◌++◌, length, take, sum, replicate, None, Result, Ok, Err, refl, sym, ap, ◌∙◌, arith, subst}
-use Rattle.std.proofs.lemmas.Bool.Decides.{nat_tests}
-use Rattle.std.proofs.Math.Seq.{take-length}
-use Rattle.std.specs.Prelude.{bit_and, nat_lt, ◌==◌, not}
+use Rattle.std.proofs.Common.{◌≡◌, ℕ, ◌+◌, ◌%◌, ◌<◌, ◌≤◌, ◌^◌, Bool, true, false, cond, List, ◌∷◌, ◌++◌, length, take, sum, replicate, None, Result, Ok, Err, refl, sym, ap, ◌∙◌, arith, subst, bit_and, nat_lt, ◌==◌, not}
+use Rattle.std.proofs.{lemmas.Bool.Decides.nat_tests, Math.Seq.take-length}
 use Rattle.pi_base.specs.Field.{little_number, little_bytes, words_of}
 use Rattle.pi_base.proofs.FieldLaws.{little_number-little_bytes}
-use Rattle.fv_volume.specs.declared.file.FfsFile.{FfsFile}
-use Rattle.fv_volume.specs.declared.frame.Frame.{Frame}
-use Rattle.fv_volume.specs.declared.volume_header.VolumeHeader.{VolumeHeader}
+use Rattle.fv_volume.specs.{declared.file.FfsFile.FfsFile, declared.frame.Frame.Frame, declared.volume_header.VolumeHeader.VolumeHeader}
 use Rattle.fv_volume.specs.declared.volume_header.FileSystem.{FileSystem}
 use Rattle.fv_volume.specs.declared.volume_header.FileSystem.TheVariants.{Ffs2, Ffs3}
 use Rattle.fv_volume.specs.declared.volume_header.TheConstants as constant
-use Rattle.fv_volume.specs.declared.fault.VolFault.{VolFault}
+use Rattle.fv_volume.specs.{declared.fault.VolFault.VolFault, ExtendedHeader.extended_header, Frame.frame_or_fault, Frame.frame_of}
 use Rattle.fv_volume.specs.declared.fault.VolCause.TheVariants.{Short, Length, HeaderLength, HeaderSum}
 use Rattle.fv_volume.specs.VolumeHeader.{volume_header, fault_at, header_fault}
-use Rattle.fv_volume.specs.ExtendedHeader.{extended_header}
-use Rattle.fv_volume.specs.Frame.{frame_or_fault, frame_of}
-use Rattle.fv_volume.specs.Search.{IsListing}
-use Rattle.fv_volume.specs.Volume.{IsVolume}
+use Rattle.fv_volume.specs.{Search.IsListing, Volume.IsVolume}
 use Rattle.fv_volume.proofs.Spelled.{ones, Lists}
 
 -- the GUID of a file system, with large files or without

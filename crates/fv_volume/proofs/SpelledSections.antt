@@ -1,12 +1,9 @@
 -- A section whose header and body are spelled out is read as itself. Callers who write sections cite this.
-use Rattle.std.proofs.Common.{◌≡◌, ◌≢◌, ℕ, ◌+◌, ◌-◌, ◌<◌, ◌≤◌, ◌^◌, Bool, false, cond, List, [], ◌∷◌, ◌++◌, length, drop, Option, Some, None, Result, Ok, Err, sym, ap, ◌∙◌, arith, get_or-drop, length-drop, length-append}
+use Rattle.std.proofs.Common.{◌≡◌, ◌≢◌, ℕ, ◌+◌, ◌-◌, ◌<◌, ◌≤◌, ◌^◌, Bool, false, cond, List, [], ◌∷◌, ◌++◌, length, drop, Option, Some, None, Result, Ok, Err, sym, ap, ◌∙◌, arith, get_or-drop, length-drop, length-append, drop-drop, nat_lt, ◌==◌, slice_index}
 use Rattle.std.proofs.lemmas.Bool.Decides.{nat_tests}
-use Rattle.std.proofs.lemmas.List.{drop-drop}
-use Rattle.std.specs.Prelude.{nat_lt, ◌==◌, slice_index}
 use Rattle.pi_base.specs.Field.{little_number, little_bytes}
 use Rattle.pi_base.proofs.FieldLaws.{little_number-little_bytes}
-use Rattle.fv_volume.specs.declared.sections.section.Section.{Section}
-use Rattle.fv_volume.specs.declared.sections.section_header.SectionHeader.{SectionHeader}
+use Rattle.fv_volume.specs.{declared.sections.section.Section.Section, declared.sections.section_header.SectionHeader.SectionHeader}
 use Rattle.fv_volume.specs.declared.sections.fault.SecCause.{SecCause}
 use Rattle.fv_volume.specs.declared.sections.fault.SecCause.TheVariants.{Size, Compressed, GuidDefined}
 use Rattle.fv_volume.specs.SectionHeader.{extended_header_at, header_at, section_of, section_at}

@@ -1,25 +1,14 @@
 -- Where the files of a volume stand.
 use Rattle.std.proofs.Common.{◌≡◌, ℕ, ◌+◌, ◌<◌, ◌≤◌, Bool, true, false, cond, List, [], ◌∷◌, ◌++◌, length, Option, Some, None, Result, Ok, Err, refl, sym, ap, arith, subst, All, length-take}
-use Rattle.std.proofs.lemmas.Bool.Decides.{nat_tests}
-use Rattle.std.proofs.lemmas.List.Concat.{flat_map-cons}
-use Rattle.std.proofs.lemmas.List.Elements.{All-cons}
+use Rattle.std.proofs.{lemmas.Bool.Decides.nat_tests, lemmas.List.Concat.flat_map-cons, lemmas.List.Elements.All-cons}
 use Rattle.std.proofs.lemmas.List.Kept.{AllPairs-cons}
-use Rattle.fv_volume.specs.declared.item.Item.{Item}
-use Rattle.fv_volume.specs.declared.item.ItemKind.{ItemKind}
+use Rattle.fv_volume.specs.{declared.item.Item.Item, declared.item.ItemKind.ItemKind, declared.file.FfsFile.FfsFile}
 use Rattle.fv_volume.specs.declared.item.ItemKind.TheVariants.{Dead, Skipped, Pad, Listed}
-use Rattle.fv_volume.specs.declared.file.FfsFile.{FfsFile}
-use Rattle.fv_volume.specs.declared.frame.Frame.{Frame}
-use Rattle.fv_volume.specs.declared.volume.Volume.{Volume}
-use Rattle.fv_volume.specs.declared.volume_header.Format.{Format}
-use Rattle.fv_volume.specs.declared.volume_header.VolumeHeader.{VolumeHeader}
-use Rattle.fv_volume.specs.declared.extended_header.ExtendedHeader.{ExtendedHeader}
-use Rattle.fv_volume.specs.declared.fault.VolFault.{VolFault}
-use Rattle.fv_volume.specs.VolumeHeader.{volume_header, header_fault}
-use Rattle.fv_volume.specs.ExtendedHeader.{extended_header}
+use Rattle.fv_volume.specs.{declared.frame.Frame.Frame, declared.volume.Volume.Volume, declared.volume_header.Format.Format}
+use Rattle.fv_volume.specs.{declared.volume_header.VolumeHeader.VolumeHeader, declared.extended_header.ExtendedHeader.ExtendedHeader}
+use Rattle.fv_volume.specs.{declared.fault.VolFault.VolFault, VolumeHeader.volume_header, VolumeHeader.header_fault}
+use Rattle.fv_volume.specs.{ExtendedHeader.extended_header, Item.listed_of, Search.Leads, Search.files_of, Volume.image_of, Volume.IsVolume}
 use Rattle.fv_volume.specs.Frame.{aligned, frame_with, frame_or_fault, frame_of}
-use Rattle.fv_volume.specs.Item.{listed_of}
-use Rattle.fv_volume.specs.Search.{Leads, files_of}
-use Rattle.fv_volume.specs.Volume.{image_of, IsVolume}
 use Rattle.fv_volume.specs.Places.{AreInside, AreWithin, AreInOrder}
 use Rattle.fv_volume.proofs.Items.{FileLies, item_lies}
 

@@ -1,9 +1,7 @@
 -- A stream that goes on by one section, and where a sound section lies.
-use Rattle.std.proofs.Common.{◌≡◌, ℕ, ◌+◌, ◌<◌, ◌≤◌, Bool, true, false, cond, List, [], ◌∷◌, ◌++◌, length, Option, Some, None, Result, Ok, Err, refl, arith}
+use Rattle.std.proofs.Common.{◌≡◌, ℕ, ◌+◌, ◌<◌, ◌≤◌, Bool, true, false, cond, List, [], ◌∷◌, ◌++◌, length, Option, Some, None, Result, Ok, Err, refl, arith, nat_le}
 use Rattle.std.proofs.lemmas.Bool.Decides.{nat_tests}
-use Rattle.std.specs.Prelude.{nat_le}
-use Rattle.fv_volume.specs.declared.sections.section.Section.{Section}
-use Rattle.fv_volume.specs.declared.sections.section_header.SectionHeader.{SectionHeader}
+use Rattle.fv_volume.specs.{declared.sections.section.Section.Section, declared.sections.section_header.SectionHeader.SectionHeader}
 use Rattle.fv_volume.specs.declared.sections.fault.SecCause.{SecCause}
 use Rattle.fv_volume.specs.SectionHeader.{header_at, section_of, section_at}
 use Rattle.fv_volume.specs.Stream.{GoesOn, Leads, place_after, met_at}

@@ -1,13 +1,8 @@
 -- All bytes are a volume or have a first fault, and not both; and where the files of a volume stand.
 use Rattle.std.proofs.Common.{◌≡◌, ℕ, ◌⊎◌, true, false, List, [], length, Option, Result, Ok, Err, refl, sym, ap, ◌∙◌, arith, inl, inr}
 use Rattle.pi_base.specs.declared.guid.Guid.{Guid}
-use Rattle.fv_volume.specs.declared.file.FfsFile.{FfsFile}
-use Rattle.fv_volume.specs.declared.volume.Volume.{Volume}
-use Rattle.fv_volume.specs.declared.frame.Frame.{Frame}
-use Rattle.fv_volume.specs.declared.item.Item.{Item}
-use Rattle.fv_volume.specs.declared.fault.VolCause.{VolCause}
-use Rattle.fv_volume.specs.declared.fault.VolFault.{VolFault}
-use Rattle.fv_volume.specs.Frame.{frame_of}
+use Rattle.fv_volume.specs.{declared.file.FfsFile.FfsFile, declared.volume.Volume.Volume, declared.frame.Frame.Frame}
+use Rattle.fv_volume.specs.{declared.item.Item.Item, declared.fault.VolCause.VolCause, declared.fault.VolFault.VolFault, Frame.frame_of}
 use Rattle.fv_volume.specs.Search.{IsListing, IsSearchFault, ends_at, met_at, files_of}
 use Rattle.fv_volume.specs.Volume.{image_of, IsVolume, IsFirstFault}
 use Rattle.fv_volume.proofs.OneListing.{one_leads, end_stops, fault_stops, some_search}

@@ -1,30 +1,19 @@
 -- A built volume is read again.
-use Rattle.std.proofs.Common.{◌≡◌, ℕ, ◌+◌, ◌-◌, ◌*◌, ◌%◌, ◌/◌, ◌<◌, ◌≤◌, ◌^◌, Bool, true, false, cond, List, [], ◌∷◌, ◌++◌, length, take, drop, sum, replicate, Option, Some, None, refl, sym, ap, ◌∙◌, arith, append_assoc, length-append, All}
-use Rattle.std.proofs.lemmas.Bool.{and_parts}
-use Rattle.std.proofs.lemmas.Bool.Decides.{nat_tests}
-use Rattle.std.proofs.lemmas.List.{length-replicate}
-use Rattle.std.proofs.lemmas.List.Sums.{sum_by-append, sum_by-cons}
-use Rattle.std.proofs.lemmas.Nat.{and_or_self, or_lt}
-use Rattle.std.specs.Prelude.{bit_and, bit_or, nat_lt, nat_le, ◌==◌, ◌&&◌}
+use Rattle.std.proofs.Common.{◌≡◌, ℕ, ◌+◌, ◌-◌, ◌*◌, ◌%◌, ◌/◌, ◌<◌, ◌≤◌, ◌^◌, Bool, true, false, cond, List, [], ◌∷◌, ◌++◌, length, take, drop, sum, replicate, Option, Some, None, refl, sym, ap, ◌∙◌, arith, append_assoc, length-append, All, bit_and, bit_or, nat_lt, nat_le, ◌==◌, ◌&&◌}
+use Rattle.std.proofs.{lemmas.Bool.and_parts, lemmas.Bool.Decides.nat_tests, lemmas.List.length-replicate}
+use Rattle.std.proofs.{lemmas.List.Sums.sum_by-append, lemmas.List.Sums.sum_by-cons, lemmas.Nat.and_or_self, lemmas.Nat.or_lt}
 use Rattle.std.specs.List.{list_any}
 use Rattle.pi_base.specs.Field.{little_bytes, words_of}
-use Rattle.fv_volume.specs.declared.file.FfsFile.{FfsFile}
-use Rattle.fv_volume.specs.Frame.{aligned}
-use Rattle.fv_volume.proofs.Spelled.{Lists}
-use Rattle.fv_volume.specs.declared.build.fault.BuildFault.{BuildFault}
-use Rattle.fv_volume.specs.declared.build.new_file.NewFile.{NewFile}
-use Rattle.fv_volume.specs.declared.build.volume_name.VolumeName.{VolumeName}
+use Rattle.fv_volume.specs.{declared.file.FfsFile.FfsFile, Frame.aligned, declared.build.fault.BuildFault.BuildFault}
+use Rattle.fv_volume.proofs.{Spelled.Lists, Flags.none_pass, Headers.words_append}
+use Rattle.fv_volume.specs.{declared.build.new_file.NewFile.NewFile, declared.build.volume_name.VolumeName.VolumeName, Checksum.checksum16}
 use Rattle.fv_volume.specs.FileSystems.{FileSystem, Ffs2, Ffs3}
-use Rattle.fv_volume.specs.Checksum.{checksum16}
-use Rattle.fv_volume.specs.declared.build.volume_header.VolumeForm.{VolumeForm}
+use Rattle.fv_volume.specs.{declared.build.volume_header.VolumeForm.VolumeForm, Placing.gap}
 use Rattle.fv_volume.specs.Header.{head_of, header_with, volume_header, is_header_length}
 use Rattle.fv_volume.specs.Front.{ext_at, extended_bytes, name_part, front_len, is_placed}
 use Rattle.fv_volume.specs.Files.{file_bytes, is_file_too_long, HasWholeName}
-use Rattle.fv_volume.specs.Placing.{gap}
 use Rattle.fv_volume.specs.Building.{files_bytes, need, volume_bytes, fault_from, volume_fault}
 use Rattle.fv_volume.specs.Reading.{IsWhole, guid_of, IsReadAs, IsReadBack, listed_at}
-use Rattle.fv_volume.proofs.Flags.{none_pass}
-use Rattle.fv_volume.proofs.Headers.{words_append}
 use Rattle.fv_volume.proofs.Parts.{drop_behind, drop_text, take_text}
 use Rattle.fv_volume.proofs.FilesRead.{has_large, Found, files_found}
 use Rattle.fv_volume.proofs.HeadersRead.{begins, IsExtended, IsFront, start_of, volume_read}

@@ -1,12 +1,10 @@
 -- A volume that is written from front to back.
 use Rattle.std.proofs.Common.{◌≡◌, ℕ, ◌+◌, ◌-◌, ◌≤◌, true, List, [], ◌++◌, length, replicate, Option, None, ap, ◌∙◌, arith, append_assoc, length-append}
-use Rattle.fv_volume.specs.declared.build.new_file.NewFile.{NewFile}
-use Rattle.fv_volume.specs.declared.build.volume_header.VolumeForm.{VolumeForm}
-use Rattle.fv_volume.specs.declared.build.volume_name.VolumeName.{VolumeName}
+use Rattle.fv_volume.specs.{declared.build.new_file.NewFile.NewFile, declared.build.volume_header.VolumeForm.VolumeForm}
+use Rattle.fv_volume.specs.{declared.build.volume_name.VolumeName.VolumeName, Reading.IsWhole}
 use Rattle.fv_volume.specs.Header.{head_of, volume_header, is_header_length}
 use Rattle.fv_volume.specs.Front.{ext_at, name_part, front_len, is_placed}
 use Rattle.fv_volume.specs.Building.{files_bytes, need, volume_bytes, volume_fault}
-use Rattle.fv_volume.specs.Reading.{IsWhole}
 use Rattle.fv_volume.proofs.VolumesRead.{fits_header, length-header, length-front, sound}
 
 -- what stands in front of the files

@@ -1,9 +1,7 @@
 -- The attributes of files that a writer may choose. (PI 1.8, volume 3, `EFI_FFS_FILE_ATTRIBUTES`.)
-use Rattle.std.specs.Prelude.{ℕ, ◌+◌, Bool, false, not, ◌==◌, bit_and, if◌then◌else◌, Option, Some, None}
-use Rattle.std.specs.List.{find}
-use Rattle.fv_volume.specs.declared.file_header.TheConstants.{LARGE_FILE}
+use Rattle.std.specs.Prelude.{ℕ, ◌+◌, Bool, false, not, ◌==◌, bit_and, if◌then◌else◌, Option, Some, None, find}
+use Rattle.fv_volume.specs.{declared.file_header.TheConstants.LARGE_FILE, declared.build.attributes.Alignment.Alignment}
 use Rattle.fv_volume.specs.declared.build.attributes.TheConstants.{FIXED, DATA_ALIGNMENT, ALIGNMENTS}
-use Rattle.fv_volume.specs.declared.build.attributes.Alignment.{Alignment}
 use Rattle.fv_volume.specs.declared.build.attributes.Alignment.TheVariants.{Byte, Bytes16, Bytes128, Bytes512, Kib1, Kib4, Kib32, Kib64, Kib128, Kib256, Kib512, Mib1, Mib2, Mib4, Mib8, Mib16}
 use Rattle.fv_volume.specs.declared.build.attributes.FileAttributes.{FileAttributes}
 

@@ -1,16 +1,11 @@
 -- A built volume, and what stands against one. (PI 1.8, volume 3, firmware volumes.)
 use Rattle.std.specs.Prelude.{◌≡◌, ℕ, ◌+◌, ◌-◌, ◌^◌, List, ◌++◌, length, map, replicate, min, Option, Some, None, if◌then◌else◌, nat_lt}
 use Rattle.std.specs.List.{list_any}
-use Rattle.fv_volume.specs.declared.frame.TheConstants.{ALIGNMENT}
-use Rattle.fv_volume.specs.declared.search.TheConstants.{MOST_FILES}
-use Rattle.fv_volume.specs.declared.build.volume_header.TheConstants.{ERASED}
-use Rattle.fv_volume.specs.declared.build.fault.BuildFault.{BuildFault}
+use Rattle.fv_volume.specs.{declared.frame.TheConstants.ALIGNMENT, declared.search.TheConstants.MOST_FILES}
+use Rattle.fv_volume.specs.{declared.build.volume_header.TheConstants.ERASED, declared.build.fault.BuildFault.BuildFault}
 use Rattle.fv_volume.specs.declared.build.fault.BuildFault.TheVariants.{TooMany, Size, NoRoom, Memory}
-use Rattle.fv_volume.specs.declared.build.new_file.NewFile.{NewFile}
-use Rattle.fv_volume.specs.declared.build.volume_name.VolumeName.{VolumeName}
-use Rattle.fv_volume.specs.FileSystems.{FileSystem}
-use Rattle.fv_volume.specs.Placing.{laid}
-use Rattle.fv_volume.specs.Files.{file_bytes, is_file_too_long}
+use Rattle.fv_volume.specs.{declared.build.new_file.NewFile.NewFile, declared.build.volume_name.VolumeName.VolumeName}
+use Rattle.fv_volume.specs.{FileSystems.FileSystem, Placing.laid, Files.file_bytes, Files.is_file_too_long}
 use Rattle.fv_volume.specs.declared.build.volume_header.VolumeForm.{VolumeForm}
 use Rattle.fv_volume.specs.Header.{head_of, plain, volume_header}
 use Rattle.fv_volume.specs.Front.{ext_at, name_part, front_len}

@@ -1,14 +1,9 @@
 -- The extended header of a volume. (PI 1.8, volume 3, `EFI_FIRMWARE_VOLUME_EXT_HEADER`.)
 use Rattle.std.specs.Prelude.{ℕ, ◌+◌, List, drop, Option, Some, None, Result, Ok, Err, if◌then◌else◌, ◌==◌, nat_lt}
-use Rattle.pi_base.specs.Field.{little_number}
-use Rattle.fv_volume.specs.declared.volume_header.TheConstants.{EXT_HEADER_OFFSET_AT}
-use Rattle.fv_volume.specs.declared.extended_header.TheConstants.{EXT_HEADER_LEN}
-use Rattle.pi_base.specs.declared.guid.TheConstants.{GUID_LEN}
-use Rattle.fv_volume.specs.declared.volume_header.VolumeHeader.{VolumeHeader}
-use Rattle.fv_volume.specs.declared.extended_header.ExtendedHeader.{ExtendedHeader}
-use Rattle.fv_volume.specs.declared.fault.VolFault.{VolFault}
-use Rattle.fv_volume.specs.declared.fault.VolCause.TheVariants.{ExtHeader}
-use Rattle.pi_base.specs.Guids.{guid_at}
+use Rattle.pi_base.specs.{Field.little_number, declared.guid.TheConstants.GUID_LEN, Guids.guid_at}
+use Rattle.fv_volume.specs.{declared.volume_header.TheConstants.EXT_HEADER_OFFSET_AT, declared.extended_header.TheConstants.EXT_HEADER_LEN}
+use Rattle.fv_volume.specs.{declared.volume_header.VolumeHeader.VolumeHeader, declared.extended_header.ExtendedHeader.ExtendedHeader}
+use Rattle.fv_volume.specs.{declared.fault.VolFault.VolFault, declared.fault.VolCause.TheVariants.ExtHeader}
 
 -- the extended header lacks its place
 abbrev pub misplaced : Result (Option ExtendedHeader) VolFault

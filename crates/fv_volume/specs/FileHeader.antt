@@ -1,11 +1,8 @@
 -- The header of a file. (PI 1.8, volume 3, `EFI_FFS_FILE_HEADER` and `EFI_FFS_FILE_HEADER2`.)
 use Rattle.std.specs.Prelude.{ℕ, ◌+◌, ◌-◌, ◌%◌, List, length, take, drop, sum, slice_index, Bool, Option, Some, None, if◌then◌else◌, not, ◌&&◌, ◌||◌, ◌==◌, nat_lt}
-use Rattle.pi_base.specs.Field.{little_number}
+use Rattle.pi_base.specs.{Field.little_number, Guids.guid_at}
 use Rattle.fv_volume.specs.declared.file_header.TheConstants.{HEADER_LEN, LARGE_HEADER_LEN, FILE_CHECKSUM_AT, TYPE_AT, ATTRIBUTES_AT, SIZE_AT, STATE_AT, EXTENDED_SIZE_AT, LARGE_FILE, CHECKSUM, FIXED_CHECKSUM}
-use Rattle.fv_volume.specs.declared.file_header.FileHeader.{FileHeader}
-use Rattle.fv_volume.specs.declared.volume_header.Format.{Format}
-use Rattle.fv_volume.specs.Bits.{is_set}
-use Rattle.pi_base.specs.Guids.{guid_at}
+use Rattle.fv_volume.specs.{declared.file_header.FileHeader.FileHeader, declared.volume_header.Format.Format, Bits.is_set}
 
 -- the fields at a place, with a length of the header and a size
 abbrev pub fields_at : List ℕ → ℕ → ℕ → ℕ → FileHeader

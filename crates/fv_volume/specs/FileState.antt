@@ -1,9 +1,8 @@
 -- The state of a file. (PI 1.8, volume 3, file integrity and state.)
 use Rattle.std.specs.Prelude.{ℕ, Bool, true, false, if◌then◌else◌, bit_xor}
 use Rattle.fv_volume.specs.declared.file_state.TheConstants.{HEADER_CONSTRUCTION, HEADER_VALID, DATA_VALID, MARKED_FOR_UPDATE, DELETED, HEADER_INVALID}
-use Rattle.fv_volume.specs.declared.file_state.FileState.{FileState}
+use Rattle.fv_volume.specs.{declared.file_state.FileState.FileState, Bits.is_set}
 use Rattle.fv_volume.specs.declared.file_state.FileState.TheVariants.{Blank, HeaderConstruction, HeaderValid, DataValid, MarkedForUpdate, Deleted, HeaderInvalid}
-use Rattle.fv_volume.specs.Bits.{is_set}
 
 -- the state of the highest bit that is set
 abbrev pub state_of_bits : ℕ → FileState

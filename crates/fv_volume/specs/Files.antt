@@ -3,16 +3,12 @@ use Rattle.std.specs.Prelude.{◌≡◌, ℕ, ◌+◌, List, [], ◌∷◌, ◌+
 use Rattle.std.specs.List.{list_any}
 use Rattle.pi_base.specs.Field.{little_bytes}
 use Rattle.fv_volume.specs.declared.file_header.TheConstants.{HEADER_LEN, LARGE_HEADER_LEN, FIXED_CHECKSUM}
-use Rattle.fv_volume.specs.declared.build.file_system.TheConstants.{MOST_SIZE}
-use Rattle.fv_volume.specs.declared.build.file_header.TheConstants.{WRITTEN}
-use Rattle.fv_volume.specs.declared.build.file_header.FileHead.{FileHead}
-use Rattle.fv_volume.specs.declared.build.new_file.NewFile.{NewFile}
+use Rattle.fv_volume.specs.{declared.build.file_system.TheConstants.MOST_SIZE, declared.build.file_header.TheConstants.WRITTEN}
+use Rattle.fv_volume.specs.{declared.build.file_header.FileHead.FileHead, declared.build.new_file.NewFile.NewFile}
 use Rattle.fv_volume.specs.declared.build.new_file.Body.{Body}
 use Rattle.fv_volume.specs.declared.build.new_file.Body.TheVariants.{Sections, Bytes}
 use Rattle.fv_volume.specs.FileSystems.{FileSystem, Ffs2, Ffs3}
-use Rattle.fv_volume.specs.Attributes.{attributes_byte}
-use Rattle.fv_volume.specs.Checksum.{checksum8}
-use Rattle.fv_volume.specs.Sections.{body_bytes, is_section_too_long}
+use Rattle.fv_volume.specs.{Attributes.attributes_byte, Checksum.checksum8, Sections.body_bytes, Sections.is_section_too_long}
 
 -- a file with so many bytes of body is large in FFS3 where the Size field cannot tell its size
 abbrev pub is_large : FileSystem → ℕ → Bool

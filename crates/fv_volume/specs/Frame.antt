@@ -1,12 +1,8 @@
 -- What the headers of a volume say together. (PI 1.8, volume 3, firmware volumes.)
 use Rattle.std.specs.Prelude.{ℕ, ◌+◌, ◌-◌, ◌*◌, ◌/◌, List, length, Option, Some, None, Result, Ok, Err, if◌then◌else◌, nat_lt}
-use Rattle.fv_volume.specs.declared.volume_header.TheConstants.{LEAST_HEADER_LEN}
-use Rattle.fv_volume.specs.declared.frame.TheConstants.{ALIGNMENT}
-use Rattle.fv_volume.specs.declared.volume_header.VolumeHeader.{VolumeHeader}
-use Rattle.fv_volume.specs.declared.extended_header.ExtendedHeader.{ExtendedHeader}
-use Rattle.fv_volume.specs.declared.frame.Frame.{Frame}
-use Rattle.fv_volume.specs.declared.fault.VolFault.{VolFault}
-use Rattle.fv_volume.specs.declared.fault.VolCause.TheVariants.{Short}
+use Rattle.fv_volume.specs.{declared.volume_header.TheConstants.LEAST_HEADER_LEN, declared.frame.TheConstants.ALIGNMENT}
+use Rattle.fv_volume.specs.{declared.volume_header.VolumeHeader.VolumeHeader, declared.extended_header.ExtendedHeader.ExtendedHeader}
+use Rattle.fv_volume.specs.{declared.frame.Frame.Frame, declared.fault.VolFault.VolFault, declared.fault.VolCause.TheVariants.Short}
 use Rattle.fv_volume.specs.VolumeHeader.{volume_header, header_fault, format_of}
 use Rattle.fv_volume.specs.ExtendedHeader.{extended_header}
 

@@ -1,10 +1,8 @@
 -- What stands in front of the files of a built volume: its header, and its name if it has one.
 -- (PI 1.8, volume 3, `EFI_FIRMWARE_VOLUME_HEADER` and `EFI_FIRMWARE_VOLUME_EXT_HEADER`; the usual place is own.)
 use Rattle.std.specs.Prelude.{ℕ, ◌+◌, ◌-◌, Bool, true, nat_le, ◌&&◌, List, [], ◌++◌, replicate, Option, Some, None}
-use Rattle.pi_base.specs.declared.guid.Guid.{Guid}
-use Rattle.pi_base.specs.Field.{little_bytes}
-use Rattle.fv_volume.specs.Frame.{aligned}
-use Rattle.fv_volume.specs.declared.build.volume_header.TheConstants.{ERASED}
+use Rattle.pi_base.specs.{declared.guid.Guid.Guid, Field.little_bytes}
+use Rattle.fv_volume.specs.{Frame.aligned, declared.build.volume_header.TheConstants.ERASED}
 use Rattle.fv_volume.specs.declared.build.volume_header.VolumeForm.{VolumeForm}
 use Rattle.fv_volume.specs.declared.build.volume_name.TheConstants.{EXT_AT, EXT_HEADER_LEN}
 use Rattle.fv_volume.specs.declared.build.volume_name.VolumeName.{VolumeName}

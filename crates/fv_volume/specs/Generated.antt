@@ -1,25 +1,16 @@
 -- The generated volume (own): n modules, each waiting for the PPI of the one at half its number, which stands behind it.
 use Rattle.std.specs.Prelude.{ℕ, suc, zero, ◌+◌, ◌-◌, ◌/◌, ◌%◌, Bool, false, List, [], ◌∷◌, ◌++◌, map, replicate, ◌==◌, if◌then◌else◌}
-use Rattle.pi_base.specs.declared.guid.Guid.{Guid}
-use Rattle.pi_base.specs.declared.phase.Phase.TheVariants.{Pei}
-use Rattle.pi_base.specs.declared.word.Word.TheVariants.{Success}
+use Rattle.pi_base.specs.{declared.guid.Guid.Guid, declared.phase.Phase.TheVariants.Pei, declared.word.Word.TheVariants.Success}
 use Rattle.fv_volume.specs.declared.file_type.TheConstants.{PEIM}
 use Rattle.fv_volume.specs.declared.sections.section_type.TheConstants.{PEI_DEPEX, RAW}
-use Rattle.depex_code.specs.declared.depex.Depex.TheVariants.{Expr}
-use Rattle.depex_code.specs.Tree.{Push}
-use Rattle.depex_code.specs.Expression.{instructions, bytes_of}
-use Rattle.act_code.specs.declared.action.Action.{Action}
+use Rattle.depex_code.specs.{declared.depex.Depex.TheVariants.Expr, Tree.Push, Expression.instructions, Expression.bytes_of}
+use Rattle.act_code.specs.{declared.action.Action.Action, declared.action.GuidArg.TheVariants.Inline, declared.script.Script.Script}
 use Rattle.act_code.specs.declared.action.Action.TheVariants.{Set, Desc, Install, Memory, Ret}
-use Rattle.act_code.specs.declared.action.GuidArg.TheVariants.{Inline}
-use Rattle.act_code.specs.declared.script.Script.{Script}
 use Rattle.act_code.specs.Script.{script_bytes}
 use Rattle.fv_volume.specs.declared.build.generated.TheConstants.{NAMES, PPIS, VOLUME_LEN, MEMORY_BASE, MEMORY_LEN}
 use Rattle.pi_base.specs.declared.known_guid.TheConstants.{DXE_IPL_PPI}
-use Rattle.fv_volume.specs.declared.build.new_file.NewFile.{NewFile}
-use Rattle.fv_volume.specs.declared.build.new_file.NewSection.{NewSection}
-use Rattle.fv_volume.specs.declared.build.new_file.Body.TheVariants.{Sections}
-use Rattle.fv_volume.specs.Attributes.{plain_attributes}
-use Rattle.fv_volume.specs.FileSystems.{Ffs2}
+use Rattle.fv_volume.specs.{declared.build.new_file.NewFile.NewFile, declared.build.new_file.NewSection.NewSection}
+use Rattle.fv_volume.specs.{declared.build.new_file.Body.TheVariants.Sections, Attributes.plain_attributes, FileSystems.Ffs2}
 use Rattle.fv_volume.specs.Building.{built}
 
 -- 0000000F-0000-0000-0000- and a number below 65,536 in twelve digits, as stored

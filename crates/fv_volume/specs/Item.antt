@@ -2,15 +2,10 @@
 -- (PI 1.8, volume 3, the firmware file system.)
 use Rattle.std.specs.Prelude.{ℕ, ◌+◌, ◌-◌, List, [], ◌∷◌, length, take, drop, slice_index, Option, Some, None, Result, Ok, Err, if◌then◌else◌, not, ◌==◌}
 use Rattle.fv_volume.specs.declared.file_header.TheConstants.{HEADER_LEN, STATE_AT}
-use Rattle.fv_volume.specs.declared.file_type.TheConstants.{PAD}
-use Rattle.fv_volume.specs.declared.item.Item.{Item}
-use Rattle.fv_volume.specs.declared.item.ItemKind.{ItemKind}
+use Rattle.fv_volume.specs.{declared.file_type.TheConstants.PAD, declared.item.Item.Item, declared.item.ItemKind.ItemKind}
 use Rattle.fv_volume.specs.declared.item.ItemKind.TheVariants.{Dead, Skipped, Pad, Listed}
-use Rattle.fv_volume.specs.declared.file.FfsFile.{FfsFile}
-use Rattle.fv_volume.specs.declared.file_header.FileHeader.{FileHeader}
-use Rattle.fv_volume.specs.declared.file_state.FileState.{FileState}
-use Rattle.fv_volume.specs.declared.volume_header.Format.{Format}
-use Rattle.fv_volume.specs.declared.fault.VolCause.{VolCause}
+use Rattle.fv_volume.specs.{declared.file.FfsFile.FfsFile, declared.file_header.FileHeader.FileHeader}
+use Rattle.fv_volume.specs.{declared.file_state.FileState.FileState, declared.volume_header.Format.Format, declared.fault.VolCause.VolCause}
 use Rattle.fv_volume.specs.declared.fault.VolCause.TheVariants.{FileSum, FileSize, DataSum}
 use Rattle.fv_volume.specs.FileState.{file_state, is_dead, is_whole}
 use Rattle.fv_volume.specs.FileHeader.{file_header, header_sum, size_is_wrong, data_is_wrong}

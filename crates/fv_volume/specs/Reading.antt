@@ -1,27 +1,16 @@
 -- What the readers of volumes and sections read of a built volume.
 use Rattle.std.specs.Prelude.{◌≡◌, ◌≢◌, ◌≤◌, ◌<◌, ◌^◌, ℕ, ◌+◌, ⊤, not, slice_index, ◌==◌, if◌then◌else◌, List, [], ◌∷◌, length, map, take, drop, filter, Option, Some, None, All}
 use Rattle.pi_base.specs.declared.guid.Guid.{Guid}
-use Rattle.fv_volume.specs.declared.file.FfsFile.{FfsFile}
-use Rattle.fv_volume.specs.declared.file_type.TheConstants.{PAD}
-use Rattle.fv_volume.specs.declared.frame.TheConstants.{ALIGNMENT}
-use Rattle.fv_volume.specs.declared.volume.Volume.{Volume}
-use Rattle.fv_volume.specs.Volume.{IsVolume}
-use Rattle.fv_volume.specs.declared.sections.section.Section.{Section}
+use Rattle.fv_volume.specs.{declared.file.FfsFile.FfsFile, declared.file_type.TheConstants.PAD, declared.frame.TheConstants.ALIGNMENT}
+use Rattle.fv_volume.specs.{declared.volume.Volume.Volume, Volume.IsVolume, declared.sections.section.Section.Section}
 use Rattle.fv_volume.specs.declared.sections.section_type.TheConstants.{COMPRESSION, GUID_DEFINED}
-use Rattle.fv_volume.specs.declared.sections.stream.TheConstants.{MOST_SECTIONS}
-use Rattle.fv_volume.specs.Stream.{AreSections}
-use Rattle.fv_volume.specs.declared.build.new_file.NewFile.{NewFile}
-use Rattle.fv_volume.specs.declared.build.new_file.NewSection.{NewSection}
+use Rattle.fv_volume.specs.{declared.sections.stream.TheConstants.MOST_SECTIONS, Stream.AreSections}
+use Rattle.fv_volume.specs.{declared.build.new_file.NewFile.NewFile, declared.build.new_file.NewSection.NewSection}
 use Rattle.fv_volume.specs.declared.build.new_file.Body.{Body}
 use Rattle.fv_volume.specs.declared.build.new_file.Body.TheVariants.{Sections, Bytes}
-use Rattle.fv_volume.specs.Attributes.{attributes_in}
-use Rattle.fv_volume.specs.declared.build.volume_header.VolumeForm.{VolumeForm}
-use Rattle.fv_volume.specs.declared.build.volume_name.VolumeName.{VolumeName}
-use Rattle.fv_volume.specs.FileSystems.{FileSystem}
-use Rattle.fv_volume.specs.Front.{first_place}
-use Rattle.fv_volume.specs.Files.{file_bytes}
-use Rattle.fv_volume.specs.Placing.{gap}
-use Rattle.fv_volume.specs.declared.file_header.TheConstants.{ATTRIBUTES_AT}
+use Rattle.fv_volume.specs.{Attributes.attributes_in, declared.build.volume_header.VolumeForm.VolumeForm}
+use Rattle.fv_volume.specs.{declared.build.volume_name.VolumeName.VolumeName, FileSystems.FileSystem, Front.first_place, Files.file_bytes}
+use Rattle.fv_volume.specs.{Placing.gap, declared.file_header.TheConstants.ATTRIBUTES_AT}
 
 -- as many things of one list as of the other, each pair of them related
 abbrev pub AreEach : {A B : Type 0} → (A → B → Type 0) → List A → List B → Type 0

@@ -4,8 +4,7 @@ use Rattle.std.specs.Prelude.{ℕ, ◌+◌, ◌-◌, List, length, drop, slice_i
 use Rattle.pi_base.specs.Field.{little_number}
 use Rattle.fv_volume.specs.declared.sections.section_header.TheConstants.{HEADER_LEN, EXTENDED_HEADER_LEN, EXTENDED, EXTENDED_SIZE_AT, TYPE_AT}
 use Rattle.fv_volume.specs.declared.sections.section_type.TheConstants.{COMPRESSION, GUID_DEFINED}
-use Rattle.fv_volume.specs.declared.sections.section_header.SectionHeader.{SectionHeader}
-use Rattle.fv_volume.specs.declared.sections.section.Section.{Section}
+use Rattle.fv_volume.specs.{declared.sections.section_header.SectionHeader.SectionHeader, declared.sections.section.Section.Section}
 use Rattle.fv_volume.specs.declared.sections.fault.SecCause.{SecCause}
 use Rattle.fv_volume.specs.declared.sections.fault.SecCause.TheVariants.{Size, Compressed, GuidDefined}
 

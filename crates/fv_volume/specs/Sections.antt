@@ -2,11 +2,9 @@
 use Rattle.std.specs.Prelude.{ℕ, ◌+◌, List, [], ◌∷◌, ◌++◌, length, map, Bool, false, if◌then◌else◌, nat_lt}
 use Rattle.pi_base.specs.Field.{little_bytes}
 use Rattle.fv_volume.specs.declared.sections.section_header.TheConstants.{HEADER_LEN, EXTENDED_HEADER_LEN, EXTENDED}
-use Rattle.fv_volume.specs.declared.sections.stream.TheConstants.{ALIGNMENT}
-use Rattle.fv_volume.specs.declared.build.file_system.TheConstants.{MOST_SIZE}
-use Rattle.fv_volume.specs.declared.build.new_file.NewSection.{NewSection}
+use Rattle.fv_volume.specs.{declared.sections.stream.TheConstants.ALIGNMENT, declared.build.file_system.TheConstants.MOST_SIZE}
+use Rattle.fv_volume.specs.{declared.build.new_file.NewSection.NewSection, Placing.laid}
 use Rattle.fv_volume.specs.FileSystems.{FileSystem, Ffs2, Ffs3, most_section}
-use Rattle.fv_volume.specs.Placing.{laid}
 
 -- a section with so many bytes of body is extended in FFS3 where the Size field cannot tell its size
 abbrev pub is_extended : FileSystem → ℕ → Bool

@@ -2,10 +2,8 @@
 use Rattle.std.specs.Prelude.{◌≡◌, ℕ, ◌+◌, ◌-◌, ◌*◌, ◌/◌, ◌<◌, ◌≤◌, List, [], ◌∷◌, length, Result, Ok, Err, All, AllPairs, if◌then◌else◌, nat_le}
 use Rattle.fv_volume.specs.declared.sections.section_header.TheConstants.{HEADER_LEN}
 use Rattle.fv_volume.specs.declared.sections.stream.TheConstants.{MOST_SECTIONS, ALIGNMENT}
-use Rattle.fv_volume.specs.declared.sections.section.Section.{Section}
-use Rattle.fv_volume.specs.declared.sections.fault.SecCause.{SecCause}
-use Rattle.fv_volume.specs.declared.sections.fault.SecCause.TheVariants.{TooMany}
-use Rattle.fv_volume.specs.declared.sections.fault.SecFault.{SecFault}
+use Rattle.fv_volume.specs.{declared.sections.section.Section.Section, declared.sections.fault.SecCause.SecCause}
+use Rattle.fv_volume.specs.{declared.sections.fault.SecCause.TheVariants.TooMany, declared.sections.fault.SecFault.SecFault}
 use Rattle.fv_volume.specs.SectionHeader.{section_at}
 
 -- the least place from here on at which a section may begin

@@ -1,14 +1,11 @@
 -- The header of a volume, and the first thing that is wrong with it. (PI 1.8, volume 3, `EFI_FIRMWARE_VOLUME_HEADER`.)
 use Rattle.std.specs.Prelude.{ℕ, ◌%◌, List, length, take, drop, sum, slice_index, Bool, true, false, Option, Some, None, if◌then◌else◌, not, ◌==◌, nat_lt, nat_eq, bit_and}
 use Rattle.std.specs.List.{starts_with}
-use Rattle.pi_base.specs.Field.{little_number, words_of}
+use Rattle.pi_base.specs.{Field.little_number, Field.words_of, declared.guid.TheConstants.GUID_LEN}
 use Rattle.fv_volume.specs.declared.volume_header.TheConstants.{LEAST_HEADER_LEN, FILE_SYSTEM_AT, LENGTH_AT, SIGNATURE_AT, ATTRIBUTES_AT, HEADER_LENGTH_AT, CHECKSUM_AT, EXT_HEADER_OFFSET_AT, REVISION_AT, SIGNATURE, REVISION, ERASE_POLARITY, FFS2, FFS3}
-use Rattle.pi_base.specs.declared.guid.TheConstants.{GUID_LEN}
-use Rattle.fv_volume.specs.declared.volume_header.VolumeHeader.{VolumeHeader}
-use Rattle.fv_volume.specs.declared.volume_header.Format.{Format}
-use Rattle.fv_volume.specs.declared.volume_header.FileSystem.{FileSystem}
+use Rattle.fv_volume.specs.{declared.volume_header.VolumeHeader.VolumeHeader, declared.volume_header.Format.Format}
+use Rattle.fv_volume.specs.{declared.volume_header.FileSystem.FileSystem, declared.fault.VolFault.VolFault}
 use Rattle.fv_volume.specs.declared.volume_header.FileSystem.TheVariants.{Ffs2, Ffs3, Unknown}
-use Rattle.fv_volume.specs.declared.fault.VolFault.{VolFault}
 use Rattle.fv_volume.specs.declared.fault.VolCause.{VolCause}
 use Rattle.fv_volume.specs.declared.fault.VolCause.TheVariants.{Signature, Revision, FileSystem as UnknownFileSystem, Length, HeaderLength, HeaderSum}
 

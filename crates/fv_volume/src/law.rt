@@ -1,9 +1,7 @@
 //! What follows from the definitions alone.
 ghost use Rattle.std.specs.Prelude.{◌≡◌, ◌<◌, ◌≤◌, ◌⊎◌, length, List, ℕ};
-ghost use Rattle.fv_volume.specs.Volume.{IsVolume, IsFirstFault};
+ghost use Rattle.fv_volume.specs.{Volume.IsVolume, Volume.IsFirstFault, declared.volume.Volume.Volume, declared.fault.VolFault.VolFault};
 ghost use Rattle.fv_volume.specs.Places.{AreInside, AreWithin, AreInOrder};
-ghost use Rattle.fv_volume.specs.declared.volume.Volume.{Volume};
-ghost use Rattle.fv_volume.specs.declared.fault.VolFault.{VolFault};
 
 /// All bytes are a volume or have a first fault, never both, and one volume or one fault.
 pub fn one_reading()

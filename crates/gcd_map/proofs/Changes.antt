@@ -1,16 +1,10 @@
 -- Lists of ranges that grow, with a change.
-use Rattle.std.proofs.Common.{◌≡◌, inl, inr, ℕ, ◌+◌, ◌-◌, ◌<◌, ◌≤◌, List, [], ◌∷◌, ◌++◌, length, take, drop, refl, sym, ap, ◌∙◌, subst, arith, min, max}
-use Rattle.std.specs.Prelude.{Result, Ok, Err, OnOk}
-use Rattle.std.proofs.lemmas.Bool.Decides.{nat_tests}
-use Rattle.std.proofs.lemmas.List.{take-append-drop, same_from_push}
-use Rattle.gcd_map.specs.declared.state.SpaceState.{SpaceState}
-use Rattle.gcd_map.specs.declared.state.Effect.{Effect}
-use Rattle.gcd_map.specs.declared.range.GcdRange.{GcdRange}
-use Rattle.gcd_map.specs.AddressSpace.{after_effect}
-use Rattle.gcd_map.specs.Stretch.{AllIn}
+use Rattle.std.proofs.Common.{◌≡◌, inl, inr, ℕ, ◌+◌, ◌-◌, ◌<◌, ◌≤◌, List, [], ◌∷◌, ◌++◌, length, take, drop, refl, sym, ap, ◌∙◌, subst, arith, min, max, Result, Ok, Err, OnOk, take-append-drop}
+use Rattle.std.proofs.{lemmas.Bool.Decides.nat_tests, lemmas.List.same_from_push}
+use Rattle.gcd_map.specs.{declared.state.SpaceState.SpaceState, declared.state.Effect.Effect, declared.range.GcdRange.GcdRange}
+use Rattle.gcd_map.specs.{AddressSpace.after_effect, Stretch.AllIn, Tests.base_at}
 use Rattle.gcd_map.specs.Ranges.{Cover, Differ, state_of}
 use Rattle.gcd_map.specs.Growing.{EndsOther, EndsWith, BeginsWith, Opens, Extends, ExtendsBy, Replaces, after}
-use Rattle.gcd_map.specs.Tests.{base_at}
 use Rattle.gcd_map.proofs.Covers.{below_or, Split, cover_split, cover_more, base_here}
 use Rattle.gcd_map.proofs.Neighbours.{differ_more, differ_last}
 

@@ -1,12 +1,9 @@
 -- The lines of a text of commands, one after another.
-use Rattle.std.proofs.Common.{◌≡◌, ◌⊎◌, inl, inr, ℕ, zero, suc, ◌+◌, ◌-◌, ◌<◌, ◌≤◌, Bool, true, false, not, cond, List, [], ◌∷◌, ◌++◌, length, length-drop, map, take, drop, get_or, Option, Some, None, refl, sym, ap, ◌∙◌, subst, true≢false, arith}
-use Rattle.std.specs.List.{filter}
+use Rattle.std.proofs.Common.{◌≡◌, ◌⊎◌, inl, inr, ℕ, zero, suc, ◌+◌, ◌-◌, ◌<◌, ◌≤◌, Bool, true, false, not, cond, List, [], ◌∷◌, ◌++◌, length, length-drop, map, take, drop, get_or, Option, Some, None, refl, sym, ap, ◌∙◌, subst, true≢false, arith, filter, Ok, Err, append-nil, take_all}
 use Rattle.std.proofs.lemmas.Option.{same_Some, none-some}
-use Rattle.std.specs.Prelude.{Ok, Err}
-use Rattle.std.proofs.lemmas.List.{append-nil, map-append, take_all, drop_more, take_more}
+use Rattle.std.proofs.lemmas.List.{map-append, drop_more, take_more}
 use Rattle.line_words.specs.Line.{lines, is_passed_over}
-use Rattle.gcd_map.specs.declared.command.Command.{Command}
-use Rattle.gcd_map.specs.declared.commands.CommandFault.{CommandFault}
+use Rattle.gcd_map.specs.{declared.command.Command.Command, declared.commands.CommandFault.CommandFault}
 use Rattle.gcd_map.specs.declared.commands.CommandFault.TheVariants.{Bad, Memory}
 use Rattle.gcd_map.specs.CommandFaults.{IsCommandFault, TakesLine}
 use Rattle.gcd_map.specs.CommandText.{command_of, spelled, AreCommands, IsBad, IsFirstBad}

@@ -1,8 +1,7 @@
 -- The command of words that are read one after another.
 use Rattle.std.proofs.Common.{◌≡◌, ℕ, Bool, cond, Option, Some, None, refl}
 use Rattle.std.proofs.lemmas.Bool.{cond_both}
-use Rattle.gcd_map.specs.declared.state.GcdKind.{GcdKind}
-use Rattle.gcd_map.specs.declared.command.Command.{Command}
+use Rattle.gcd_map.specs.{declared.state.GcdKind.GcdKind, declared.command.Command.Command}
 use Rattle.gcd_map.specs.declared.command.Command.TheVariants.{Add, Allocate, Top, Free, Remove}
 use Rattle.gcd_map.specs.CommandText.{align_in, of_two, of_three}
 

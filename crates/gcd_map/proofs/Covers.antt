@@ -1,9 +1,6 @@
 -- Lists of ranges that cover stretches of addresses.
 use Rattle.std.proofs.Common.{◌≡◌, ◌⊎◌, inl, inr, ℕ, zero, suc, ◌+◌, ◌-◌, ◌<◌, ◌≤◌, List, [], ◌∷◌, ◌++◌, length, drop, get_or, refl, sym, ◌∙◌, subst, arith}
-use Rattle.gcd_map.specs.declared.state.SpaceState.{SpaceState}
-use Rattle.gcd_map.specs.declared.range.GcdRange.{GcdRange}
-use Rattle.gcd_map.specs.Stretch.{AllIn}
-use Rattle.gcd_map.specs.Ranges.{Cover}
+use Rattle.gcd_map.specs.{declared.state.SpaceState.SpaceState, declared.range.GcdRange.GcdRange, Stretch.AllIn, Ranges.Cover}
 use Rattle.gcd_map.specs.Tests.{base_at}
 
 pub below_or : (n m : ℕ) → (n < m) ⊎ (m ≤ n)

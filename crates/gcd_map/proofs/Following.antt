@@ -1,17 +1,10 @@
 -- Stretches that follow one another.
-use Rattle.std.proofs.Common.{◌≡◌, ◌≢◌, inl, inr, List, ◌∷◌, Option, Some, None, sym, subst}
-use Rattle.std.specs.Prelude.{Result, Ok, Err, MatchResult}
+use Rattle.std.proofs.Common.{◌≡◌, ◌≢◌, inl, inr, List, ◌∷◌, Option, Some, None, sym, subst, Result, Ok, Err, MatchResult}
 use Rattle.gcd_map.specs.declared.state.GcdKind.TheVariants.{NonExistent, System}
-use Rattle.gcd_map.specs.declared.word.GcdWord.{GcdWord}
+use Rattle.gcd_map.specs.{declared.word.GcdWord.GcdWord, declared.hob.HobStretch.HobStretch, declared.fault.GcdCause.GcdCause}
 use Rattle.gcd_map.specs.declared.word.GcdWord.TheVariants as word
-use Rattle.gcd_map.specs.declared.hob.HobStretch.{HobStretch}
-use Rattle.gcd_map.specs.declared.fault.GcdCause.{GcdCause}
-use Rattle.gcd_map.specs.declared.fault.GcdCause.TheVariants.{Memory}
-use Rattle.gcd_map.specs.declared.fault.GcdFault.{GcdFault}
-use Rattle.gcd_map.specs.AddressSpace.{MemorySpace}
-use Rattle.gcd_map.specs.Commands.{AddRow, AllocateRow}
-use Rattle.gcd_map.specs.SpaceMap.{MapState, Shows}
-use Rattle.gcd_map.specs.HobMap.{Follow, with_first}
+use Rattle.gcd_map.specs.{declared.fault.GcdCause.TheVariants.Memory, declared.fault.GcdFault.GcdFault, AddressSpace.MemorySpace}
+use Rattle.gcd_map.specs.{Commands.AddRow, Commands.AllocateRow, SpaceMap.MapState, SpaceMap.Shows, HobMap.Follow, HobMap.with_first}
 use Rattle.gcd_map.specs.HobFaults.{ComesNot, IsNotTaken, Stops}
 use Rattle.gcd_map.specs.Places.{resource_cause, allocation_cause, IsFaultOf, Step, IsStepFault}
 

@@ -1,10 +1,7 @@
 -- The highest base with room, over all ranges.
-use Rattle.std.proofs.Common.{◌≡◌, inl, inr, ℕ, zero, suc, ◌+◌, ◌-◌, ◌*◌, ◌/◌, ◌%◌, ◌<◌, ◌≤◌, List, [], ◌∷◌, length, drop, get_or, Option, Some, None, refl, sym, ap, ◌∙◌, arith}
-use Rattle.std.proofs.lemmas.Nat.{div-add-mod', mod-mul-add, le-div}
-use Rattle.std.proofs.Math.Nat.{mul-le-mul_right}
-use Rattle.gcd_map.specs.declared.state.SpaceState.{SpaceState}
-use Rattle.gcd_map.specs.declared.range.GcdRange.{GcdRange}
-use Rattle.gcd_map.specs.Stretch.{AllIn}
+use Rattle.std.proofs.Common.{◌≡◌, inl, inr, ℕ, zero, suc, ◌+◌, ◌-◌, ◌*◌, ◌/◌, ◌%◌, ◌<◌, ◌≤◌, List, [], ◌∷◌, length, drop, get_or, Option, Some, None, refl, sym, ap, ◌∙◌, arith, div-add-mod'}
+use Rattle.std.proofs.{lemmas.Nat.mod-mul-add, lemmas.Nat.le-div, Math.Nat.mul-le-mul_right}
+use Rattle.gcd_map.specs.{declared.state.SpaceState.SpaceState, declared.range.GcdRange.GcdRange, Stretch.AllIn}
 use Rattle.gcd_map.specs.Ranges.{Cover, Differ, state_of}
 use Rattle.gcd_map.specs.Tests.{IsRoomIn, IsHighestIn, IsHighest}
 use Rattle.gcd_map.proofs.Covers.{below_or, cover_order}

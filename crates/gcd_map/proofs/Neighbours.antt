@@ -1,9 +1,7 @@
 -- Neighbours that differ.
 use Rattle.std.proofs.Common.{◌≡◌, List, [], ◌∷◌, ◌++◌, refl, sym, ap, ◌∙◌, subst}
-use Rattle.gcd_map.specs.declared.state.SpaceState.{SpaceState}
-use Rattle.gcd_map.specs.declared.range.GcdRange.{GcdRange}
+use Rattle.gcd_map.specs.{declared.state.SpaceState.SpaceState, declared.range.GcdRange.GcdRange, Growing.EndsOther, Growing.EndsWith}
 use Rattle.gcd_map.specs.Ranges.{state_of, BeginsOther, Differ}
-use Rattle.gcd_map.specs.Growing.{EndsOther, EndsWith}
 
 pub differ_more : (xs : List GcdRange) (r : GcdRange) → Differ xs → EndsOther xs (state_of r) → Differ (xs ++ r ∷ [])
 differ_more [] r d other = (tt, tt)

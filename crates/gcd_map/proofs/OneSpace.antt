@@ -1,15 +1,11 @@
 -- A HOB list tells one memory space, or has one first fault.
 use Rattle.std.proofs.Common.{◌≡◌, ◌⊎◌, inl, inr, ℕ, ◌+◌, ◌^◌, List, [], ◌∷◌, Option, Some, None, refl, sym, ap, ◌∙◌, subst, arith}
 use Rattle.std.proofs.lemmas.Option.{none-some}
-use Rattle.hob_codec.specs.declared.fault.HobFault.{HobFault}
-use Rattle.hob_codec.specs.declared.list.HobPlace.{HobPlace}
-use Rattle.hob_codec.specs.HobReading.{length_at}
+use Rattle.hob_codec.specs.{declared.fault.HobFault.HobFault, declared.list.HobPlace.HobPlace, HobReading.length_at}
 use Rattle.hob_codec.specs.HobList.{Leads, fault_at, AreHobs, IsListFault}
-use Rattle.gcd_map.specs.declared.hob.CpuSize.{CpuSize}
-use Rattle.gcd_map.specs.declared.map.TheConstants.{LEAST_BITS, MOST_BITS}
+use Rattle.gcd_map.specs.{declared.hob.CpuSize.CpuSize, declared.map.TheConstants.LEAST_BITS, declared.map.TheConstants.MOST_BITS}
 use Rattle.gcd_map.specs.declared.fault.GcdCause.TheVariants.{NoCpu, Bits}
-use Rattle.gcd_map.specs.declared.fault.GcdFault.{GcdFault}
-use Rattle.gcd_map.specs.AddressSpace.{MemorySpace, empty_space}
+use Rattle.gcd_map.specs.{declared.fault.GcdFault.GcdFault, AddressSpace.MemorySpace, AddressSpace.empty_space}
 use Rattle.gcd_map.specs.HobMap.{resources, allocations, first_cpu, AreBitsOf, MayCome, came, MayBeTaken, taken, Follow, IsFilled, IsSpaceOf}
 use Rattle.gcd_map.specs.HobFaults.{walk_cause, IsWalkFault, ComesNot, IsNotTaken, Stops, IsBitsFault, IsMemoryFault, IsFaultOfHobs, IsFirstFault}
 use Rattle.gcd_map.proofs.Covers.{below_or}

@@ -1,14 +1,10 @@
 -- Stretches follow one another to one end, or stop at one fault.
 use Rattle.std.proofs.Common.{◌≡◌, ◌≢◌, ◌⊎◌, inl, inr, ℕ, zero, suc, ◌+◌, ◌<◌, ◌≤◌, Bool, true, false, List, [], ◌∷◌, refl, sym, ap, ◌∙◌, subst, true≢false, arith}
-use Rattle.gcd_map.specs.declared.state.GcdKind.{GcdKind}
+use Rattle.gcd_map.specs.{declared.state.GcdKind.GcdKind, declared.state.SpaceState.SpaceState, declared.hob.HobStretch.HobStretch}
 use Rattle.gcd_map.specs.declared.state.GcdKind.TheVariants.{NonExistent, Reserved, System, Mmio}
-use Rattle.gcd_map.specs.declared.state.SpaceState.{SpaceState}
-use Rattle.gcd_map.specs.declared.hob.HobStretch.{HobStretch}
-use Rattle.gcd_map.specs.declared.fault.GcdCause.{GcdCause}
+use Rattle.gcd_map.specs.{declared.fault.GcdCause.GcdCause, declared.fault.GcdFault.GcdFault}
 use Rattle.gcd_map.specs.declared.fault.GcdCause.TheVariants.{Short, Length, Form, NoEnd, Memory, NoCpu, Bits, Range, Overlap, Outside}
-use Rattle.gcd_map.specs.declared.fault.GcdFault.{GcdFault}
-use Rattle.gcd_map.specs.AddressSpace.{MemorySpace, state_at}
-use Rattle.gcd_map.specs.Stretch.{AllIn, SomeIn}
+use Rattle.gcd_map.specs.{AddressSpace.MemorySpace, AddressSpace.state_at, Stretch.AllIn, Stretch.SomeIn}
 use Rattle.gcd_map.specs.Commands.{IsAbsent, IsPresent, IsFreeOf, IsNotFreeOf}
 use Rattle.gcd_map.specs.HobMap.{MayCome, MayBeTaken, Follow}
 use Rattle.gcd_map.specs.HobFaults.{ComesNot, IsNotTaken, Stops}

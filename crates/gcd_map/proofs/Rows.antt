@@ -1,6 +1,5 @@
 -- Worked resource HOBs, computed by the definitions. PI 1.8, volume 3, `EFI_RESOURCE_TYPE`.
-use Rattle.std.proofs.Common.{◌≡◌, ℕ, List, [], ◌∷◌, ◌++◌, map, refl, Some, None}
-use Rattle.std.specs.Prelude.{replicate, option_map}
+use Rattle.std.proofs.Common.{◌≡◌, ℕ, List, [], ◌∷◌, ◌++◌, map, refl, Some, None, replicate, option_map}
 use Rattle.gcd_map.specs.declared.state.GcdKind.TheVariants.{Reserved, System, Mmio}
 use Rattle.gcd_map.specs.HobMap.{resource_at}
 

@@ -1,12 +1,8 @@
 -- Runs of commands, one more.
 use Rattle.std.proofs.Common.{◌≡◌, ◌≢◌, List, [], ◌∷◌, ◌++◌, ℕ, ◌+◌, ◌<◌, length, map, take, get_or, refl, sym, ap, ◌∙◌, subst}
 use Rattle.std.proofs.lemmas.List.{map-append, take_more}
-use Rattle.gcd_map.specs.declared.command.Command.{Command}
-use Rattle.gcd_map.specs.declared.perform.Answer.{Answer}
-use Rattle.gcd_map.specs.declared.perform.Answer.TheVariants.{Refused}
-use Rattle.gcd_map.specs.declared.word.GcdWord.TheVariants.{Memory}
-use Rattle.gcd_map.specs.AddressSpace.{MemorySpace}
-use Rattle.gcd_map.specs.Run.{CommandRow, IsRun}
+use Rattle.gcd_map.specs.{declared.command.Command.Command, declared.perform.Answer.Answer, declared.perform.Answer.TheVariants.Refused}
+use Rattle.gcd_map.specs.{declared.word.GcdWord.TheVariants.Memory, AddressSpace.MemorySpace, Run.CommandRow, Run.IsRun}
 
 pub run_more : (old middle new : MemorySpace) (steps : List (Command × Answer)) (step : Command × Answer) → IsRun old steps middle → step.1 ≢ Refused Memory → CommandRow step.0 middle step.1 new
     → IsRun old (steps ++ step ∷ []) new

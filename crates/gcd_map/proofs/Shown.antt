@@ -1,13 +1,9 @@
 -- The space that a map shows after a change.
 use Rattle.std.proofs.Common.{◌≡◌, ℕ, ◌+◌, ◌-◌, ◌≤◌, List, [], ◌∷◌, sym, ap, ◌∙◌, subst, arith}
 use Rattle.std.proofs.lemmas.List.Sums.{fold-append}
-use Rattle.gcd_map.specs.declared.state.SpaceState.{SpaceState}
-use Rattle.gcd_map.specs.declared.state.Effect.{Effect}
-use Rattle.gcd_map.specs.declared.range.GcdRange.{GcdRange}
+use Rattle.gcd_map.specs.{declared.state.SpaceState.SpaceState, declared.state.Effect.Effect, declared.range.GcdRange.GcdRange}
 use Rattle.gcd_map.specs.AddressSpace.{MemorySpace, Change, changed, untouched, state_at, with_change}
-use Rattle.gcd_map.specs.Ranges.{Cover, Differ}
-use Rattle.gcd_map.specs.Growing.{after}
-use Rattle.gcd_map.specs.SpaceMap.{Shows}
+use Rattle.gcd_map.specs.{Ranges.Cover, Ranges.Differ, Growing.after, SpaceMap.Shows}
 
 pub shows_change : (limit : ℕ) (old new : List GcdRange) (space : MemorySpace) (base len : ℕ) (effect : Effect) → Shows (record { limit = limit; ranges = old }) space → base + len ≤ limit
     → ((s : ℕ → SpaceState) (l : ℕ) → Cover s 0 old l → base + len ≤ l → Cover (after s base (base + len) effect) 0 new l) → (Differ old → Differ new)

@@ -1,10 +1,8 @@
 -- Ranges in the place of some that a change meets.
-use Rattle.std.proofs.Common.{◌≡◌, ◌⊎◌, inl, inr, ℕ, suc, ◌+◌, ◌<◌, ◌≤◌, List, [], ◌∷◌, ◌++◌, length, take, drop, refl, sym, ap, ◌∙◌, subst, arith}
+use Rattle.std.proofs.Common.{◌≡◌, ◌⊎◌, inl, inr, ℕ, suc, ◌+◌, ◌<◌, ◌≤◌, List, [], ◌∷◌, ◌++◌, length, take, drop, refl, sym, ap, ◌∙◌, subst, arith, take-append-drop, drop-drop, append-nil}
 use Rattle.std.specs.List.{splice}
-use Rattle.std.proofs.lemmas.List.{take-append-drop, drop-drop, drop_all, append-nil}
-use Rattle.gcd_map.specs.declared.state.SpaceState.{SpaceState}
-use Rattle.gcd_map.specs.declared.state.Effect.{Effect}
-use Rattle.gcd_map.specs.declared.range.GcdRange.{GcdRange}
+use Rattle.std.proofs.lemmas.List.{drop_all}
+use Rattle.gcd_map.specs.{declared.state.SpaceState.SpaceState, declared.state.Effect.Effect, declared.range.GcdRange.GcdRange}
 use Rattle.gcd_map.specs.Ranges.{Cover, Differ, BeginsOther, state_of}
 use Rattle.gcd_map.specs.Growing.{BeginsWith, EndsWith, Replaces, after}
 use Rattle.gcd_map.specs.Tests.{base_at, IsRangeOf}

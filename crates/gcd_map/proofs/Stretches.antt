@@ -1,11 +1,8 @@
 -- What tests of ranges tell of the addresses of a stretch.
 use Rattle.std.proofs.Common.{inl, inr, ℕ, zero, suc, ◌+◌, ◌<◌, ◌≤◌, ◌^◌, Bool, true, false, MatchBool, List, [], ◌∷◌, length, take, drop, get_or, sym, subst, arith}
 use Rattle.pi_base.specs.Lists.{Each}
-use Rattle.gcd_map.specs.declared.state.SpaceState.{SpaceState}
-use Rattle.gcd_map.specs.declared.need.Need.{Need}
-use Rattle.gcd_map.specs.declared.range.GcdRange.{GcdRange}
-use Rattle.gcd_map.specs.Stretch.{AllIn, SomeIn}
-use Rattle.gcd_map.specs.Ranges.{Cover, DoesFit}
+use Rattle.gcd_map.specs.{declared.state.SpaceState.SpaceState, declared.need.Need.Need, declared.range.GcdRange.GcdRange}
+use Rattle.gcd_map.specs.{Stretch.AllIn, Stretch.SomeIn, Ranges.Cover, Ranges.DoesFit}
 use Rattle.gcd_map.specs.Tests.{Meets, Misses, EachMeets, SomeMisses, IsRangeOf}
 use Rattle.gcd_map.proofs.Covers.{below_or, cover_order, IsBelowFirst, below_first}
 use Rattle.gcd_map.proofs.Changes.{Parts, parts}

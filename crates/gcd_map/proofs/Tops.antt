@@ -1,9 +1,7 @@
 -- The base that `top` finds.
 use Rattle.std.proofs.Common.{◌≡◌, ℕ, ◌^◌, ◌<◌, List, Option, subst}
-use Rattle.gcd_map.specs.declared.state.GcdKind.{GcdKind}
-use Rattle.gcd_map.specs.declared.range.GcdRange.{GcdRange}
+use Rattle.gcd_map.specs.{declared.state.GcdKind.GcdKind, declared.range.GcdRange.GcdRange, SpaceMap.MapState, SpaceMap.Shows}
 use Rattle.gcd_map.specs.AddressSpace.{MemorySpace, state_at, free_of}
-use Rattle.gcd_map.specs.SpaceMap.{MapState, Shows}
 use Rattle.gcd_map.specs.Tests.{IsHighest}
 use Rattle.gcd_map.proofs.Highest.{IsTop, is_top}
 

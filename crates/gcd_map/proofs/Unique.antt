@@ -1,10 +1,8 @@
 -- A memory space has one map.
 use Rattle.std.proofs.Common.{◌≡◌, inl, inr, ℕ, ◌+◌, ◌<◌, ◌≤◌, List, [], ◌∷◌, refl, sym, ap, ◌∙◌, subst, arith}
-use Rattle.gcd_map.specs.declared.state.SpaceState.{SpaceState}
-use Rattle.gcd_map.specs.declared.range.GcdRange.{GcdRange}
-use Rattle.gcd_map.specs.AddressSpace.{MemorySpace, state_at}
+use Rattle.gcd_map.specs.{declared.state.SpaceState.SpaceState, declared.range.GcdRange.GcdRange}
+use Rattle.gcd_map.specs.{AddressSpace.MemorySpace, AddressSpace.state_at, SpaceMap.IsSpaceMap}
 use Rattle.gcd_map.specs.Ranges.{Cover, Differ, state_of}
-use Rattle.gcd_map.specs.SpaceMap.{IsSpaceMap}
 use Rattle.gcd_map.proofs.Covers.{below_or, cover_order}
 
 abbrev Agree : (ℕ → SpaceState) → (ℕ → SpaceState) → ℕ → Type 0

@@ -1,7 +1,5 @@
 -- The words of a line, cut off one after another.
-use Rattle.std.proofs.Common.{◌≡◌, ◌⊎◌, inl, inr, ℕ, ◌<◌, true, false, List, [], ◌∷◌, length, None, refl, sym, ap, ◌∙◌, arith}
-use Rattle.std.proofs.lemmas.Bool.{eqb-true}
-use Rattle.std.specs.Prelude.{◌==◌}
+use Rattle.std.proofs.Common.{◌≡◌, ◌⊎◌, inl, inr, ℕ, ◌<◌, true, false, List, [], ◌∷◌, length, None, refl, sym, ap, ◌∙◌, arith, eqb-true, ◌==◌}
 use Rattle.line_words.specs.Words.{words, is_plain}
 use Rattle.gcd_map.specs.CommandText.{short_command, long_command, command_of}
 

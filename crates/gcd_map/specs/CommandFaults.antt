@@ -1,7 +1,6 @@
 -- Why a text has no commands.
 use Rattle.std.specs.Prelude.{◌≡◌, ℕ, List, [], ◌∷◌, ◌++◌, map, Some, Result, Ok, Err}
-use Rattle.gcd_map.specs.declared.command.Command.{Command}
-use Rattle.gcd_map.specs.declared.commands.CommandFault.{CommandFault}
+use Rattle.gcd_map.specs.{declared.command.Command.Command, declared.commands.CommandFault.CommandFault}
 use Rattle.gcd_map.specs.declared.commands.CommandFault.TheVariants.{Bad, Memory}
 use Rattle.gcd_map.specs.CommandText.{spelled, IsBad, IsFirstBad}
 

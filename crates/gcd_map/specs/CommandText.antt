@@ -1,15 +1,9 @@
 -- The lines of commands (own): `add KIND BASE LEN`, `allocate KIND BASE LEN`, `top KIND ALIGN LEN`, `free BASE LEN` and `remove BASE LEN`. Lines, words and numbers are those of `line_words`.
-use Rattle.std.specs.Prelude.{◌≡◌, ℕ, ◌+◌, ◌<◌, not, nat_lt, if◌then◌else◌, false, List, [], ◌∷◌, length, map, filter, slice_index_or, Option, Some, None, codes}
-use Rattle.std.specs.List.{find}
-use Rattle.std.specs.Str.{bytes_eq}
-use Rattle.line_words.specs.Line.{lines, is_passed_over}
-use Rattle.line_words.specs.Words.{words, is_plain}
-use Rattle.line_words.specs.Number.{number_of}
-use Rattle.gcd_map.specs.declared.state.GcdKind.{GcdKind}
+use Rattle.std.specs.Prelude.{◌≡◌, ℕ, ◌+◌, ◌<◌, not, nat_lt, if◌then◌else◌, false, List, [], ◌∷◌, length, map, filter, slice_index_or, Option, Some, None, codes, find, bytes_eq}
+use Rattle.line_words.specs.{Line.lines, Line.is_passed_over, Words.words, Words.is_plain, Number.number_of}
+use Rattle.gcd_map.specs.{declared.state.GcdKind.GcdKind, declared.command.Command.Command, declared.command.TheConstants.ALIGN_END}
 use Rattle.gcd_map.specs.declared.state.GcdKind.TheVariants.{NonExistent, Reserved, System, Mmio}
-use Rattle.gcd_map.specs.declared.command.Command.{Command}
 use Rattle.gcd_map.specs.declared.command.Command.TheVariants.{Add, Allocate, Top, Free, Remove}
-use Rattle.gcd_map.specs.declared.command.TheConstants.{ALIGN_END}
 use Rattle.gcd_map.specs.MapText.{kind_text}
 
 -- the kind whose text a word is

@@ -1,11 +1,8 @@
 -- The commands on the memory space: the answer, with the refusals in their order, and the space after it. PI 1.8, volume 2, "Global Coherency Domain Services"; the order is own.
 use Rattle.std.specs.Prelude.{◌≡◌, ◌≢◌, ◌⊎◌, ℕ, ◌+◌, ◌^◌, ◌%◌, ◌<◌, ◌≤◌, true, false, Result, Ok, Err}
-use Rattle.gcd_map.specs.declared.state.GcdKind.{GcdKind}
-use Rattle.gcd_map.specs.declared.state.GcdKind.TheVariants.{NonExistent}
-use Rattle.gcd_map.specs.declared.state.SpaceState.{SpaceState}
-use Rattle.gcd_map.specs.declared.word.GcdWord.{GcdWord}
+use Rattle.gcd_map.specs.{declared.state.GcdKind.GcdKind, declared.state.GcdKind.TheVariants.NonExistent}
+use Rattle.gcd_map.specs.{declared.state.SpaceState.SpaceState, declared.word.GcdWord.GcdWord, declared.map.TheConstants.MOST_ALIGN}
 use Rattle.gcd_map.specs.declared.word.GcdWord.TheVariants.{InvalidParameter, Unsupported, AccessDenied, NotFound, Memory}
-use Rattle.gcd_map.specs.declared.map.TheConstants.{MOST_ALIGN}
 use Rattle.gcd_map.specs.AddressSpace.{MemorySpace, state_at, with_change, free_of, add_change, allocate_change, free_change, remove_change}
 use Rattle.gcd_map.specs.Stretch.{AllIn, SomeIn}
 

@@ -1,10 +1,7 @@
 -- Lists of ranges that grow at their end, and lists that come in the place of others.
 use Rattle.std.specs.Prelude.{◌≡◌, ◌≢◌, ◌⊎◌, ℕ, ◌+◌, ◌-◌, ◌<◌, List, [], ◌∷◌, ◌++◌}
-use Rattle.gcd_map.specs.declared.state.SpaceState.{SpaceState}
-use Rattle.gcd_map.specs.declared.state.Effect.{Effect}
-use Rattle.gcd_map.specs.declared.range.GcdRange.{GcdRange}
-use Rattle.gcd_map.specs.AddressSpace.{changed}
-use Rattle.gcd_map.specs.Stretch.{AllIn}
+use Rattle.gcd_map.specs.{declared.state.SpaceState.SpaceState, declared.state.Effect.Effect, declared.range.GcdRange.GcdRange}
+use Rattle.gcd_map.specs.{AddressSpace.changed, Stretch.AllIn}
 use Rattle.gcd_map.specs.Ranges.{state_of, Cover, Differ}
 
 -- the last range, if there is one, has another state

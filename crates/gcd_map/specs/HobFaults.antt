@@ -1,17 +1,12 @@
 -- Why a HOB list tells no memory space: the first cause in the order of the list's faults, the CPU HOB, the resources and the allocations. The order is own.
 use Rattle.std.specs.Prelude.{◌≡◌, ◌⊎◌, ℕ, ◌+◌, ◌^◌, ◌<◌, ◌≤◌, List, [], ◌∷◌, Option, Some, None}
-use Rattle.hob_codec.specs.declared.fault.HobFault.{HobFault}
+use Rattle.hob_codec.specs.{declared.fault.HobFault.HobFault, declared.list.HobPlace.HobPlace}
 use Rattle.hob_codec.specs.declared.fault.HobFault.TheVariants as hob
-use Rattle.hob_codec.specs.declared.list.HobPlace.{HobPlace}
 use Rattle.hob_codec.specs.HobList.{Leads, fault_at, AreHobs}
-use Rattle.gcd_map.specs.declared.state.GcdKind.TheVariants.{System}
-use Rattle.gcd_map.specs.declared.hob.HobStretch.{HobStretch}
-use Rattle.gcd_map.specs.declared.hob.CpuSize.{CpuSize}
-use Rattle.gcd_map.specs.declared.fault.GcdCause.{GcdCause}
+use Rattle.gcd_map.specs.{declared.state.GcdKind.TheVariants.System, declared.hob.HobStretch.HobStretch, declared.hob.CpuSize.CpuSize}
+use Rattle.gcd_map.specs.{declared.fault.GcdCause.GcdCause, declared.fault.GcdFault.GcdFault, Stretch.SomeIn}
 use Rattle.gcd_map.specs.declared.fault.GcdCause.TheVariants.{Short, Length, Form, NoEnd, Memory, NoCpu, Bits, Range, Overlap, Outside}
-use Rattle.gcd_map.specs.declared.fault.GcdFault.{GcdFault}
 use Rattle.gcd_map.specs.AddressSpace.{MemorySpace, state_at, empty_space}
-use Rattle.gcd_map.specs.Stretch.{SomeIn}
 use Rattle.gcd_map.specs.Commands.{IsPresent, IsNotFreeOf}
 use Rattle.gcd_map.specs.HobMap.{resources, allocations, first_cpu, AreBits, AreBitsOf, MayCome, came, MayBeTaken, taken, Follow}
 

@@ -1,19 +1,13 @@
 -- The memory space that a HOB list tells: its resources, one after another, and then its allocations. PI 1.8, volume 3, "HOB Code Definitions". Resources of other types are passed over (own).
 use Rattle.std.specs.Prelude.{◌≡◌, ℕ, ◌+◌, ◌^◌, ◌<◌, ◌≤◌, ◌==◌, ◌||◌, if◌then◌else◌, List, [], ◌∷◌, Option, Some, None, option_map, Result, Ok, Err}
 use Rattle.std.specs.Option.{option_or}
-use Rattle.hob_codec.specs.declared.fault.HobFault.{HobFault}
-use Rattle.hob_codec.specs.declared.list.HobPlace.{HobPlace}
+use Rattle.hob_codec.specs.{declared.fault.HobFault.HobFault, declared.list.HobPlace.HobPlace, HobReading.reading, HobList.AreHobs}
 use Rattle.hob_codec.specs.HobValue.{HobValue, ResourceHob, AllocationHob, CpuHob}
-use Rattle.hob_codec.specs.HobReading.{reading}
-use Rattle.hob_codec.specs.HobList.{AreHobs}
-use Rattle.gcd_map.specs.declared.state.GcdKind.{GcdKind}
+use Rattle.gcd_map.specs.{declared.state.GcdKind.GcdKind, declared.hob.HobStretch.HobStretch, declared.hob.CpuSize.CpuSize}
 use Rattle.gcd_map.specs.declared.state.GcdKind.TheVariants.{Reserved, System, Mmio}
-use Rattle.gcd_map.specs.declared.hob.HobStretch.{HobStretch}
-use Rattle.gcd_map.specs.declared.hob.CpuSize.{CpuSize}
 use Rattle.gcd_map.specs.declared.hob.TheConstants.{SYSTEM_MEMORY, MEMORY_MAPPED_IO, FIRMWARE_DEVICE, MEMORY_MAPPED_IO_PORT, MEMORY_RESERVED}
-use Rattle.gcd_map.specs.declared.map.TheConstants.{LEAST_BITS, MOST_BITS}
+use Rattle.gcd_map.specs.{declared.map.TheConstants.LEAST_BITS, declared.map.TheConstants.MOST_BITS, Stretch.AllIn}
 use Rattle.gcd_map.specs.AddressSpace.{MemorySpace, state_at, with_change, add_change, allocate_change, empty_space}
-use Rattle.gcd_map.specs.Stretch.{AllIn}
 use Rattle.gcd_map.specs.Commands.{IsAbsent, IsFreeOf}
 
 -- the kind of a resource type

@@ -1,17 +1,12 @@
 -- What is printed of commands and of the map (own): a line is a keyword and words with a space between. Addresses and lengths are hexadecimal, lines and offsets decimal.
-use Rattle.std.specs.Prelude.{ℕ, Bool, true, false, List, [], ◌∷◌, codes, decimal}
-use Rattle.std.specs.List.{flat_map}
+use Rattle.std.specs.Prelude.{ℕ, Bool, true, false, List, [], ◌∷◌, codes, decimal, flat_map}
 use Rattle.pi_base.specs.WordText.{hexadecimal}
 use Rattle.boot_io.specs.Line.{line_of}
-use Rattle.gcd_map.specs.declared.state.GcdKind.{GcdKind}
+use Rattle.gcd_map.specs.{declared.state.GcdKind.GcdKind, declared.range.GcdRange.GcdRange, declared.word.GcdWord.GcdWord}
 use Rattle.gcd_map.specs.declared.state.GcdKind.TheVariants.{NonExistent, Reserved, System, Mmio}
-use Rattle.gcd_map.specs.declared.range.GcdRange.{GcdRange}
-use Rattle.gcd_map.specs.declared.word.GcdWord.{GcdWord}
 use Rattle.gcd_map.specs.declared.word.GcdWord.TheVariants as W
-use Rattle.gcd_map.specs.declared.fault.GcdCause.{GcdCause}
+use Rattle.gcd_map.specs.{declared.fault.GcdCause.GcdCause, declared.fault.GcdFault.GcdFault, declared.command.Command.Command}
 use Rattle.gcd_map.specs.declared.fault.GcdCause.TheVariants as C
-use Rattle.gcd_map.specs.declared.fault.GcdFault.{GcdFault}
-use Rattle.gcd_map.specs.declared.command.Command.{Command}
 use Rattle.gcd_map.specs.declared.command.Command.TheVariants.{Add, Allocate, Top, Free, Remove}
 use Rattle.gcd_map.specs.declared.perform.Answer.{Answer}
 use Rattle.gcd_map.specs.declared.perform.Answer.TheVariants.{Done, At, Refused}

@@ -1,8 +1,6 @@
 -- A memory space has one map.
 use Rattle.std.specs.Prelude.{◌≡◌, ℕ, ◌<◌, List}
-use Rattle.gcd_map.specs.declared.range.GcdRange.{GcdRange}
-use Rattle.gcd_map.specs.AddressSpace.{MemorySpace, state_at}
-use Rattle.gcd_map.specs.SpaceMap.{IsSpaceMap}
+use Rattle.gcd_map.specs.{declared.range.GcdRange.GcdRange, AddressSpace.MemorySpace, AddressSpace.state_at, SpaceMap.IsSpaceMap}
 
 -- spaces of one limit whose addresses below it have the same states have the same map
 abbrev pub OneMap : Type 0

@@ -1,16 +1,10 @@
 -- The causes of refusals, and places in a list.
 use Rattle.std.specs.Prelude.{◌≡◌, ◌≢◌, ℕ, ◌^◌, ◌<◌, List, Option, None, Some}
-use Rattle.hob_codec.specs.declared.fault.HobFault.{HobFault}
-use Rattle.hob_codec.specs.HobList.{fault_at}
-use Rattle.gcd_map.specs.HobFaults.{walk_cause}
-use Rattle.hob_codec.specs.declared.list.HobPlace.{HobPlace}
-use Rattle.gcd_map.specs.declared.hob.HobStretch.{HobStretch}
-use Rattle.gcd_map.specs.declared.word.GcdWord.{GcdWord}
+use Rattle.hob_codec.specs.{declared.fault.HobFault.HobFault, HobList.fault_at, declared.list.HobPlace.HobPlace}
+use Rattle.gcd_map.specs.{HobFaults.walk_cause, declared.hob.HobStretch.HobStretch, declared.word.GcdWord.GcdWord}
 use Rattle.gcd_map.specs.declared.word.GcdWord.TheVariants as word
-use Rattle.gcd_map.specs.declared.fault.GcdCause.{GcdCause}
+use Rattle.gcd_map.specs.{declared.fault.GcdCause.GcdCause, declared.fault.GcdFault.GcdFault, SpaceMap.MapState, SpaceMap.Shows}
 use Rattle.gcd_map.specs.declared.fault.GcdCause.TheVariants.{Memory, Range, Overlap, Outside}
-use Rattle.gcd_map.specs.declared.fault.GcdFault.{GcdFault}
-use Rattle.gcd_map.specs.SpaceMap.{MapState, Shows}
 use Rattle.gcd_map.specs.AddressSpace.{MemorySpace}
 
 -- the place fits a fault

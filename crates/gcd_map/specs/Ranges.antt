@@ -1,8 +1,6 @@
 -- A list of ranges that shows the states of a space's addresses: in order of base, none empty, without a gap, and no two neighbours of one state.
 use Rattle.std.specs.Prelude.{◌≡◌, ◌≢◌, ℕ, ◌+◌, ◌^◌, ◌<◌, List, [], ◌∷◌}
-use Rattle.gcd_map.specs.declared.state.SpaceState.{SpaceState}
-use Rattle.gcd_map.specs.declared.range.GcdRange.{GcdRange}
-use Rattle.gcd_map.specs.Stretch.{AllIn}
+use Rattle.gcd_map.specs.{declared.state.SpaceState.SpaceState, declared.range.GcdRange.GcdRange, Stretch.AllIn}
 
 abbrev pub state_of : GcdRange → SpaceState
 state_of range = record { kind = range.kind; allocated = range.allocated }

@@ -1,12 +1,9 @@
 -- Runs of commands: each is answered over the memory space that those before it left.
 use Rattle.std.specs.Prelude.{◌≡◌, ◌≢◌, ℕ, List, [], ◌∷◌, Result, Ok, Err}
-use Rattle.gcd_map.specs.declared.word.GcdWord.{GcdWord}
-use Rattle.gcd_map.specs.declared.word.GcdWord.TheVariants.{Memory}
-use Rattle.gcd_map.specs.declared.command.Command.{Command}
+use Rattle.gcd_map.specs.{declared.word.GcdWord.GcdWord, declared.word.GcdWord.TheVariants.Memory, declared.command.Command.Command}
 use Rattle.gcd_map.specs.declared.command.Command.TheVariants.{Add, Allocate, Top, Free, Remove}
-use Rattle.gcd_map.specs.declared.perform.Answer.{Answer}
+use Rattle.gcd_map.specs.{declared.perform.Answer.Answer, AddressSpace.MemorySpace}
 use Rattle.gcd_map.specs.declared.perform.Answer.TheVariants.{Done, At, Refused}
-use Rattle.gcd_map.specs.AddressSpace.{MemorySpace}
 use Rattle.gcd_map.specs.Commands.{AddRow, AllocateRow, TopRow, FreeRow, RemoveRow}
 
 -- the answer of a service that answers no base

@@ -1,8 +1,6 @@
 -- The memory space map of a memory space: the one list of ranges from 0 to the limit that shows its states.
 use Rattle.std.specs.Prelude.{◌≡◌, ℕ, ◌^◌, ◌<◌, ◌≤◌, List}
-use Rattle.gcd_map.specs.declared.range.GcdRange.{GcdRange}
-use Rattle.gcd_map.specs.AddressSpace.{MemorySpace, state_at}
-use Rattle.gcd_map.specs.Ranges.{Cover, Differ}
+use Rattle.gcd_map.specs.{declared.range.GcdRange.GcdRange, AddressSpace.MemorySpace, AddressSpace.state_at, Ranges.Cover, Ranges.Differ}
 
 pub record IsSpaceMap (space : MemorySpace) (ranges : List GcdRange) : Type 0 where
   pub covered : Cover (state_at space) 0 ranges space.limit

@@ -1,10 +1,7 @@
 -- Tests of ranges, one after another, that tell of each address of a stretch.
 use Rattle.std.specs.Prelude.{◌≡◌, ◌⊎◌, ℕ, zero, suc, ◌+◌, ◌%◌, ◌<◌, ◌≤◌, List, [], ◌∷◌, length, Option, Some, None}
-use Rattle.gcd_map.specs.declared.state.SpaceState.{SpaceState}
-use Rattle.gcd_map.specs.declared.range.GcdRange.{GcdRange}
-use Rattle.gcd_map.specs.declared.need.Need.{Need}
+use Rattle.gcd_map.specs.{declared.state.SpaceState.SpaceState, declared.range.GcdRange.GcdRange, declared.need.Need.Need, Ranges.state_of}
 use Rattle.gcd_map.specs.declared.need.Need.TheVariants.{Absent, Present, Allocated, Free, FreeOf}
-use Rattle.gcd_map.specs.Ranges.{state_of}
 use Rattle.gcd_map.specs.Commands.{IsAbsent, IsPresent, IsAllocated, IsFree, IsFreeOf, IsNotFreeOf}
 
 -- the state is as it is needed

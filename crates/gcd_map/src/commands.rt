@@ -1,7 +1,6 @@
 // The commands of a text.
 ghost use Rattle.std.specs.Prelude.{◌≡◌, ◌⊎◌, ◌<◌, ◌-◌, ◌^◌, ℕ, List, length, IfOk, IfErr};
-ghost use Rattle.gcd_map.specs.declared.command.Command.{Command};
-ghost use Rattle.gcd_map.specs.CommandText.{AreCommands, IsFirstBad};
+ghost use Rattle.gcd_map.specs.{declared.command.Command.Command, CommandText.AreCommands, CommandText.IsFirstBad};
 ghost use Rattle.gcd_map.specs.CommandFaults.{IsCommandFault, TakesLine};
 
 use crate::command::{Command, read_command};

@@ -1,9 +1,7 @@
 // The resources and allocations of a HOB list, one after another.
 ghost use Rattle.std.specs.Prelude.{◌≡◌, ◌≢◌, ◌<◌, ◌^◌, MatchResult};
 ghost use Rattle.pi_base.specs.Lists.{Each};
-ghost use Rattle.gcd_map.specs.declared.fault.GcdCause.TheVariants.{Memory};
-ghost use Rattle.gcd_map.specs.AddressSpace.{MemorySpace};
-ghost use Rattle.gcd_map.specs.SpaceMap.{Shows};
+ghost use Rattle.gcd_map.specs.{declared.fault.GcdCause.TheVariants.Memory, AddressSpace.MemorySpace, SpaceMap.Shows};
 ghost use Rattle.gcd_map.specs.HobMap.{resource_at, allocation_at, resources, allocations, MayCome, came, MayBeTaken, taken, Follow, IsFilled};
 ghost use Rattle.gcd_map.specs.HobFaults.{ComesNot, IsNotTaken, Stops, IsMemoryFault};
 ghost use Rattle.gcd_map.specs.Places.{IsNear, resource_cause, allocation_cause, Step, IsStepFault};

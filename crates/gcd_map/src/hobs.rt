@@ -1,13 +1,9 @@
 // The memory space map of a HOB list.
 ghost use Rattle.std.specs.Prelude.{◌≡◌, ◌≢◌, ◌⊎◌, ◌<◌, ◌≤◌, ◌^◌, ℕ, List, length, IfOk, IfErr, IfSome, MatchResult};
 ghost use Rattle.pi_base.specs.Lists.{Each};
-ghost use Rattle.gcd_map.specs.declared.fault.GcdFault.{GcdFault};
-ghost use Rattle.gcd_map.specs.declared.fault.GcdCause.TheVariants.{Memory};
-ghost use Rattle.gcd_map.specs.AddressSpace.{MemorySpace};
-ghost use Rattle.gcd_map.specs.SpaceMap.{Shows};
+ghost use Rattle.gcd_map.specs.{declared.fault.GcdFault.GcdFault, declared.fault.GcdCause.TheVariants.Memory, AddressSpace.MemorySpace};
+ghost use Rattle.gcd_map.specs.{SpaceMap.Shows, HobFaults.IsBitsFault, HobFaults.IsFirstFault, Places.IsNear};
 ghost use Rattle.gcd_map.specs.HobMap.{first_cpu, AreBitsOf, IsSpaceOf};
-ghost use Rattle.gcd_map.specs.HobFaults.{IsBitsFault, IsFirstFault};
-ghost use Rattle.gcd_map.specs.Places.{IsNear};
 
 use crate::fault::{GcdCause, GcdFault};
 use crate::fill::fill;

@@ -1,9 +1,7 @@
 // The memory space map.
 ghost use Rattle.std.specs.Prelude.{◌≡◌, ◌<◌, ◌≤◌, ◌+◌, ◌^◌, IfOk, SomeIff, MatchBool, MatchResult};
-ghost use Rattle.gcd_map.specs.declared.word.GcdWord.TheVariants.{Memory};
+ghost use Rattle.gcd_map.specs.{declared.word.GcdWord.TheVariants.Memory, Stretch.AllIn, Stretch.SomeIn, Tests.Meets, Tests.Misses};
 ghost use Rattle.gcd_map.specs.AddressSpace.{MemorySpace, empty_space, state_at, with_change};
-ghost use Rattle.gcd_map.specs.Stretch.{AllIn, SomeIn};
-ghost use Rattle.gcd_map.specs.Tests.{Meets, Misses};
 ghost use Rattle.gcd_map.specs.Commands.{AddRow, AllocateRow, TopRow, FreeRow, RemoveRow};
 ghost use Rattle.gcd_map.specs.SpaceMap.{IsSpaceMap, Shows, AfterEach};
 ghost use Rattle.gcd_map.specs.OneMap.{OneMap};

@@ -1,7 +1,6 @@
 // Doing commands.
 ghost use Rattle.std.specs.Prelude.{◌≡◌, map, IfOk};
-ghost use Rattle.gcd_map.specs.SpaceMap.{AfterEach};
-ghost use Rattle.gcd_map.specs.Run.{CommandRow, IsRun};
+ghost use Rattle.gcd_map.specs.{SpaceMap.AfterEach, Run.CommandRow, Run.IsRun};
 
 use crate::command::Command;
 use crate::map::GcdMap;

@@ -1,8 +1,6 @@
 // Look-ups and tests of ranges.
 ghost use Rattle.std.specs.Prelude.{◌≡◌, ◌⊎◌, ◌<◌, ◌≤◌, ◌+◌, ℕ, length, drop, MatchBool};
-ghost use Rattle.gcd_map.specs.declared.state.SpaceState.{SpaceState};
-ghost use Rattle.gcd_map.specs.Ranges.{Cover, DoesFit};
-ghost use Rattle.gcd_map.specs.Stretch.{AllIn, SomeIn};
+ghost use Rattle.gcd_map.specs.{declared.state.SpaceState.SpaceState, Ranges.Cover, Ranges.DoesFit, Stretch.AllIn, Stretch.SomeIn};
 ghost use Rattle.pi_base.specs.Lists.{Each};
 ghost use Rattle.gcd_map.specs.Tests.{Meets, Misses, EachMeets, SomeMisses, IsRangeOf, base_at, IsHighestIn, IsHighest};
 

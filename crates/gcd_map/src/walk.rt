@@ -2,8 +2,7 @@
 ghost use Rattle.std.specs.Prelude.{◌≡◌, ◌≢◌, ◌<◌, ◌≤◌, ◌+◌, ◌^◌, length, None, IfOk, IfErr, MatchResult};
 ghost use Rattle.pi_base.specs.Lists.{Each};
 ghost use Rattle.hob_codec.specs.HobList.{AreHobs, fault_at, place_at};
-ghost use Rattle.gcd_map.specs.declared.fault.GcdCause.TheVariants.{Memory};
-ghost use Rattle.gcd_map.specs.HobFaults.{walk_cause, IsWalkFault};
+ghost use Rattle.gcd_map.specs.{declared.fault.GcdCause.TheVariants.Memory, HobFaults.walk_cause, HobFaults.IsWalkFault};
 ghost use Rattle.gcd_map.specs.Places.{IsNear, IsPlaceFault};
 
 use crate::fault::{GcdCause, GcdFault};

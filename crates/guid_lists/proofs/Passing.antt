@@ -1,8 +1,7 @@
 -- A number goes from one GUID to another.
 use Rattle.std.proofs.Common.{◌≡◌, ℕ, Bool, true, false, cond, List, refl, sym, ap, ◌∙◌}
 use Rattle.std.proofs.lemmas.Slice.Eq.{bytes_eq-Decides}
-use Rattle.pi_base.specs.declared.guid.Guid.{Guid}
-use Rattle.pi_base.specs.Guids.{same_guid}
+use Rattle.pi_base.specs.{declared.guid.Guid.Guid, Guids.same_guid}
 use Rattle.guid_lists.specs.declared.lists.GuidLists.{GuidLists}
 use Rattle.guid_lists.specs.Lists.{HasInstead, Passes, list_of, with_number, without_number}
 

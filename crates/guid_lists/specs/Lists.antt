@@ -1,9 +1,7 @@
 -- The numbers that a GUID has, lowest first.
 -- Own.
 use Rattle.std.specs.Prelude.{◌≡◌, ℕ, suc, ◌<◌, ◌==◌, nat_lt, Bool, if◌then◌else◌, List, [], ◌∷◌, Some, None}
-use Rattle.pi_base.specs.declared.guid.Guid.{Guid}
-use Rattle.pi_base.specs.Guids.{same_guid}
-use Rattle.pi_base.specs.Lists.{Ordered}
+use Rattle.pi_base.specs.{declared.guid.Guid.Guid, Guids.same_guid, Lists.Ordered}
 use Rattle.indexmap.specs.IndexMap.{get_by}
 use Rattle.guid_lists.specs.declared.lists.GuidLists.{GuidLists}
 

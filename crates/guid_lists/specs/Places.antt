@@ -1,10 +1,8 @@
 -- The places of a list that pass a test, by GUID, and the first of them from one on.
 -- Own.
 use Rattle.std.specs.Prelude.{◌≡◌, ℕ, ◌<◌, ◌≤◌, Bool, true, false, List, filter, Option, Some, None}
-use Rattle.pi_base.specs.declared.guid.Guid.{Guid}
-use Rattle.pi_base.specs.Lists.{numbers}
-use Rattle.guid_lists.specs.declared.lists.GuidLists.{GuidLists}
-use Rattle.guid_lists.specs.Lists.{list_of}
+use Rattle.pi_base.specs.{declared.guid.Guid.Guid, Lists.numbers}
+use Rattle.guid_lists.specs.{declared.lists.GuidLists.GuidLists, Lists.list_of}
 
 -- the places before one that pass a test
 abbrev pub places : (ℕ → Bool) → ℕ → List ℕ

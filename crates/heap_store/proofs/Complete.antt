@@ -1,27 +1,19 @@
 -- Where all four lists and the HOBs are walked, the bytes are the image of the state after the move.
 use Rattle.std.proofs.Common.{◌≡◌, ℕ, ◌+◌, ◌-◌, ◌==◌, ◌||◌, Bool, true, false, cond, List, [], ◌∷◌, ◌++◌, length, replicate, arith, ap, refl, sym, ◌∙◌, None, append_assoc, sum_by, length-append}
 use Rattle.hob_codec.specs.declared.kind.TheConstants.{END}
-use Rattle.store_model.specs.declared.state.Body.{Body}
+use Rattle.store_model.specs.{declared.state.Body.Body, declared.state.HobEntry.HobEntry, StateFacts.IsStoreState, StateFacts.IsHobEntry}
 use Rattle.store_model.specs.declared.state.Body.TheVariants.{Bytes, Descriptor, Node, Allocation}
-use Rattle.store_model.specs.declared.state.HobEntry.{HobEntry}
 use Rattle.pi_base.specs.Lists.{Each}
 use Rattle.pi_base.proofs.ListFacts.{each_more}
 use Rattle.store_model.specs.StoreState.{Range, StoreState, hob_len, body_len, end_place}
 use Rattle.store_model.specs.HeapImage.{header_bytes, descriptor_bytes, node_bytes, allocation_bytes, links_at, links_bytes, hobs_bytes, heap_image}
-use Rattle.store_model.specs.StateFacts.{IsStoreState, IsHobEntry}
 use Rattle.store_model.specs.Migration.{migrated_to, moved_descriptor, moved_body, moved_hobs}
-use Rattle.store_laws.proofs.Moved.{moved_len}
-use Rattle.store_laws.specs.Growing.{front_bytes}
-use Rattle.store_laws.specs.Spelling.{spelled}
+use Rattle.store_laws.proofs.{Moved.moved_len, Growing.spelled_len, Facts.bodies_are_spelled, Moving.heaps_are_moved, HeapItems.same_is}
+use Rattle.store_laws.specs.{Growing.front_bytes, Spelling.spelled}
 use Rattle.store_laws.specs.Moving.{Done, half, all_done}
-use Rattle.store_laws.proofs.Growing.{spelled_len}
-use Rattle.store_laws.proofs.Facts.{bodies_are_spelled}
-use Rattle.store_laws.proofs.Moving.{heaps_are_moved}
-use Rattle.store_laws.proofs.HeapItems.{same_is}
 use Rattle.heap_store.specs.Half.{half_image, behind, lists_done}
 use Rattle.heap_store.specs.Pages.{with_pages, with_hobs}
-use Rattle.heap_store.proofs.Marks.{no_links, named_done}
-use Rattle.heap_store.proofs.Steps.{half_spelt}
+use Rattle.heap_store.proofs.{Marks.no_links, Marks.named_done, Steps.half_spelt}
 
 -- the HOBs' walk leaves nodes and descriptors
 step_nodes : (done : Done) (p : ℕ) (body : Body) → (with_pages done p body).nodes ≡ done.nodes

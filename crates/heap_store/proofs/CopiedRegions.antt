@@ -1,13 +1,11 @@
 -- A copy from one region to another that has no address of it.
-use Rattle.std.proofs.Common.{◌≡◌, ◌⊎◌, ℕ, ◌+◌, ◌-◌, ◌<◌, ◌≤◌, Bool, true, false, cond, List, [], ◌∷◌, ◌++◌, length, take, drop, arith, ap, refl, sym, ◌∙◌, Some, append_assoc}
-use Rattle.std.specs.Prelude.{◌&&◌, ◌||◌, map, option_map}
+use Rattle.std.proofs.Common.{◌≡◌, ◌⊎◌, ℕ, ◌+◌, ◌-◌, ◌<◌, ◌≤◌, Bool, true, false, cond, List, [], ◌∷◌, ◌++◌, length, take, drop, arith, ap, refl, sym, ◌∙◌, Some, append_assoc, ◌&&◌, ◌||◌, map, option_map}
 use Rattle.std.proofs.lemmas.Bool.Decides.{nat_tests}
 use Rattle.std.proofs.lemmas.List.{take-replicate, drop-replicate, replicate-append-replicate}
 use Rattle.phys_mem.specs.Region.{Region, is_inside, replaced}
 use Rattle.phys_mem.specs.Regions.{rom_region, bytes_at, written, share, copy_of, copied}
 use Rattle.pi_base.specs.Lists.{Each}
-use Rattle.store_model.specs.StoreState.{Board, Rom}
-use Rattle.store_model.specs.StateFacts.{IsMapped}
+use Rattle.store_model.specs.{StoreState.Board, StoreState.Rom, StateFacts.IsMapped}
 use Rattle.heap_store.proofs.ListBytes.{zeros}
 use Rattle.store_laws.proofs.Mapped.{write_region}
 

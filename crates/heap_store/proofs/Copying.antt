@@ -1,20 +1,16 @@
 -- The copy of the HOB list: only temporary RAM has the one range, and only RAM the other.
-use Rattle.std.proofs.Common.{◌≡◌, ℕ, ◌+◌, ◌-◌, ◌<◌, ◌≤◌, true, false, List, ◌∷◌, ◌++◌, length, take, drop, arith, ap, refl, sym, subst, ◌∙◌, Option, Some, None, length-append}
-use Rattle.std.specs.Prelude.{map, option_map}
-use Rattle.std.specs.Option.{option_to_list}
-use Rattle.std.proofs.lemmas.List.{take_at, length-replicate}
+use Rattle.std.proofs.Common.{◌≡◌, ℕ, ◌+◌, ◌-◌, ◌<◌, ◌≤◌, true, false, List, ◌∷◌, ◌++◌, length, take, drop, arith, ap, refl, sym, subst, ◌∙◌, Option, Some, None, length-append, map, option_map, option_to_list, take_at}
+use Rattle.std.proofs.lemmas.List.{length-replicate}
 use Rattle.phys_mem.specs.Region.{Region, is_inside, replaced}
 use Rattle.phys_mem.specs.Regions.{rom_region, ram_region, fixed_regions, regions, bytes_at, share, copied}
-use Rattle.phys_mem.specs.declared.bank.Bank.{Bank}
-use Rattle.phys_mem.specs.declared.memory.PhysMem.{PhysMem}
+use Rattle.phys_mem.specs.{declared.bank.Bank.Bank, declared.memory.PhysMem.PhysMem}
 use Rattle.store_model.specs.StoreState.{Range, Rom, StoreState, end_place}
 use Rattle.store_model.specs.HeapImage.{body_bytes, hob_list, heap_image}
 use Rattle.store_model.specs.Migration.{migrated_to}
 use Rattle.store_laws.specs.Spelling.{AreSpelled}
 use Rattle.store_laws.specs.Mapped.{layout_of, regions_by, IsPlacedBy}
 use Rattle.store_laws.proofs.Words.{has_read}
-use Rattle.heap_store.specs.Copied.{copied_image, IsCopied}
-use Rattle.heap_store.specs.Ready.{IsMoving}
+use Rattle.heap_store.specs.{Copied.copied_image, Copied.IsCopied, Ready.IsMoving}
 use Rattle.heap_store.proofs.Readiness.{heap_of, placed_in, is_ready}
 use Rattle.heap_store.proofs.ListBytes.{zeros, list_len, copied_is}
 use Rattle.heap_store.proofs.CopiedRegions.{is_in, away, turned, roms_apart, zeros_written, copied_regions}

@@ -1,32 +1,21 @@
 -- The row of the core's call: the descriptor and the PPI of permanent memory.
-use Rattle.std.proofs.Common.{◌≡◌, ◌∙◌, ◌≤◌, ◌<◌, ◌+◌, ℕ, Bool, true, false, cond, List, [], ◌∷◌, ◌++◌, length, Some, None, Ok, Err, ap, refl, sym, subst, arith, true≢false}
-use Rattle.std.specs.Prelude.{nat_lt, not, map, filter}
+use Rattle.std.proofs.Common.{◌≡◌, ◌∙◌, ◌≤◌, ◌<◌, ◌+◌, ℕ, Bool, true, false, cond, List, [], ◌∷◌, ◌++◌, length, Some, None, Ok, Err, ap, refl, sym, subst, arith, true≢false, nat_lt, not, map, filter}
 use Rattle.std.specs.List.{list_all}
 use Rattle.std.proofs.lemmas.Bool.Decides.{nat_tests}
-use Rattle.pi_base.specs.declared.guid.Guid.{Guid}
-use Rattle.pi_base.specs.Guids.{same_guid}
-use Rattle.pi_base.specs.Lists.{Each}
-use Rattle.pi_base.specs.declared.known_guid.TheConstants.{MEMORY_PPI}
-use Rattle.store_model.specs.declared.state.TheConstants.{CORE}
-use Rattle.store_model.specs.declared.state.Body.TheVariants.{Descriptor}
-use Rattle.store_model.specs.declared.state.DescriptorBody.{DescriptorBody}
-use Rattle.store_model.specs.declared.state.Entry.{Entry}
-use Rattle.store_model.specs.declared.store_handle.Desc.{Desc}
+use Rattle.pi_base.specs.{declared.guid.Guid.Guid, Guids.same_guid, Lists.Each, declared.known_guid.TheConstants.MEMORY_PPI}
+use Rattle.store_model.specs.{declared.state.TheConstants.CORE, declared.state.Body.TheVariants.Descriptor}
+use Rattle.store_model.specs.{declared.state.DescriptorBody.DescriptorBody, declared.state.Entry.Entry, declared.store_handle.Desc.Desc}
 use Rattle.store_model.specs.declared.store_handle.DescKind.TheVariants.{Ppi, Dispatch}
-use Rattle.store_model.specs.declared.store_handle.EntryTold.{EntryTold}
-use Rattle.store_model.specs.declared.store_handle.EntryList.TheVariants.{Dispatches}
-use Rattle.store_model.specs.declared.store_handle.GuidFrom.TheVariants.{Inline}
-use Rattle.store_model.specs.declared.store_handle.StoreFault.{StoreFault}
+use Rattle.store_model.specs.{declared.store_handle.EntryTold.EntryTold, declared.store_handle.EntryList.TheVariants.Dispatches}
+use Rattle.store_model.specs.{declared.store_handle.GuidFrom.TheVariants.Inline, declared.store_handle.StoreFault.StoreFault}
 use Rattle.store_model.specs.declared.store_handle.StoreFault.TheVariants as F
-use Rattle.store_model.specs.declared.store_handle.Sweep.{Sweep}
+use Rattle.store_model.specs.{declared.store_handle.Sweep.Sweep, Service.Reading.entry_told, Service.Reading.told_of}
 use Rattle.store_model.specs.StoreState.{StoreState, appended, body_at, free, next_body, pool_of}
 use Rattle.store_model.specs.StateFacts.{IsDesc, IsEntry, IsStoreState}
 use Rattle.store_model.specs.Service.{Answers, Service, in_room, unless_bad}
 use Rattle.store_model.specs.Service.Descriptor.{desc, descriptors, guid_at, is_ppi, kind_at}
 use Rattle.store_model.specs.Service.Install.{both_or_full, core_install, core_of, install, install_pairs, install_sweep, installed, node_need, pairs_of}
-use Rattle.store_model.specs.Service.Reading.{entry_told, told_of}
-use Rattle.store_laws.specs.Bodies.{BodiesStay, IsGrown}
-use Rattle.store_laws.specs.Steps.{IsStep, StepsKeepFacts}
+use Rattle.store_laws.specs.{Bodies.BodiesStay, Bodies.IsGrown, Steps.IsStep, Steps.StepsKeepFacts}
 use Rattle.pei_heap.proofs.NewDescriptors.{new_step}
 use Rattle.heap_store.proofs.HandedIn.{guid_is, kind_is}
 

@@ -1,13 +1,8 @@
 -- The dispatch notifications of a GUID that a walk has counted.
-use Rattle.std.proofs.Common.{◌≡◌, ◌∙◌, ◌≤◌, ◌+◌, ◌^◌, ℕ, Bool, true, false, cond, List, [], ◌∷◌, length, Option, Some, None, ap, sym, refl, arith}
-use Rattle.std.specs.Prelude.{filter}
-use Rattle.pi_base.specs.declared.guid.Guid.{Guid}
-use Rattle.pi_base.specs.Guids.{same_guid}
-use Rattle.store_model.specs.declared.store_handle.EntryTold.{EntryTold}
-use Rattle.store_model.specs.declared.store_handle.EntryList.TheVariants.{Dispatches}
-use Rattle.store_model.specs.StoreState.{StoreState}
-use Rattle.store_model.specs.StateFacts.{IsStoreState}
-use Rattle.store_model.specs.StoreCall.{IsNodeIn}
+use Rattle.std.proofs.Common.{◌≡◌, ◌∙◌, ◌≤◌, ◌+◌, ◌^◌, ℕ, Bool, true, false, cond, List, [], ◌∷◌, length, Option, Some, None, ap, sym, refl, arith, filter}
+use Rattle.pi_base.specs.{declared.guid.Guid.Guid, Guids.same_guid}
+use Rattle.store_model.specs.{declared.store_handle.EntryTold.EntryTold, declared.store_handle.EntryList.TheVariants.Dispatches}
+use Rattle.store_model.specs.{StoreState.StoreState, StateFacts.IsStoreState, StoreCall.IsNodeIn}
 use Rattle.store_model.specs.Service.Reading.{entry_behind, told_of}
 use Rattle.store_laws.specs.Behind.{EntriesAreTold, left_behind}
 use Rattle.heap_store.proofs.ListTests.{kept_by}

@@ -1,19 +1,15 @@
 -- A descriptor, moved: the numbers that are read are the old or the new, and what is written are the new.
 use Rattle.std.proofs.Common.{◌≡◌, ℕ, ◌+◌, ◌-◌, Bool, true, false, cond, length, take, drop, arith, ap, refl, sym, ◌∙◌, Some}
 use Rattle.phys_mem.specs.Region.{replaced}
-use Rattle.store_model.specs.declared.state.Body.TheVariants.{Descriptor}
-use Rattle.store_model.specs.declared.state.DescriptorBody.{DescriptorBody}
+use Rattle.store_model.specs.{declared.state.Body.TheVariants.Descriptor, declared.state.DescriptorBody.DescriptorBody}
 use Rattle.store_model.specs.StoreState.{Range, StoreState, body_at, body_len}
 use Rattle.store_model.specs.HeapImage.{kind_flags, guid_behind, guid_address, body_bytes}
 use Rattle.store_model.specs.Migration.{moved_descriptor, moved_value, moved_number}
 use Rattle.store_laws.specs.Moving.{Done, half, with_descriptor}
 use Rattle.store_laws.specs.Spelling.{spelled}
 use Rattle.store_laws.proofs.Moving.{descriptors_are_moved}
-use Rattle.heap_store.specs.declared.course.Course.{Course}
-use Rattle.heap_store.specs.declared.words.Words.{Words}
+use Rattle.heap_store.specs.{declared.course.Course.Course, declared.words.Words.Words, Half.half_image, Ready.IsReady}
 use Rattle.heap_store.specs.WordBytes.{words_bytes, descriptor_words, shifted_descriptor}
-use Rattle.heap_store.specs.Half.{half_image}
-use Rattle.heap_store.specs.Ready.{IsReady}
 use Rattle.heap_store.proofs.Numbers.{guid_moves, guid_stays, value_once, value_low, flags_low, guid_low}
 use Rattle.heap_store.proofs.Steps.{step_read, step_written, half_spelt, descriptor_is, spelt_descriptor}
 use Rattle.heap_store.proofs.MovedBodies.{inside, descriptor_long, same_words, AreLow, old_low, new_low, spelt_at}

@@ -1,20 +1,12 @@
 -- The hand-off HOB of the old heap, and the one of the new.
 use Rattle.std.proofs.Common.{◌≡◌, ℕ, ◌+◌, ◌-◌, ◌≤◌, List, ◌++◌, arith, ap, refl, sym, ◌∙◌, append_assoc}
 use Rattle.phys_mem.specs.Region.{replaced}
-use Rattle.hob_codec.specs.declared.kind.TheConstants.{HANDOFF}
-use Rattle.hob_codec.specs.HobValue.{HandoffHob}
-use Rattle.hob_codec.specs.HobBytes.{fields_of, joined}
+use Rattle.hob_codec.specs.{declared.kind.TheConstants.HANDOFF, HobValue.HandoffHob, HobBytes.fields_of, HobBytes.joined}
 use Rattle.store_model.specs.StoreState.{Range, StoreState, end_place, page_bytes}
-use Rattle.store_model.specs.HeapImage.{header_bytes}
-use Rattle.store_model.specs.Migration.{migrated_to}
-use Rattle.store_laws.specs.Growing.{front_bytes}
-use Rattle.store_laws.specs.Spelling.{spelled}
-use Rattle.store_laws.specs.Moving.{half}
-use Rattle.heap_store.specs.declared.course.Course.{Course}
-use Rattle.heap_store.specs.declared.words.Words.{Words}
-use Rattle.heap_store.specs.WordBytes.{words_bytes}
+use Rattle.store_model.specs.{HeapImage.header_bytes, Migration.migrated_to}
+use Rattle.store_laws.specs.{Growing.front_bytes, Spelling.spelled, Moving.half}
+use Rattle.heap_store.specs.{declared.course.Course.Course, declared.words.Words.Words, WordBytes.words_bytes, Copied.copied_image}
 use Rattle.heap_store.specs.Half.{half_image, behind, none_done}
-use Rattle.heap_store.specs.Copied.{copied_image}
 use Rattle.heap_store.specs.Ready.{IsReady}
 use Rattle.heap_store.proofs.MovedBodies.{same_words}
 use Rattle.store_laws.proofs.Moved.{sum_moved}

@@ -1,14 +1,11 @@
 -- The ends of the lists, moved.
 use Rattle.std.proofs.Common.{◌≡◌, ℕ, ap, sym, ◌∙◌}
-use Rattle.store_model.specs.declared.store_handle.EntryList.{EntryList}
-use Rattle.store_model.specs.StoreState.{Range, StoreState}
+use Rattle.store_model.specs.{declared.store_handle.EntryList.EntryList, StoreState.Range, StoreState.StoreState}
 use Rattle.store_model.specs.Migration.{migrated_to, moved_number}
-use Rattle.store_laws.specs.Heads.{last_address}
-use Rattle.store_laws.specs.Items.{first_address}
+use Rattle.store_laws.specs.{Heads.last_address, Items.first_address}
 use Rattle.pei_heap.specs.Linked.{AreEnds}
-use Rattle.heap_store.specs.declared.course.Course.{Course}
+use Rattle.heap_store.specs.{declared.course.Course.Course, Ready.IsReady}
 use Rattle.heap_store.specs.Linked.{links_of, address, first_of, last_of}
-use Rattle.heap_store.specs.Ready.{IsReady}
 use Rattle.heap_store.proofs.Links.{items_old, items_new, first_is, last_is, first_low, last_low}
 use Rattle.heap_store.proofs.Numbers.{address_moves}
 

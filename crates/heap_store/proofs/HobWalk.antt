@@ -1,16 +1,10 @@
 -- The HOBs of a heap's bytes, one after another.
-use Rattle.std.proofs.Common.{◌≡◌, ◌≢◌, ℕ, zero, suc, ◌+◌, ◌<◌, ◌≤◌, ◌==◌, Bool, true, false, cond, List, [], ◌∷◌, ◌++◌, length, take, drop, arith, ap, refl, sym, subst, ◌∙◌, Option, Some, sum_by, append_assoc}
-use Rattle.std.proofs.lemmas.Bool.Decides.{nat_tests}
-use Rattle.std.proofs.lemmas.List.{drop-drop, drop_at}
-use Rattle.std.proofs.lemmas.List.Sums.{sum_by-cons, sum_by-take-drop}
-use Rattle.store_model.specs.declared.state.Body.{Body}
-use Rattle.store_model.specs.declared.state.HobEntry.{HobEntry}
+use Rattle.std.proofs.Common.{◌≡◌, ◌≢◌, ℕ, zero, suc, ◌+◌, ◌<◌, ◌≤◌, ◌==◌, Bool, true, false, cond, List, [], ◌∷◌, ◌++◌, length, take, drop, arith, ap, refl, sym, subst, ◌∙◌, Option, Some, sum_by, append_assoc, drop-drop, drop_at}
+use Rattle.std.proofs.{lemmas.Bool.Decides.nat_tests, lemmas.List.Sums.sum_by-cons, lemmas.List.Sums.sum_by-take-drop}
+use Rattle.store_model.specs.{declared.state.Body.Body, declared.state.HobEntry.HobEntry, HeapImage.header_bytes, HeapImage.body_bytes}
 use Rattle.store_model.specs.StoreState.{Range, StoreState, hob_len, body_len, body_from}
-use Rattle.store_model.specs.HeapImage.{header_bytes, body_bytes}
 use Rattle.store_model.specs.Migration.{migrated_to}
-use Rattle.store_laws.specs.Growing.{front_bytes}
-use Rattle.store_laws.specs.Spelling.{spelled, AreSpelled}
-use Rattle.store_laws.specs.Moving.{Done, half}
+use Rattle.store_laws.specs.{Growing.front_bytes, Spelling.spelled, Spelling.AreSpelled, Moving.Done, Moving.half}
 use Rattle.store_laws.proofs.Pieces.{piece_later}
 use Rattle.heap_store.specs.Half.{half_image, behind}
 use Rattle.heap_store.proofs.Steps.{half_spelt}

@@ -1,30 +1,22 @@
 -- The rows of the calls that make entries.
-use Rattle.std.proofs.Common.{◌≡◌, ◌∙◌, ◌≤◌, ◌+◌, ℕ, true, false, cond, List, [], ◌∷◌, length, Ok, Err, ap, refl, sym, subst, arith}
-use Rattle.std.specs.Prelude.{fold, nat_lt, not}
+use Rattle.std.proofs.Common.{◌≡◌, ◌∙◌, ◌≤◌, ◌+◌, ℕ, true, false, cond, List, [], ◌∷◌, length, Ok, Err, ap, refl, sym, subst, arith, fold, nat_lt, not}
 use Rattle.std.specs.List.{list_all, list_any}
 use Rattle.std.proofs.lemmas.Bool.Decides.{nat_tests}
 use Rattle.pi_base.specs.Lists.{Each}
 use Rattle.phys_mem.specs.declared.memory.PhysMem.{PhysMem}
-use Rattle.store_model.specs.declared.store_handle.Desc.{Desc}
-use Rattle.store_model.specs.declared.store_handle.DescKind.TheVariants.{Ppi}
+use Rattle.store_model.specs.{declared.store_handle.Desc.Desc, declared.store_handle.DescKind.TheVariants.Ppi}
 use Rattle.store_model.specs.declared.store_handle.StoreFault.TheVariants.{Full, Missing}
-use Rattle.store_model.specs.declared.store_handle.Sweep.{Sweep}
-use Rattle.store_model.specs.StoreState.{StoreState, free}
-use Rattle.store_model.specs.StateFacts.{IsDesc, IsDescOf}
+use Rattle.store_model.specs.{declared.store_handle.Sweep.Sweep, StoreState.StoreState, StoreState.free}
+use Rattle.store_model.specs.{StateFacts.IsDesc, StateFacts.IsDescOf, Service.Descriptor.is_ppi, Service.Descriptor.kind_at}
 use Rattle.store_model.specs.Service.{Service, in_room, unless_bad}
-use Rattle.store_model.specs.Service.Descriptor.{is_ppi, kind_at}
 use Rattle.store_model.specs.Service.Install.{install, install_pairs, install_sweep, installed, is_installed, node_need, reinstall, reinstall_pairs, reinstall_sweep, reinstalled, with_pending, with_ppi}
 use Rattle.store_model.specs.Service.Notify.{notified, notify, notify_pairs, notify_sweep, with_note}
-use Rattle.pei_heap.specs.declared.links.heads.Heads.{Heads}
-use Rattle.pei_heap.specs.Linked.{IsLinked}
+use Rattle.pei_heap.specs.{declared.links.heads.Heads.Heads, Linked.IsLinked, Replaced.with_renamed}
 use Rattle.pei_heap.specs.Pairs.{CanQueueAll, CanQueueNew, queued}
-use Rattle.pei_heap.specs.Replaced.{with_renamed}
-use Rattle.heap_store.specs.declared.store.HeapStore.{HeapStore}
-use Rattle.heap_store.specs.HeapState.{StandsFor}
+use Rattle.heap_store.specs.{declared.store.HeapStore.HeapStore, HeapState.StandsFor}
 use Rattle.heap_store.specs.Made.{CanMakeNotes, CanMakePpis, IsMade, IsSame}
 use Rattle.heap_store.proofs.HandedIn.{each_ppi, still_descs, still_notes, still_ppis}
-use Rattle.heap_store.proofs.OnWay.{then_same}
-use Rattle.heap_store.proofs.Standing.{stands_linked}
+use Rattle.heap_store.proofs.{OnWay.then_same, Standing.stands_linked}
 
 queue_same : (by : ℕ) (pairs : List (ℕ × ℕ)) (t : StoreState) → IsSame t (queued by t pairs)
 queue_same by [] t = record { board = refl; planned = refl; moved = refl; taken = refl }

@@ -1,26 +1,18 @@
 -- The links of a list are its items, before the move and after, and its nodes say so.
-use Rattle.std.proofs.Common.{◌≡◌, ℕ, ◌<◌, ◌≤◌, List, [], ◌∷◌, length, drop, arith, ap, refl, sym, subst, ◌∙◌, Some}
-use Rattle.std.specs.Prelude.{map, IfSome}
+use Rattle.std.proofs.Common.{◌≡◌, ℕ, ◌<◌, ◌≤◌, List, [], ◌∷◌, length, drop, arith, ap, refl, sym, subst, ◌∙◌, Some, map, IfSome}
 use Rattle.std.proofs.lemmas.List.{length-map}
 use Rattle.pi_base.specs.Lists.{Each}
 use Rattle.pi_base.proofs.ListFacts.{each_more}
-use Rattle.store_model.specs.declared.state.Body.TheVariants.{Node}
-use Rattle.store_model.specs.declared.state.Entry.{Entry}
-use Rattle.store_model.specs.declared.state.Pending.{Pending}
-use Rattle.store_model.specs.declared.store_handle.DescKind.{DescKind}
+use Rattle.store_model.specs.{declared.state.Body.TheVariants.Node, declared.state.Entry.Entry, declared.state.Pending.Pending}
+use Rattle.store_model.specs.{declared.store_handle.DescKind.DescKind, declared.store_handle.EntryList.EntryList}
 use Rattle.store_model.specs.declared.store_handle.DescKind.TheVariants.{Ppi, Callback, Dispatch}
-use Rattle.store_model.specs.declared.store_handle.EntryList.{EntryList}
 use Rattle.store_model.specs.declared.store_handle.EntryList.TheVariants.{Ppis, Callbacks, Dispatches, Pendings}
-use Rattle.store_model.specs.StoreState.{Range, StoreState}
+use Rattle.store_model.specs.{StoreState.Range, StoreState.StoreState, HeapImage.links_at, Migration.migrated_to}
 use Rattle.store_model.specs.StateFacts.{IsStoreState, IsNodeAt, IsEntry, IsPending}
-use Rattle.store_model.specs.HeapImage.{links_at}
-use Rattle.store_model.specs.Migration.{migrated_to}
 use Rattle.store_laws.specs.Heads.{last_address}
 use Rattle.store_laws.specs.Items.{items, first_address, links_before}
-use Rattle.store_laws.proofs.Apart.{links_of_item}
-use Rattle.store_laws.proofs.Facts.{places_are_inside, has_room}
+use Rattle.store_laws.proofs.{Apart.links_of_item, Facts.places_are_inside, Facts.has_room, Short.lists_are_short}
 use Rattle.store_laws.proofs.Lists.{each_to_map, each_behind, map_map}
-use Rattle.store_laws.proofs.Short.{lists_are_short}
 use Rattle.heap_store.specs.Linked.{Link, entry_link, pending_link, links_of, address, item_at, first_of, last_of, fields, HasDescriptor, IsLink}
 
 -- the items of a list

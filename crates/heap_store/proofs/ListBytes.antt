@@ -1,19 +1,13 @@
 -- The bytes of the HOB list, and of its copy.
-use Rattle.std.proofs.Common.{◌≡◌, ℕ, ◌+◌, ◌-◌, List, [], ◌∷◌, ◌++◌, length, arith, ap, refl, sym, ◌∙◌, sum_by, append_assoc, length-append}
-use Rattle.std.specs.Prelude.{replicate}
+use Rattle.std.proofs.Common.{◌≡◌, ℕ, ◌+◌, ◌-◌, List, [], ◌∷◌, ◌++◌, length, arith, ap, refl, sym, ◌∙◌, sum_by, append_assoc, length-append, replicate}
 use Rattle.hob_codec.specs.declared.kind.TheConstants.{END}
-use Rattle.store_model.specs.declared.state.Body.{Body}
+use Rattle.store_model.specs.{declared.state.Body.Body, declared.state.HobEntry.HobEntry}
 use Rattle.store_model.specs.declared.state.Body.TheVariants.{Bytes, Descriptor, Node, Allocation}
-use Rattle.store_model.specs.declared.state.HobEntry.{HobEntry}
 use Rattle.store_model.specs.StoreState.{Range, StoreState, hob_len, end_place}
 use Rattle.store_model.specs.HeapImage.{header_bytes, body_bytes, hobs_bytes, hob_list}
-use Rattle.store_laws.specs.Growing.{front_bytes}
-use Rattle.store_laws.specs.Spelling.{spelled, AreSpelled}
-use Rattle.store_laws.specs.Moving.{half}
-use Rattle.store_laws.proofs.HeapBodies.{is_spelled}
-use Rattle.store_laws.proofs.Growing.{spelled_len}
-use Rattle.heap_store.specs.Half.{behind, none_done}
-use Rattle.heap_store.specs.Copied.{copied_image}
+use Rattle.store_laws.specs.{Growing.front_bytes, Spelling.spelled, Spelling.AreSpelled, Moving.half}
+use Rattle.store_laws.proofs.{HeapBodies.is_spelled, Growing.spelled_len}
+use Rattle.heap_store.specs.{Half.behind, Half.none_done, Copied.copied_image}
 
 abbrev pub zeros : ℕ → List ℕ
 zeros n = replicate n 0

@@ -1,17 +1,11 @@
 -- What is done when lists are walked: their nodes, and the descriptors that they name.
-use Rattle.std.proofs.Common.{◌≡◌, ◌≢◌, ℕ, ◌==◌, ◌||◌, Bool, true, false, List, [], ◌∷◌, ◌++◌, arith, ap, refl, sym, subst, ◌∙◌, Option, Some, None}
-use Rattle.std.specs.Prelude.{map}
+use Rattle.std.proofs.Common.{◌≡◌, ◌≢◌, ℕ, ◌==◌, ◌||◌, Bool, true, false, List, [], ◌∷◌, ◌++◌, arith, ap, refl, sym, subst, ◌∙◌, Option, Some, None, map}
 use Rattle.std.specs.List.{list_any}
-use Rattle.std.proofs.lemmas.List.{map-append}
-use Rattle.std.proofs.lemmas.Bool.Decides.{nat_tests}
-use Rattle.store_model.specs.declared.state.Entry.{Entry}
-use Rattle.store_model.specs.declared.state.Pending.{Pending}
-use Rattle.store_model.specs.declared.store_handle.EntryList.{EntryList}
+use Rattle.std.proofs.{lemmas.List.map-append, lemmas.Bool.Decides.nat_tests}
+use Rattle.store_model.specs.{declared.state.Entry.Entry, declared.state.Pending.Pending, declared.store_handle.EntryList.EntryList}
 use Rattle.store_model.specs.declared.store_handle.EntryList.TheVariants.{Ppis, Callbacks, Dispatches, Pendings}
 use Rattle.pi_base.specs.Lists.{Each}
-use Rattle.store_model.specs.StoreState.{StoreState}
-use Rattle.store_model.specs.HeapImage.{links_at}
-use Rattle.store_model.specs.Service.Descriptor.{is_named, descriptors}
+use Rattle.store_model.specs.{StoreState.StoreState, HeapImage.links_at, Service.Descriptor.is_named, Service.Descriptor.descriptors}
 use Rattle.store_laws.specs.Items.{Item, items, all_lists}
 use Rattle.store_laws.specs.Moving.{Done}
 use Rattle.store_laws.proofs.HeapItems.{Lacks, links_are, lists_none}

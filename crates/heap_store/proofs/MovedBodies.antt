@@ -1,21 +1,12 @@
 -- A body that is moved: where it lies, and what a write leaves.
 use Rattle.std.proofs.Common.{◌≡◌, ℕ, ◌+◌, ◌≤◌, ◌<◌, ◌^◌, Bool, true, false, cond, List, [], ◌∷◌, length, arith, ap, sym, subst, ◌∙◌, Option, Some, None, ◌==◌}
-use Rattle.phys_mem.specs.Region.{replaced}
-use Rattle.phys_mem.specs.declared.memory.PhysMem.{PhysMem}
-use Rattle.store_model.specs.declared.state.Body.{Body}
-use Rattle.store_model.specs.declared.state.Body.TheVariants.{Descriptor}
-use Rattle.store_model.specs.declared.state.HobEntry.{HobEntry}
-use Rattle.store_laws.specs.Spelling.{AreSpelled}
-use Rattle.store_model.specs.declared.state.DescriptorBody.{DescriptorBody}
+use Rattle.phys_mem.specs.{Region.replaced, declared.memory.PhysMem.PhysMem}
+use Rattle.store_model.specs.{declared.state.Body.Body, declared.state.Body.TheVariants.Descriptor, declared.state.HobEntry.HobEntry}
+use Rattle.store_laws.specs.{Spelling.AreSpelled, Mapped.HasHeap, Mapped.layout_of, Moving.Done}
+use Rattle.store_model.specs.{declared.state.DescriptorBody.DescriptorBody, Migration.migrated_to}
 use Rattle.store_model.specs.StoreState.{Range, StoreState, body_at, body_from, body_len, hob_len, descriptor_len, end_place}
-use Rattle.store_model.specs.Migration.{migrated_to}
-use Rattle.store_laws.specs.Mapped.{HasHeap, layout_of}
-use Rattle.store_laws.specs.Moving.{Done}
 use Rattle.store_laws.proofs.HeapBodies.{body_inside}
-use Rattle.heap_store.specs.declared.course.Course.{Course}
-use Rattle.heap_store.specs.declared.words.Words.{Words}
-use Rattle.heap_store.specs.Half.{half_image, IsHalf}
-use Rattle.heap_store.specs.Ready.{IsReady}
+use Rattle.heap_store.specs.{declared.course.Course.Course, declared.words.Words.Words, Half.half_image, Half.IsHalf, Ready.IsReady}
 
 -- where a body lies
 pub inside : (s : StoreState) (to : Range) (course : Course) (p : ℕ) (body : Body) → IsReady s to course → body_at s p ≡ Some body → p + body_len body ≤ s.len

@@ -1,17 +1,12 @@
 -- The move of a store.
-use Rattle.std.proofs.Common.{◌≡◌, ◌∙◌, ℕ, Bool, true, false, cond, Some, None, ap, refl, sym, true≢false}
-use Rattle.std.specs.Prelude.{◌&&◌, is_some, not, option_map}
+use Rattle.std.proofs.Common.{◌≡◌, ◌∙◌, ℕ, Bool, true, false, cond, Some, None, ap, refl, sym, true≢false, ◌&&◌, is_some, not, option_map}
 use Rattle.phys_mem.specs.declared.memory.PhysMem.{PhysMem}
 use Rattle.pi_base.specs.declared.span.Span.{Span}
-use Rattle.store_model.specs.StoreState.{StoreState, range_of}
-use Rattle.store_model.specs.StoreCall.{IsDue, Migrates}
+use Rattle.store_model.specs.{StoreState.StoreState, StoreState.range_of, StoreCall.IsDue, StoreCall.Migrates}
 use Rattle.store_model.specs.Migration.{migrated_to, migration}
-use Rattle.pei_heap.specs.declared.heap.Heap.{Heap}
-use Rattle.pei_heap.specs.declared.links.heads.Heads.{Heads}
-use Rattle.pei_heap.specs.Linked.{IsLinked}
+use Rattle.pei_heap.specs.{declared.heap.Heap.Heap, declared.links.heads.Heads.Heads, Linked.IsLinked}
 use Rattle.heap_store.specs.Due as D
-use Rattle.heap_store.specs.declared.store.HeapStore.{HeapStore}
-use Rattle.heap_store.specs.HeapState.{StandsFor}
+use Rattle.heap_store.specs.{declared.store.HeapStore.HeapStore, HeapState.StandsFor}
 
 due_by : (planned moved : Bool) → (planned && not moved) ≡ true → (planned ≡ true) × (moved ≡ false)
 due_by true true e = absurd (true≢false (sym e))

@@ -1,21 +1,15 @@
 -- A node, moved: the numbers that are read are the old or the new, and what is written are the new.
-use Rattle.std.proofs.Common.{◌≡◌, ℕ, ◌+◌, ◌≤◌, ◌<◌, Bool, true, false, cond, List, take, drop, arith, refl, Option, Some, None, ◌-◌, ap, ◌∙◌}
-use Rattle.std.specs.Prelude.{IfSome}
+use Rattle.std.proofs.Common.{◌≡◌, ℕ, ◌+◌, ◌≤◌, ◌<◌, Bool, true, false, cond, List, take, drop, arith, refl, Option, Some, None, ◌-◌, ap, ◌∙◌, IfSome}
 use Rattle.pi_base.specs.Field.{little_bytes}
 use Rattle.phys_mem.specs.Region.{replaced}
 use Rattle.store_model.specs.declared.state.Body.TheVariants.{Descriptor, Node}
-use Rattle.store_model.specs.StoreState.{Range, StoreState}
-use Rattle.store_model.specs.StateFacts.{IsNodeAt}
-use Rattle.store_model.specs.Migration.{moved_number}
+use Rattle.store_model.specs.{StoreState.Range, StoreState.StoreState, StateFacts.IsNodeAt, Migration.moved_number}
 use Rattle.store_laws.specs.Moving.{Done, half, with_node_done}
 use Rattle.store_laws.specs.Spelling.{spelled}
 use Rattle.store_laws.proofs.Moving.{nodes_are_moved}
-use Rattle.heap_store.specs.declared.course.Course.{Course}
-use Rattle.heap_store.specs.declared.words.Words.{Words}
+use Rattle.heap_store.specs.{declared.course.Course.Course, declared.words.Words.Words, Half.half_image, Ready.IsReady}
 use Rattle.heap_store.specs.WordBytes.{words_bytes, links_words, shifted_node}
-use Rattle.heap_store.specs.Half.{half_image}
 use Rattle.heap_store.specs.Linked.{Link, address, first_of, fields, IsLink, HasDescriptor}
-use Rattle.heap_store.specs.Ready.{IsReady}
 use Rattle.heap_store.proofs.Numbers.{place_moves, new_stays, address_moves, address_stays, address_low}
 use Rattle.heap_store.proofs.Steps.{step_read, step_written, half_spelt, node_is, node_new}
 use Rattle.heap_store.proofs.MovedBodies.{inside, descriptor_long, same_words, AreLow, old_low, new_low}

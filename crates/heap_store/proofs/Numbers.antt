@@ -1,17 +1,12 @@
 -- What the move makes of an address.
-use Rattle.std.proofs.Common.{◌≡◌, ◌⊎◌, ℕ, ◌+◌, ◌≤◌, ◌<◌, ◌^◌, arith, ap, refl, ◌∙◌, Option, Some, None}
-use Rattle.std.specs.Prelude.{IfSome}
+use Rattle.std.proofs.Common.{◌≡◌, ◌⊎◌, ℕ, ◌+◌, ◌≤◌, ◌<◌, ◌^◌, arith, ap, refl, ◌∙◌, Option, Some, None, IfSome}
 use Rattle.std.proofs.lemmas.Bool.Decides.{nat_tests}
-use Rattle.store_model.specs.declared.store_handle.DescKind.{DescKind}
+use Rattle.store_model.specs.{declared.store_handle.DescKind.DescKind, HeapImage.guid_address, HeapImage.kind_flags}
 use Rattle.store_model.specs.declared.store_handle.DescKind.TheVariants.{Ppi, Callback, Dispatch}
 use Rattle.store_model.specs.StoreState.{Range, StoreState, descriptor_len}
-use Rattle.store_model.specs.HeapImage.{guid_address, kind_flags}
 use Rattle.store_model.specs.Migration.{moved_number, moved_value}
 use Rattle.store_laws.proofs.Shifts.{moved, once, outside, is_in_heap as in_heap}
-use Rattle.heap_store.specs.declared.course.Course.{Course}
-use Rattle.heap_store.specs.Course.{IsCourse}
-use Rattle.heap_store.specs.Ready.{IsElsewhere}
-use Rattle.heap_store.specs.Linked.{address}
+use Rattle.heap_store.specs.{declared.course.Course.Course, Course.IsCourse, Ready.IsElsewhere, Linked.address}
 
 below : (base len page_end pages to_base to_len n most : ℕ) → base + len + pages ≡ page_end → page_end ≤ most → to_base + to_len ≤ most → len + pages ≤ to_len → n < most → moved base len page_end pages to_base to_len n < most
 below base len page_end pages to_base to_len n most e low high fits h = grind (arith, nat_tests, e, low, high, fits, h)

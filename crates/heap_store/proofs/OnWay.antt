@@ -1,16 +1,11 @@
 -- Entries that are made, while they are made.
-use Rattle.std.proofs.Common.{◌≡◌, ◌∙◌, ◌≤◌, ◌<◌, ◌+◌, ℕ, zero, suc, List, [], ◌∷◌, length, drop, get_or, arith, ap, refl, sym, subst}
-use Rattle.std.specs.Prelude.{fold}
+use Rattle.std.proofs.Common.{◌≡◌, ◌∙◌, ◌≤◌, ◌<◌, ◌+◌, ℕ, zero, suc, List, [], ◌∷◌, length, drop, get_or, arith, ap, refl, sym, subst, fold}
 use Rattle.pi_base.specs.Lists.{Each}
 use Rattle.phys_mem.specs.declared.memory.PhysMem.{PhysMem}
-use Rattle.store_model.specs.declared.store_handle.Desc.{Desc}
-use Rattle.store_model.specs.StoreState.{StoreState, free}
-use Rattle.store_model.specs.StateFacts.{IsStoreState}
+use Rattle.store_model.specs.{declared.store_handle.Desc.Desc, StoreState.StoreState, StoreState.free, StateFacts.IsStoreState}
 use Rattle.store_model.specs.Service.Install.{node_need}
 use Rattle.store_laws.specs.Steps.{HasRoom, IsStep}
-use Rattle.pei_heap.specs.declared.heap.Heap.{Heap}
-use Rattle.pei_heap.specs.declared.links.heads.Heads.{Heads}
-use Rattle.pei_heap.specs.Linked.{IsLinked}
+use Rattle.pei_heap.specs.{declared.heap.Heap.Heap, declared.links.heads.Heads.Heads, Linked.IsLinked}
 use Rattle.heap_store.specs.Made.{IsMade, IsSame}
 
 -- so many of a list are made, and the others will be

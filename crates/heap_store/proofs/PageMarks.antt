@@ -1,16 +1,12 @@
 -- The pages that are done while HOBs are walked.
 use Rattle.std.proofs.Common.{◌≡◌, ℕ, zero, suc, ◌+◌, ◌<◌, ◌==◌, ◌||◌, false, List, [], ◌∷◌, take, drop, arith, ap, refl, ◌∙◌, Option, Some, None, sum_by}
-use Rattle.std.proofs.lemmas.Bool.Decides.{nat_tests}
-use Rattle.std.proofs.lemmas.List.Sums.{sum_by-cons}
-use Rattle.store_model.specs.declared.state.Body.{Body}
+use Rattle.std.proofs.{lemmas.Bool.Decides.nat_tests, lemmas.List.Sums.sum_by-cons}
+use Rattle.store_model.specs.{declared.state.Body.Body, declared.state.HobEntry.HobEntry, StoreState.StoreState, StoreState.hob_len}
 use Rattle.store_model.specs.declared.state.Body.TheVariants.{Bytes, Descriptor, Node, Allocation}
-use Rattle.store_model.specs.declared.state.HobEntry.{HobEntry}
 use Rattle.store_model.specs.declared.store_handle.EntryList.TheVariants.{Ppis, Callbacks, Dispatches, Pendings}
-use Rattle.store_model.specs.StoreState.{StoreState, hob_len}
 use Rattle.store_laws.specs.Moving.{Done}
 use Rattle.heap_store.specs.Half.{with_link, with_links, with_other, none_done, lists_done}
-use Rattle.heap_store.specs.Linked.{Link, links_of}
-use Rattle.heap_store.specs.Pages.{with_pages, with_hobs}
+use Rattle.heap_store.specs.{Linked.Link, Linked.links_of, Pages.with_pages, Pages.with_hobs}
 use Rattle.heap_store.proofs.HobWalk.{place_of, sum_first}
 
 -- what is done before a HOB, and with it

@@ -1,21 +1,14 @@
 -- Pages, moved.
-use Rattle.std.proofs.Common.{◌≡◌, ℕ, ◌+◌, ◌-◌, false, cond, List, ◌++◌, take, drop, arith, ap, refl, ◌∙◌, Some}
-use Rattle.std.specs.Prelude.{replicate}
+use Rattle.std.proofs.Common.{◌≡◌, ℕ, ◌+◌, ◌-◌, false, cond, List, ◌++◌, take, drop, arith, ap, refl, ◌∙◌, Some, replicate}
 use Rattle.pi_base.specs.Field.{little_bytes}
 use Rattle.phys_mem.specs.Region.{replaced}
-use Rattle.store_model.specs.declared.state.AllocationBody.{AllocationBody}
-use Rattle.store_model.specs.declared.state.Body.TheVariants.{Allocation}
+use Rattle.store_model.specs.{declared.state.AllocationBody.AllocationBody, declared.state.Body.TheVariants.Allocation}
 use Rattle.store_model.specs.StoreState.{Range, StoreState, body_at}
 use Rattle.store_model.specs.HeapImage.{allocation_bytes}
-use Rattle.store_laws.specs.Spelling.{spelled}
-use Rattle.store_laws.specs.Moving.{Done, half}
+use Rattle.store_laws.specs.{Spelling.spelled, Moving.Done, Moving.half}
 use Rattle.store_laws.proofs.Moving.{pages_are_moved}
-use Rattle.heap_store.specs.declared.course.Course.{Course}
-use Rattle.heap_store.specs.declared.words.Words.{Words}
-use Rattle.heap_store.specs.WordBytes.{words_bytes}
-use Rattle.heap_store.specs.Half.{half_image}
-use Rattle.heap_store.specs.Pages.{with_pages}
-use Rattle.heap_store.specs.Ready.{IsReady}
+use Rattle.heap_store.specs.{declared.course.Course.Course, declared.words.Words.Words, WordBytes.words_bytes, Half.half_image}
+use Rattle.heap_store.specs.{Pages.with_pages, Ready.IsReady}
 use Rattle.heap_store.proofs.Steps.{step_read, step_written, half_spelt}
 
 -- a zero name, and a base

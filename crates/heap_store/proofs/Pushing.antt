@@ -1,21 +1,14 @@
 -- One entry more is made, of those that are handed in.
 use Rattle.std.proofs.Common.{◌≡◌, ◌≢◌, ◌∙◌, ◌<◌, ◌+◌, ℕ, List, length, get_or, ap, refl, sym, subst}
 use Rattle.phys_mem.specs.declared.memory.PhysMem.{PhysMem}
-use Rattle.store_model.specs.declared.store_handle.Desc.{Desc}
-use Rattle.store_model.specs.declared.store_handle.DescKind.{DescKind}
+use Rattle.store_model.specs.{declared.store_handle.Desc.Desc, declared.store_handle.DescKind.DescKind}
 use Rattle.store_model.specs.declared.store_handle.DescKind.TheVariants.{Ppi, Callback, Dispatch}
-use Rattle.store_model.specs.declared.store_handle.EntryList.{EntryList}
-use Rattle.store_model.specs.declared.store_handle.EntryList.TheVariants.{Ppis}
-use Rattle.store_model.specs.StoreState.{StoreState}
+use Rattle.store_model.specs.{declared.store_handle.EntryList.EntryList, declared.store_handle.EntryList.TheVariants.Ppis}
+use Rattle.store_model.specs.{StoreState.StoreState, Service.Descriptor.kind_at, Service.Install.with_ppi}
 use Rattle.store_model.specs.StateFacts.{IsDesc, IsDescOf, IsDescriptorAt}
-use Rattle.store_model.specs.Service.Descriptor.{kind_at}
-use Rattle.store_model.specs.Service.Install.{with_ppi}
 use Rattle.store_model.specs.Service.Notify.{with_note, with_note_of}
-use Rattle.store_laws.specs.Keeping.{IsWord}
-use Rattle.store_laws.specs.Steps.{StepsKeepFacts}
-use Rattle.pei_heap.specs.declared.heap.Heap.{Heap}
-use Rattle.pei_heap.specs.declared.links.entry.NewEntry.{NewEntry}
-use Rattle.pei_heap.specs.declared.links.heads.Heads.{Heads}
+use Rattle.store_laws.specs.{Keeping.IsWord, Steps.StepsKeepFacts}
+use Rattle.pei_heap.specs.{declared.heap.Heap.Heap, declared.links.entry.NewEntry.NewEntry, declared.links.heads.Heads.Heads}
 use Rattle.pei_heap.specs.Linked.{IsLinked}
 use Rattle.pei_heap.specs.NewEntry.{IsOf, IsReady, with_entry}
 use Rattle.heap_store.specs.Made.{CanMakeNotes, CanMakePpis, IsSame, note_list}

@@ -1,25 +1,17 @@
 -- A state whose move is due is ready for it.
-use Rattle.std.proofs.Common.{◌≡◌, ◌≢◌, ◌⊎◌, ℕ, ◌+◌, ◌<◌, ◌≤◌, ◌^◌, Bool, true, false, cond, List, [], ◌∷◌, length, arith, refl, sym, subst, ◌∙◌, Option, Some, None}
-use Rattle.std.specs.Prelude.{IfSome, if◌then◌else◌, option_map}
+use Rattle.std.proofs.Common.{◌≡◌, ◌≢◌, ◌⊎◌, ℕ, ◌+◌, ◌<◌, ◌≤◌, ◌^◌, Bool, true, false, cond, List, [], ◌∷◌, length, arith, refl, sym, subst, ◌∙◌, Option, Some, None, IfSome, if◌then◌else◌, option_map}
 use Rattle.std.specs.Option.{option_or}
 use Rattle.std.proofs.lemmas.Bool.Decides.{nat_tests}
-use Rattle.phys_mem.specs.Region.{is_inside}
-use Rattle.phys_mem.specs.declared.memory.PhysMem.{PhysMem}
-use Rattle.phys_mem.specs.declared.rom.Rom.{Rom}
+use Rattle.phys_mem.specs.{Region.is_inside, declared.memory.PhysMem.PhysMem, declared.rom.Rom.Rom}
 use Rattle.hob_codec.specs.declared.kind.TheConstants.{POOL, ALLOCATION}
 use Rattle.pi_base.specs.Lists.{Each}
 use Rattle.pi_base.proofs.ListFacts.{each_more}
-use Rattle.store_model.specs.declared.state.Body.{Body}
+use Rattle.store_model.specs.{declared.state.Body.Body, declared.state.DescriptorBody.DescriptorBody, declared.state.HobEntry.HobEntry}
 use Rattle.store_model.specs.declared.state.Body.TheVariants.{Bytes, Descriptor, Node, Allocation}
-use Rattle.store_model.specs.declared.state.DescriptorBody.{DescriptorBody}
-use Rattle.store_model.specs.declared.state.HobEntry.{HobEntry}
 use Rattle.store_model.specs.StoreState.{Board, Range, StoreState, body_at}
 use Rattle.store_model.specs.StateFacts.{IsStoreState, IsHobEntry, IsBodyOf, IsGuidOf, IsMapped, IsHeap, IsPlanned, ArePages, AreApart, rom_range}
-use Rattle.store_model.specs.MemoryReading.{rom_bytes}
-use Rattle.store_model.specs.Migration.{migrated_to}
-use Rattle.store_laws.proofs.Fits.{all_fit, body_is_of}
-use Rattle.store_laws.proofs.Services.{all_keep}
-use Rattle.store_laws.proofs.Facts.{bodies_are_spelled, has_room}
+use Rattle.store_model.specs.{MemoryReading.rom_bytes, Migration.migrated_to}
+use Rattle.store_laws.proofs.{Fits.all_fit, Fits.body_is_of, Services.all_keep, Facts.bodies_are_spelled, Facts.has_room}
 use Rattle.heap_store.specs.Course.{IsCourse}
 use Rattle.heap_store.specs.Ready.{IsElsewhere, IsMovable, IsOfKind, HasHeader, IsReady, course_of, IsMoving}
 

@@ -1,33 +1,23 @@
 -- The image after the move, part by part, beside the image before.
-use Rattle.std.proofs.Common.{◌≡◌, ℕ, ◌+◌, ◌-◌, ◌≤◌, true, false, List, [], ◌∷◌, length, take, drop, arith, ap, refl, sym, subst, ◌∙◌, Some}
-use Rattle.std.specs.Prelude.{map, option_map, if◌then◌else◌}
+use Rattle.std.proofs.Common.{◌≡◌, ℕ, ◌+◌, ◌-◌, ◌≤◌, true, false, List, [], ◌∷◌, length, take, drop, arith, ap, refl, sym, subst, ◌∙◌, Some, map, option_map, if◌then◌else◌}
 use Rattle.pi_base.specs.Field.{little_bytes, ReadsWhatItSpells}
-use Rattle.store_model.specs.declared.state.AllocationBody.{AllocationBody}
-use Rattle.store_model.specs.declared.state.Body.{Body}
+use Rattle.store_model.specs.{declared.state.AllocationBody.AllocationBody, declared.state.Body.Body}
 use Rattle.store_model.specs.declared.state.Body.TheVariants.{Allocation, Bytes, Descriptor}
-use Rattle.store_model.specs.declared.state.DescriptorBody.{DescriptorBody}
-use Rattle.store_model.specs.declared.store_handle.EntryList.{EntryList}
+use Rattle.store_model.specs.{declared.state.DescriptorBody.DescriptorBody, declared.store_handle.EntryList.EntryList}
 use Rattle.store_model.specs.StoreState.{Range, StoreState, body_at, body_len, descriptor_len}
 use Rattle.store_model.specs.HeapImage.{Links, links_bytes, kind_flags, descriptor_bytes, allocation_bytes, guid_behind, body_bytes, heap_image}
 use Rattle.store_model.specs.Migration.{migrated_to, moved_number, moved_value, moved_descriptor, moved_body}
 use Rattle.store_model.specs.Service.Descriptor.{is_named}
-use Rattle.store_laws.proofs.Fits.{all_fit, body_is_of}
-use Rattle.store_laws.proofs.Moved.{moved_at}
-use Rattle.store_laws.specs.Growing.{front_bytes}
+use Rattle.store_laws.proofs.{Fits.all_fit, Fits.body_is_of, Moved.moved_at, Descriptors.address_is, Descriptors.numbers_are_read}
+use Rattle.store_laws.specs.{Growing.front_bytes, Word.word_in}
 use Rattle.store_laws.specs.Items.{Item, items, links_before}
-use Rattle.store_laws.specs.Word.{word_in}
-use Rattle.store_laws.proofs.Descriptors.{address_is, numbers_are_read}
-use Rattle.store_laws.proofs.Facts.{bodies_are_spelled}
-use Rattle.store_laws.proofs.Front.{front_piece, number_is}
+use Rattle.store_laws.proofs.{Facts.bodies_are_spelled, Front.front_piece, Front.number_is, Reading.image_at}
 use Rattle.store_laws.proofs.Nodes.{piece_of, node_is, next_is_read, descriptor_is_read, second_is_read}
-use Rattle.store_laws.proofs.Reading.{image_at}
-use Rattle.heap_store.specs.declared.course.Course.{Course}
+use Rattle.heap_store.specs.{declared.course.Course.Course, Ready.IsReady}
 use Rattle.heap_store.specs.Linked.{Link, links_of, item_at, first_of, fields}
-use Rattle.heap_store.specs.Ready.{IsReady}
 use Rattle.heap_store.specs.Relocated.{IsKept, IsNodeMoved, IsDescriptorMoved, ArePagesMoved, IsRelocated}
 use Rattle.heap_store.proofs.Links.{items_old, items_new, first_is, drop_map, is_link}
-use Rattle.heap_store.proofs.MovedBodies.{inside, spelt_at}
-use Rattle.heap_store.proofs.DescriptorMoves.{descriptor_behind}
+use Rattle.heap_store.proofs.{MovedBodies.inside, MovedBodies.spelt_at, DescriptorMoves.descriptor_behind}
 use Rattle.heap_store.proofs.NodeMoves.{next_within, descriptor_within, other_within}
 use Rattle.heap_store.proofs.Numbers.{address_moves, place_moves, guid_moves}
 

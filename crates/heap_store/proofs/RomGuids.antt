@@ -1,21 +1,12 @@
 -- The GUID at an address in a volume.
-use Rattle.std.proofs.Common.{◌≡◌, ◌∙◌, ℕ, List, length, take, Some, None, ap, arith, sym, refl}
-use Rattle.std.specs.Prelude.{option_map}
-use Rattle.std.proofs.lemmas.List.{take_all}
+use Rattle.std.proofs.Common.{◌≡◌, ◌∙◌, ℕ, List, length, take, Some, None, ap, arith, sym, refl, option_map, take_all}
 use Rattle.pi_base.specs.declared.guid.Guid.{Guid}
 use Rattle.phys_mem.specs.Regions.{bytes_at, rom_regions}
-use Rattle.store_model.specs.declared.store_handle.DescKind.{DescKind}
-use Rattle.store_model.specs.declared.store_handle.GuidFrom.TheVariants.{At}
-use Rattle.store_model.specs.StoreState.{StoreState}
-use Rattle.store_model.specs.StateFacts.{IsNumberOf}
-use Rattle.store_model.specs.HeapImage.{heap_image}
-use Rattle.store_model.specs.MemoryReading.{rom_bytes}
-use Rattle.store_model.specs.Service.Descriptor.{guid_from}
+use Rattle.store_model.specs.{declared.store_handle.DescKind.DescKind, declared.store_handle.GuidFrom.TheVariants.At, StoreState.StoreState}
+use Rattle.store_model.specs.{StateFacts.IsNumberOf, HeapImage.heap_image, MemoryReading.rom_bytes, Service.Descriptor.guid_from}
 use Rattle.store_laws.specs.Mapped.{layout_of}
 use Rattle.pei_heap.proofs.Volumes.{read_long, volumes_are}
-use Rattle.heap_store.specs.declared.store.HeapStore.{HeapStore}
-use Rattle.heap_store.specs.HeapState.{StandsFor}
-use Rattle.heap_store.specs.NewDescriptor.{IsDescriptorOf}
+use Rattle.heap_store.specs.{declared.store.HeapStore.HeapStore, HeapState.StandsFor, NewDescriptor.IsDescriptorOf}
 
 found_at : (m : HeapStore) (s : StoreState) (address : ℕ) → StandsFor m s → bytes_at (rom_regions m.memory) address 16 ≡ rom_bytes s.board.roms address 16
 found_at m s address h = volumes_are (layout_of s) (heap_image s) m.memory address 16 h.linked.heap_is.image.has

@@ -1,46 +1,26 @@
 -- A call that may refuse, from the call of the heap.
-use Rattle.std.proofs.Common.{◌≡◌, ◌∙◌, ◌≤◌, ◌+◌, ◌-◌, ◌*◌, ◌==◌, true≢false, ap, arith, length, [], ◌∷◌, ℕ, List, Bool, true, false, cond, Option, Some, None, Ok, Err, refl, sym, subst}
-use Rattle.std.specs.Prelude.{⊤, nat_lt, not, IfSome}
+use Rattle.std.proofs.Common.{◌≡◌, ◌∙◌, ◌≤◌, ◌+◌, ◌-◌, ◌*◌, ◌==◌, true≢false, ap, arith, length, [], ◌∷◌, ℕ, List, Bool, true, false, cond, Option, Some, None, Ok, Err, refl, sym, subst, nat_lt, not, IfSome}
+use Rattle.std.specs.Prelude.{⊤}
 use Rattle.std.proofs.lemmas.Bool.Decides.{nat_tests}
-use Rattle.pi_base.specs.declared.guid.Guid.{Guid}
-use Rattle.pi_base.specs.declared.span.Span.{Span}
-use Rattle.phys_mem.specs.Region.{replaced}
-use Rattle.store_model.specs.declared.store_handle.Desc.{Desc}
-use Rattle.store_model.specs.declared.store_handle.DescKind.{DescKind}
-use Rattle.store_model.specs.declared.store_handle.Firing.{Firing}
-use Rattle.store_model.specs.declared.store_handle.GuidFrom.{GuidFrom}
-use Rattle.store_model.specs.declared.store_handle.Pool.{Pool}
-use Rattle.store_model.specs.declared.state.Body.TheVariants.{Bytes}
-use Rattle.store_model.specs.declared.state.DescriptorBody.{DescriptorBody}
-use Rattle.store_model.specs.declared.state.Pending.{Pending}
-use Rattle.store_model.specs.StateFacts.{IsStoreState}
-use Rattle.store_model.specs.HeapImage.{heap_image}
-use Rattle.store_model.specs.Service.Descriptor.{desc, desc_of}
+use Rattle.pi_base.specs.{declared.guid.Guid.Guid, declared.span.Span.Span}
+use Rattle.phys_mem.specs.{Region.replaced, declared.memory.PhysMem.PhysMem}
+use Rattle.store_model.specs.{declared.store_handle.Desc.Desc, declared.store_handle.DescKind.DescKind, declared.store_handle.Firing.Firing}
+use Rattle.store_model.specs.{declared.store_handle.GuidFrom.GuidFrom, declared.store_handle.Pool.Pool}
+use Rattle.store_model.specs.{declared.state.Body.TheVariants.Bytes, declared.state.DescriptorBody.DescriptorBody}
+use Rattle.store_model.specs.{declared.state.Pending.Pending, StateFacts.IsStoreState, StateFacts.IsHeap, HeapImage.heap_image}
+use Rattle.store_model.specs.{Service.Descriptor.desc, Service.Descriptor.desc_of, Service.Sweep.firing_of}
 use Rattle.store_model.specs.Service.Queue.{popped, queue_pop, zeroed}
-use Rattle.store_model.specs.Service.Sweep.{firing_of}
-use Rattle.store_laws.specs.Keeping.{Keeps}
-use Rattle.store_laws.specs.Changes.{PoolsAreWritten}
-use Rattle.store_laws.specs.Mapped.{layout_of}
-use Rattle.pei_heap.specs.declared.links.heads.Heads.{Heads}
-use Rattle.pei_heap.specs.Popped.{IsPopped}
-use Rattle.heap_store.specs.Made.{IsSame}
-use Rattle.heap_store.specs.NewDescriptor.{IsDescriptorOf}
-use Rattle.phys_mem.specs.declared.memory.PhysMem.{PhysMem}
-use Rattle.hob_codec.specs.HobValue.{HobValue}
-use Rattle.hob_codec.specs.HobBytes.{length_of}
+use Rattle.store_laws.specs.{Keeping.Keeps, Changes.PoolsAreWritten, Mapped.layout_of}
+use Rattle.pei_heap.specs.{declared.links.heads.Heads.Heads, Popped.IsPopped, Pages.IsEarly}
+use Rattle.heap_store.specs.{Made.IsSame, NewDescriptor.IsDescriptorOf, declared.store.HeapStore.HeapStore, HeapState.StandsFor}
+use Rattle.hob_codec.specs.{HobValue.HobValue, HobBytes.length_of}
 use Rattle.store_model.specs.declared.store_handle.StoreFault.TheVariants.{Bad, Full, NotYet}
-use Rattle.store_model.specs.declared.state.HobEntry.{HobEntry}
+use Rattle.store_model.specs.{declared.state.HobEntry.HobEntry, Service.Hob.create_hob, declared.store_handle.StoreFault.StoreFault}
 use Rattle.store_model.specs.StoreState.{StoreState, body_at, descriptor_len, free, with_body, range_of}
 use Rattle.store_model.specs.Service.{Service, Performs, Takes, in_room}
-use Rattle.store_model.specs.Service.Hob.{create_hob}
 use Rattle.store_model.specs.Service.Memory.{early_pages, is_memory, pages, pages_taken, set_memory}
 use Rattle.store_model.specs.Service.Pool.{pool, store, written}
 use Rattle.pei_heap.specs.HeapMemory.{Holds, IsHeapOf, IsServed, Serves}
-use Rattle.pei_heap.specs.Pages.{IsEarly}
-use Rattle.store_model.specs.StateFacts.{IsHeap}
-use Rattle.store_model.specs.declared.store_handle.StoreFault.{StoreFault}
-use Rattle.heap_store.specs.declared.store.HeapStore.{HeapStore}
-use Rattle.heap_store.specs.HeapState.{StandsFor}
 use Rattle.heap_store.proofs.Standing.{stands_early, stands_grown, stands_linked, stands_planned, stands_same, with_heap}
 
 -- a service that changes HOBs alone, and pages after the move

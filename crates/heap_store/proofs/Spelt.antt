@@ -1,12 +1,10 @@
 -- Three numbers and their bytes.
 use Rattle.std.proofs.Common.{◌≡◌, ◌+◌, ◌-◌, ◌≤◌, ◌<◌, ◌^◌, ℕ, List, [], ◌∷◌, ◌++◌, length, take, drop, refl, ap, ◌∙◌, Some, arith, length-take, length-drop}
 use Rattle.pi_base.specs.Field.{little_number, little_bytes, ReadsWhatItSpells}
-use Rattle.phys_mem.specs.Regions.{regions, bytes_at}
-use Rattle.phys_mem.specs.declared.memory.PhysMem.{PhysMem}
+use Rattle.phys_mem.specs.{Regions.regions, Regions.bytes_at, declared.memory.PhysMem.PhysMem}
 use Rattle.store_laws.specs.Mapped.{Layout, HasHeap}
 use Rattle.store_laws.proofs.Words.{has_read}
-use Rattle.heap_store.specs.WordBytes.{words_bytes}
-use Rattle.heap_store.specs.declared.words.Words.{Words}
+use Rattle.heap_store.specs.{WordBytes.words_bytes, declared.words.Words.Words}
 
 pub words_len : (words : Words) → length (words_bytes words) ≡ 24
 unfolding words_bytes

@@ -1,17 +1,11 @@
 -- A store whose memory changed, and the state that it then stands for.
 use Rattle.std.proofs.Common.{◌≡◌, ◌∙◌, ◌+◌, ℕ, List, false, Some, ap, refl, sym, subst}
 use Rattle.pi_base.specs.declared.span.Span.{Span}
-use Rattle.store_model.specs.StoreState.{Board, range_of}
-use Rattle.store_model.specs.StateFacts.{IsStoreState}
+use Rattle.store_model.specs.StoreState.{Board, range_of, StoreState}
+use Rattle.store_model.specs.{StateFacts.IsStoreState, declared.state.HobEntry.HobEntry}
 use Rattle.phys_mem.specs.declared.memory.PhysMem.{PhysMem}
-use Rattle.store_model.specs.declared.state.HobEntry.{HobEntry}
-use Rattle.store_model.specs.StoreState.{StoreState}
-use Rattle.pei_heap.specs.HeapMemory.{IsHeapOf}
-use Rattle.pei_heap.specs.declared.links.heads.Heads.{Heads}
-use Rattle.pei_heap.specs.Linked.{AreHeads, IsLinked}
-use Rattle.heap_store.specs.declared.store.HeapStore.{HeapStore}
-use Rattle.heap_store.specs.Made.{IsSame}
-use Rattle.heap_store.specs.HeapState.{StandsFor}
+use Rattle.pei_heap.specs.{HeapMemory.IsHeapOf, declared.links.heads.Heads.Heads, Linked.AreHeads, Linked.IsLinked}
+use Rattle.heap_store.specs.{declared.store.HeapStore.HeapStore, Made.IsSame, HeapState.StandsFor}
 
 -- a state with other HOBs, pages and boot mode
 abbrev pub with_heap : StoreState → List HobEntry → ℕ → ℕ → StoreState

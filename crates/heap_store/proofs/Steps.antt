@@ -2,21 +2,15 @@
 use Rattle.std.proofs.Common.{◌≡◌, ℕ, ◌+◌, ◌-◌, ◌≤◌, Bool, true, false, cond, List, [], ◌∷◌, ◌++◌, length, take, drop, arith, ap, refl, sym, ◌∙◌, Option, Some, None, sum_by, length-append}
 use Rattle.pi_base.specs.Field.{little_bytes}
 use Rattle.phys_mem.specs.Region.{replaced}
-use Rattle.store_model.specs.declared.state.Body.{Body}
+use Rattle.store_model.specs.{declared.state.Body.Body, declared.state.DescriptorBody.DescriptorBody, declared.state.HobEntry.HobEntry}
 use Rattle.store_model.specs.declared.state.Body.TheVariants.{Bytes, Descriptor, Node, Allocation}
-use Rattle.store_model.specs.declared.state.DescriptorBody.{DescriptorBody}
-use Rattle.store_model.specs.declared.state.HobEntry.{HobEntry}
 use Rattle.store_model.specs.StoreState.{Range, StoreState, body_at, body_len, hob_len}
 use Rattle.store_model.specs.HeapImage.{Links, body_bytes, descriptor_bytes, node_bytes, guid_behind, links_bytes}
 use Rattle.store_model.specs.Migration.{migrated_to, moved_descriptor}
-use Rattle.store_laws.specs.Growing.{front_bytes}
-use Rattle.store_laws.specs.Spelling.{spelled, AreSpelled}
-use Rattle.store_laws.specs.Moving.{Done, half}
-use Rattle.store_laws.proofs.HeapBodies.{body_behind, body_inside}
-use Rattle.store_laws.proofs.Growing.{spelled_len}
-use Rattle.heap_store.specs.declared.words.Words.{Words}
+use Rattle.store_laws.specs.{Growing.front_bytes, Spelling.spelled, Spelling.AreSpelled, Moving.Done, Moving.half}
+use Rattle.store_laws.proofs.{HeapBodies.body_behind, HeapBodies.body_inside, Growing.spelled_len}
+use Rattle.heap_store.specs.{declared.words.Words.Words, Half.half_image, Half.behind}
 use Rattle.heap_store.specs.WordBytes.{words_bytes, descriptor_words, links_words}
-use Rattle.heap_store.specs.Half.{half_image, behind}
 use Rattle.heap_store.specs.Linked.{Link, fields, IsLink}
 use Rattle.heap_store.proofs.Frame.{frame_read, framed, front_written, front_read, rest_read}
 use Rattle.heap_store.proofs.Spelt.{words_len}

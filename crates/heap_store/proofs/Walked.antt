@@ -1,17 +1,10 @@
 -- The HOBs that a walk has passed.
-use Rattle.std.proofs.Common.{◌≡◌, ◌∙◌, ◌≤◌, ◌<◌, ◌+◌, ◌^◌, ◌==◌, ℕ, zero, suc, Bool, true, false, cond, List, [], ◌∷◌, ◌++◌, length, Some, None, ap, sym, refl, arith, append_assoc, Result, Ok, Err}
-use Rattle.std.specs.Prelude.{OnOk}
+use Rattle.std.proofs.Common.{◌≡◌, ◌∙◌, ◌≤◌, ◌<◌, ◌+◌, ◌^◌, ◌==◌, ℕ, zero, suc, Bool, true, false, cond, List, [], ◌∷◌, ◌++◌, length, Some, None, ap, sym, refl, arith, append_assoc, Result, Ok, Err, OnOk}
 use Rattle.pi_base.specs.declared.memory.OutOfMemory.{OutOfMemory}
 use Rattle.hob_codec.specs.declared.kind.TheConstants.{END, VOLUME}
-use Rattle.store_model.specs.declared.store_handle.HobSpan.{HobSpan}
-use Rattle.store_model.specs.StoreState.{StoreState}
-use Rattle.store_model.specs.StateFacts.{IsStoreState}
-use Rattle.store_model.specs.StoreCall.{IsHobPlace}
-use Rattle.store_model.specs.HeapImage.{heap_image}
-use Rattle.store_model.specs.Service.Reading.{fv_bases, hob_at}
-use Rattle.store_laws.specs.Hobs.{HobsAreTold, span_told}
-use Rattle.store_laws.specs.Volumes.{VolumesAreTold, volumes_told}
-use Rattle.store_laws.specs.Word.{short_in, word_in}
+use Rattle.store_model.specs.{declared.store_handle.HobSpan.HobSpan, StoreState.StoreState, StateFacts.IsStoreState, StoreCall.IsHobPlace}
+use Rattle.store_model.specs.{HeapImage.heap_image, Service.Reading.fv_bases, Service.Reading.hob_at}
+use Rattle.store_laws.specs.{Hobs.HobsAreTold, Hobs.span_told, Volumes.VolumesAreTold, Volumes.volumes_told, Word.short_in, Word.word_in}
 use Rattle.store_laws.proofs.Front.{append_nil}
 use Rattle.heap_store.specs.Volumes.{base_told}
 use Rattle.heap_store.proofs.NextHobs.{first_placed, next_placed}

@@ -1,14 +1,11 @@
 -- The places of a list that is walked: what stands there, and what is done before it.
 use Rattle.std.proofs.Common.{◌≡◌, ◌≢◌, ◌⊎◌, ℕ, zero, suc, ◌+◌, ◌≤◌, List, [], ◌∷◌, length, take, drop, arith, ap, refl, ◌∙◌}
-use Rattle.store_model.specs.declared.store_handle.EntryList.{EntryList}
-use Rattle.store_model.specs.StoreState.{Range, StoreState}
+use Rattle.store_model.specs.{declared.store_handle.EntryList.EntryList, StoreState.Range, StoreState.StoreState}
 use Rattle.store_model.specs.declared.state.Body.TheVariants.{Node}
 use Rattle.store_laws.specs.Moving.{Done}
 use Rattle.store_laws.proofs.HeapBodies.{body_behind}
-use Rattle.heap_store.specs.Half.{with_link, with_links}
-use Rattle.heap_store.specs.declared.course.Course.{Course}
+use Rattle.heap_store.specs.{Half.with_link, Half.with_links, declared.course.Course.Course, Ready.IsReady}
 use Rattle.heap_store.specs.Linked.{Link, links_of, address, first_of}
-use Rattle.heap_store.specs.Ready.{IsReady}
 use Rattle.heap_store.proofs.Links.{is_link}
 
 pub more_done : (done : Done) (links : List Link) (i : ℕ) (link : Link) (rest : List Link) → drop i links ≡ link ∷ rest → with_links done (take (i + 1) links) ≡ with_link (with_links done (take i links)) link

@@ -4,10 +4,7 @@ use Rattle.std.specs.Prelude.{ℕ, List, ◌++◌}
 use Rattle.phys_mem.specs.declared.memory.PhysMem.{PhysMem}
 use Rattle.store_model.specs.StoreState.{Range, StoreState, handoff_len}
 use Rattle.store_model.specs.Migration.{migrated_to}
-use Rattle.store_laws.specs.Growing.{front_bytes}
-use Rattle.store_laws.specs.Spelling.{spelled}
-use Rattle.store_laws.specs.Mapped.{layout_of, HasHeap}
-use Rattle.store_laws.specs.Moving.{half}
+use Rattle.store_laws.specs.{Growing.front_bytes, Spelling.spelled, Mapped.layout_of, Mapped.HasHeap, Moving.half}
 use Rattle.heap_store.specs.Half.{behind, none_done}
 
 unfoldable pub copied_image : StoreState → Range → List ℕ

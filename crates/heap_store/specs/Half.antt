@@ -5,11 +5,8 @@ use Rattle.phys_mem.specs.declared.memory.PhysMem.{PhysMem}
 use Rattle.hob_codec.specs.declared.kind.TheConstants.{END}
 use Rattle.store_model.specs.declared.store_handle.EntryList.TheVariants.{Ppis, Callbacks, Dispatches, Pendings}
 use Rattle.store_model.specs.StoreState.{Range, StoreState, end_place, header_len, handoff_len}
-use Rattle.store_model.specs.HeapImage.{header_bytes}
-use Rattle.store_model.specs.Migration.{migrated_to}
-use Rattle.store_laws.specs.Growing.{front_bytes}
-use Rattle.store_laws.specs.Spelling.{spelled}
-use Rattle.store_laws.specs.Mapped.{layout_of, HasHeap}
+use Rattle.store_model.specs.{HeapImage.header_bytes, Migration.migrated_to}
+use Rattle.store_laws.specs.{Growing.front_bytes, Spelling.spelled, Mapped.layout_of, Mapped.HasHeap}
 use Rattle.store_laws.specs.Moving.{Done, half, with_descriptor, with_node_done}
 use Rattle.heap_store.specs.Linked.{Link, links_of}
 

@@ -3,19 +3,13 @@
 use Rattle.std.specs.Prelude.{◌≡◌, ◌≢◌, ◌⊎◌, ℕ, ◌+◌, ◌<◌, ◌≤◌, ◌^◌, false, Some, IfSome}
 use Rattle.phys_mem.specs.declared.memory.PhysMem.{PhysMem}
 use Rattle.hob_codec.specs.declared.kind.TheConstants.{ALLOCATION}
-use Rattle.store_model.specs.declared.state.Body.{Body}
+use Rattle.store_model.specs.{declared.state.Body.Body, declared.state.DescriptorBody.DescriptorBody, declared.state.HobEntry.HobEntry}
 use Rattle.store_model.specs.declared.state.Body.TheVariants.{Bytes, Descriptor, Node, Allocation}
-use Rattle.store_model.specs.declared.state.DescriptorBody.{DescriptorBody}
-use Rattle.store_model.specs.declared.state.HobEntry.{HobEntry}
 use Rattle.pi_base.specs.Lists.{Each}
 use Rattle.store_model.specs.StoreState.{Range, StoreState, body_at, hob_len, end_place, header_len}
-use Rattle.store_model.specs.StateFacts.{IsStoreState}
-use Rattle.store_model.specs.HeapImage.{body_bytes}
-use Rattle.store_model.specs.Migration.{migrated_to}
-use Rattle.store_laws.specs.Mapped.{IsMemoryOf}
-use Rattle.store_laws.specs.Spelling.{AreSpelled}
-use Rattle.heap_store.specs.declared.course.Course.{Course}
-use Rattle.heap_store.specs.Course.{IsCourse}
+use Rattle.store_model.specs.{StateFacts.IsStoreState, HeapImage.body_bytes, Migration.migrated_to}
+use Rattle.store_laws.specs.{Mapped.IsMemoryOf, Spelling.AreSpelled}
+use Rattle.heap_store.specs.{declared.course.Course.Course, Course.IsCourse}
 
 -- memory has the image of a state whose move is due
 pub record IsMoving (s : StoreState) (to : Range) (memory : PhysMem) : Type 0 where

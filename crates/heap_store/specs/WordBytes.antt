@@ -2,10 +2,8 @@
 -- Own.
 use Rattle.std.specs.Prelude.{ℕ, List, ◌++◌}
 use Rattle.pi_base.specs.Field.{little_bytes}
-use Rattle.store_model.specs.declared.state.DescriptorBody.{DescriptorBody}
-use Rattle.store_model.specs.declared.store_handle.DescKind.{DescKind}
-use Rattle.store_model.specs.StoreState.{Range, StoreState}
-use Rattle.store_model.specs.Migration.{moved_number, moved_value}
+use Rattle.store_model.specs.{declared.state.DescriptorBody.DescriptorBody, declared.store_handle.DescKind.DescKind}
+use Rattle.store_model.specs.{StoreState.Range, StoreState.StoreState, Migration.moved_number, Migration.moved_value}
 use Rattle.store_model.specs.HeapImage.{Links, kind_flags, guid_address}
 use Rattle.heap_store.specs.declared.words.Words.{Words}
 

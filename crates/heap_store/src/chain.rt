@@ -1,11 +1,9 @@
 // The nodes of a list in memory, moved.
 ghost use Rattle.std.specs.Prelude.{◌≡◌};
-ghost use Rattle.store_model.specs.StoreState.{Range, StoreState};
-ghost use Rattle.store_model.specs.declared.store_handle.EntryList.{EntryList};
+ghost use Rattle.store_model.specs.{StoreState.Range, StoreState.StoreState, declared.store_handle.EntryList.EntryList};
 ghost use Rattle.store_laws.specs.Moving.{Done};
-ghost use Rattle.heap_store.specs.Half.{IsHalf, with_links};
+ghost use Rattle.heap_store.specs.{Half.IsHalf, Half.with_links, Ready.IsReady};
 ghost use Rattle.heap_store.specs.Linked.{address, first_of, links_of};
-ghost use Rattle.heap_store.specs.Ready.{IsReady};
 
 use crate::course::Course;
 use crate::moved_node::move_node;

@@ -1,8 +1,7 @@
 // The HOB list, copied to the new heap.
 ghost use Rattle.std.specs.Prelude.{◌≡◌, ◌+◌};
 ghost use Rattle.store_model.specs.StoreState.{Range, StoreState, end_place};
-ghost use Rattle.heap_store.specs.Copied.{IsCopied};
-ghost use Rattle.heap_store.specs.Ready.{IsMoving, course_of};
+ghost use Rattle.heap_store.specs.{Copied.IsCopied, Ready.IsMoving, Ready.course_of};
 
 use crate::course::Course;
 use phys_mem::PhysMem;

@@ -2,10 +2,8 @@
 ghost use Rattle.std.specs.Prelude.{◌≡◌, ◌+◌, false, if◌then◌else◌, nat_lt, length, filter};
 ghost use Rattle.pi_base.specs.Guids as G;
 ghost use Rattle.store_model.specs.declared.store_handle.EntryList.TheVariants as L;
-ghost use Rattle.store_model.specs.StoreState.{free};
+ghost use Rattle.store_model.specs.{StoreState.free, Service.Install.core_install, Service.Install.node_need, Service.Reading.told_of};
 ghost use Rattle.store_model.specs.Service.{OfEach, Performs, Present};
-ghost use Rattle.store_model.specs.Service.Install.{core_install, node_need};
-ghost use Rattle.store_model.specs.Service.Reading.{told_of};
 ghost use Rattle.store_model.specs.StoreCall.{Anything};
 
 use crate::install::NODE_NEED;

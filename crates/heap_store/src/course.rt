@@ -1,7 +1,6 @@
 // Where a heap lay, and where it lies.
 ghost use Rattle.std.specs.Prelude.{◌≡◌};
-ghost use Rattle.store_model.specs.StoreState.{Range, StoreState};
-ghost use Rattle.store_model.specs.Migration.{moved_number};
+ghost use Rattle.store_model.specs.{StoreState.Range, StoreState.StoreState, Migration.moved_number};
 
 /// Where a heap lay with the page region behind it, and where it lies.
 #[derive(Clone, Copy)]

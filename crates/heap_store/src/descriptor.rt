@@ -1,9 +1,7 @@
 // Descriptors are made and read.
 ghost use Rattle.std.specs.Prelude.{◌≡◌, false};
 ghost use Rattle.store_model.specs.Service.{OfEach, Performs, Present};
-ghost use Rattle.store_model.specs.Service.Descriptor.{desc};
-ghost use Rattle.store_model.specs.Service.Reading.{descriptor};
-ghost use Rattle.store_model.specs.StateFacts.{IsDesc, IsNumberOf};
+ghost use Rattle.store_model.specs.{Service.Descriptor.desc, Service.Reading.descriptor, StateFacts.IsDesc, StateFacts.IsNumberOf};
 ghost use Rattle.heap_store.specs.NewDescriptor.{IsToMake};
 ghost use Rattle.store_model.specs.StoreCall.{Anything};
 

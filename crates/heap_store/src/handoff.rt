@@ -2,9 +2,7 @@
 ghost use Rattle.std.specs.Prelude.{◌≡◌, ◌≤◌};
 ghost use Rattle.store_model.specs.StoreState.{Range, StoreState, end_place};
 ghost use Rattle.pei_heap.specs.HeapMemory.{HasState, IsHeapOf};
-ghost use Rattle.heap_store.specs.Copied.{IsCopied};
-ghost use Rattle.heap_store.specs.Half.{IsHalf, none_done};
-ghost use Rattle.heap_store.specs.Ready.{IsReady};
+ghost use Rattle.heap_store.specs.{Copied.IsCopied, Half.IsHalf, Half.none_done, Ready.IsReady};
 
 use crate::course::Course;
 use crate::words::{Words, put_words};

@@ -2,9 +2,7 @@
 ghost use Rattle.std.specs.Prelude.{◌≡◌, ◌++◌, false, IfOk, OnOk, Some};
 ghost use Rattle.hob_codec.specs.HobView.{hob_value};
 ghost use Rattle.store_model.specs.Service.{OfEach, Performs, Present};
-ghost use Rattle.store_model.specs.Service.Hob.{create_hob};
-ghost use Rattle.store_model.specs.Service.Reading.{fv_bases, hob_at};
-ghost use Rattle.store_model.specs.StoreState.{StoreState};
+ghost use Rattle.store_model.specs.{Service.Hob.create_hob, Service.Reading.fv_bases, Service.Reading.hob_at, StoreState.StoreState};
 ghost use Rattle.store_model.specs.HeapImage.{heap_image};
 ghost use Rattle.store_model.specs.StoreCall.{Anything, IsHobPlace, IsScriptHob};
 ghost use Rattle.heap_store.specs.Volumes.{base_told};

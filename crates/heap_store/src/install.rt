@@ -1,13 +1,11 @@
 // PPIs are installed, and one is put in the place of another.
 ghost use Rattle.std.specs.Prelude.{◌≡◌, ◌+◌, ◌<◌, ◌^◌, false, nat_lt, length, fold};
 ghost use Rattle.std.specs.List.{list_all};
-ghost use Rattle.store_model.specs.StoreState.{StoreState, free};
+ghost use Rattle.store_model.specs.{StoreState.StoreState, StoreState.free, Service.Descriptor.is_ppi, Service.Descriptor.kind_at};
 ghost use Rattle.store_model.specs.Service.{And, OfEach, Performs, Present};
-ghost use Rattle.store_model.specs.Service.Descriptor.{is_ppi, kind_at};
 ghost use Rattle.store_model.specs.Service.Install.{install, install_sweep, node_need, place_of, reinstall, reinstall_sweep, with_ppi};
-ghost use Rattle.store_model.specs.StateFacts.{IsDesc};
+ghost use Rattle.store_model.specs.{StateFacts.IsDesc, declared.store_handle.Desc.Desc as OfDesc};
 ghost use Rattle.store_model.specs.StoreCall.{Anything, AreBothDescs, AreDescs, AreFew};
-ghost use Rattle.store_model.specs.declared.store_handle.Desc.{Desc as OfDesc};
 ghost use Rattle.pei_heap.specs.Linked.{IsLinked};
 ghost use Rattle.heap_store.specs.Made.{CanMakePpis, HavePairs, IsMade};
 

@@ -2,8 +2,7 @@
 ghost use Rattle.std.specs.Prelude.{◌≡◌, false};
 ghost use Rattle.store_model.specs.Service.{AfterEach, OfEach, Performs, Present};
 ghost use Rattle.store_model.specs.Service.Memory.{is_memory, pages, set_memory, with_boot_mode};
-ghost use Rattle.store_model.specs.Service.Reading.{memory_due};
-ghost use Rattle.store_model.specs.StoreCall.{Anything};
+ghost use Rattle.store_model.specs.{Service.Reading.memory_due, StoreCall.Anything};
 
 use crate::store::HeapStore;
 use pi_base::{PAGE_LEN, Span};

@@ -1,14 +1,9 @@
 // A descriptor in memory, moved.
 ghost use Rattle.std.specs.Prelude.{◌≡◌, ◌+◌, ℕ, Option, IfSome};
-ghost use Rattle.store_model.specs.declared.store_handle.DescKind.{DescKind as OfKind};
-ghost use Rattle.store_model.specs.StoreState.{Range, StoreState};
-ghost use Rattle.store_model.specs.HeapImage.{kind_flags};
-ghost use Rattle.store_model.specs.Migration.{moved_value};
+ghost use Rattle.store_model.specs.{declared.store_handle.DescKind.DescKind as OfKind, StoreState.Range, StoreState.StoreState};
+ghost use Rattle.store_model.specs.{HeapImage.kind_flags, Migration.moved_value};
 ghost use Rattle.store_laws.specs.Moving.{Done, with_descriptor};
-ghost use Rattle.heap_store.specs.Course.{IsCourse};
-ghost use Rattle.heap_store.specs.Half.{IsHalf, with_other};
-ghost use Rattle.heap_store.specs.Linked.{HasDescriptor, address};
-ghost use Rattle.heap_store.specs.Ready.{IsReady};
+ghost use Rattle.heap_store.specs.{Course.IsCourse, Half.IsHalf, Half.with_other, Linked.HasDescriptor, Linked.address, Ready.IsReady};
 ghost use Rattle.heap_store.specs.WordBytes.{shifted_descriptor};
 
 use crate::course::Course;

@@ -1,13 +1,10 @@
 // The HOBs of pages that were taken, moved.
 ghost use Rattle.std.specs.Prelude.{◌≡◌, ◌≤◌, ◌+◌, ◌-◌, ℕ, Some, false};
-ghost use Rattle.store_model.specs.declared.state.AllocationBody.{AllocationBody};
-ghost use Rattle.store_model.specs.declared.state.Body.{Body};
+ghost use Rattle.store_model.specs.{declared.state.AllocationBody.AllocationBody, declared.state.Body.Body};
 ghost use Rattle.store_model.specs.declared.state.Body.TheVariants.{Allocation};
 ghost use Rattle.store_model.specs.StoreState.{Range, StoreState, body_at, end_place, handoff_len};
 ghost use Rattle.store_laws.specs.Moving.{Done};
-ghost use Rattle.heap_store.specs.Half.{IsHalf};
-ghost use Rattle.heap_store.specs.Pages.{with_pages, with_hobs};
-ghost use Rattle.heap_store.specs.Ready.{IsReady, IsOfKind};
+ghost use Rattle.heap_store.specs.{Half.IsHalf, Pages.with_pages, Pages.with_hobs, Ready.IsReady, Ready.IsOfKind};
 
 use crate::course::Course;
 use crate::header::header_at;

@@ -2,10 +2,8 @@
 ghost use Rattle.std.specs.Prelude.{◌≡◌, ◌+◌, List};
 ghost use Rattle.store_model.specs.StoreState.{Range, StoreState};
 ghost use Rattle.store_laws.specs.Moving.{Done, with_node_done};
-ghost use Rattle.heap_store.specs.Course.{IsCourse};
-ghost use Rattle.heap_store.specs.Half.{IsHalf, with_link};
+ghost use Rattle.heap_store.specs.{Course.IsCourse, Half.IsHalf, Half.with_link, Ready.IsReady};
 ghost use Rattle.heap_store.specs.Linked.{Link, IsLink, fields, address, first_of};
-ghost use Rattle.heap_store.specs.Ready.{IsReady};
 ghost use Rattle.heap_store.specs.WordBytes.{links_words, shifted_node};
 
 use crate::course::Course;

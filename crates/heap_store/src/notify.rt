@@ -1,12 +1,10 @@
 // Notifications are registered.
 ghost use Rattle.std.specs.Prelude.{◌≡◌, ◌≤◌, false, length, fold};
 ghost use Rattle.std.specs.List.{list_any};
-ghost use Rattle.store_model.specs.StoreState.{StoreState};
+ghost use Rattle.store_model.specs.{StoreState.StoreState, StateFacts.IsDesc, StoreCall.AreDescs, StoreCall.AreFew};
 ghost use Rattle.store_model.specs.Service.{And, OfEach, Performs, Present};
 ghost use Rattle.store_model.specs.Service.Descriptor.{is_callback, is_ppi, kind_at};
 ghost use Rattle.store_model.specs.Service.Notify.{new_callbacks, notify, notify_sweep, with_note};
-ghost use Rattle.store_model.specs.StateFacts.{IsDesc};
-ghost use Rattle.store_model.specs.StoreCall.{AreDescs, AreFew};
 ghost use Rattle.pei_heap.specs.Linked.{IsLinked};
 ghost use Rattle.heap_store.specs.Made.{CanMakeNotes, HaveNewPairs, IsMade, note_list as list_of};
 

@@ -1,8 +1,6 @@
 // Memory is read.
 ghost use Rattle.std.specs.Prelude.{length};
-ghost use Rattle.store_model.specs.MemoryReading.{bytes_at};
-ghost use Rattle.store_model.specs.Service.{OfEach, Present};
-ghost use Rattle.store_model.specs.StoreCall.{Anything, Peeks};
+ghost use Rattle.store_model.specs.{MemoryReading.bytes_at, Service.OfEach, Service.Present, StoreCall.Anything, StoreCall.Peeks};
 
 use crate::store::HeapStore;
 use store_laws::heap::memory_read;

@@ -1,8 +1,7 @@
 // Pools are made and written.
 ghost use Rattle.store_model.specs.Service.{And, AfterEach, Performs, Present, Stores};
 ghost use Rattle.std.specs.Prelude.{false};
-ghost use Rattle.store_model.specs.Service.Pool.{pool, store};
-ghost use Rattle.store_model.specs.StoreCall.{Anything, HasPool};
+ghost use Rattle.store_model.specs.{Service.Pool.pool, Service.Pool.store, StoreCall.Anything, StoreCall.HasPool};
 
 use crate::store::HeapStore;
 use store_laws::heap::bodies_changed;

@@ -1,7 +1,6 @@
 // The queue of dispatch notifications.
 ghost use Rattle.store_model.specs.Service.{AfterEach, Present, Takes};
-ghost use Rattle.store_model.specs.Service.Queue.{queue_pop};
-ghost use Rattle.store_model.specs.StoreCall.{Anything};
+ghost use Rattle.store_model.specs.{Service.Queue.queue_pop, StoreCall.Anything};
 
 use crate::store::HeapStore;
 use pei_heap::links::pop;

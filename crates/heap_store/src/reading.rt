@@ -1,8 +1,7 @@
 // What a store tells of its lists.
 ghost use Rattle.std.specs.Prelude.{◌≡◌};
-ghost use Rattle.store_model.specs.Service.{OfEach, Present};
+ghost use Rattle.store_model.specs.{Service.OfEach, Service.Present, StoreCall.Anything, StoreCall.IsNodeIn};
 ghost use Rattle.store_model.specs.Service.Reading as R;
-ghost use Rattle.store_model.specs.StoreCall.{Anything, IsNodeIn};
 
 use crate::store::HeapStore;
 use pei_heap::links::{entry_behind, note_at, nth_ppi, pending_at, ppi_at};

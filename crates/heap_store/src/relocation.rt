@@ -1,14 +1,12 @@
 // The move of a heap as a whole.
 ghost use Rattle.std.specs.Prelude.{◌≡◌};
 ghost use Rattle.store_model.specs.StoreState.{Range, StoreState, end_place, range_of};
-ghost use Rattle.store_model.specs.HeapImage.{heap_image};
-ghost use Rattle.store_model.specs.Migration.{migrated_to};
+ghost use Rattle.store_model.specs.{HeapImage.heap_image, Migration.migrated_to};
 ghost use Rattle.store_laws.specs.Mapped.{IsMemoryOf};
 ghost use Rattle.pei_heap.specs.Linked.{AreHeads, IsLinked};
-ghost use Rattle.heap_store.specs.Due.{IsDue};
+ghost use Rattle.heap_store.specs.{Due.IsDue, Relocated.IsRelocated};
 ghost use Rattle.heap_store.specs.Half.{IsHalf, lists_done, none_done};
 ghost use Rattle.heap_store.specs.Ready.{IsReady, IsMoving, course_of};
-ghost use Rattle.heap_store.specs.Relocated.{IsRelocated};
 
 use crate::chain::move_chain;
 use crate::copy::copy_heap;

@@ -1,7 +1,6 @@
 // A store in memory.
 ghost use Rattle.std.specs.Prelude.{IfOk};
-ghost use Rattle.store_model.specs.StateFacts.{IsBoard};
-ghost use Rattle.store_model.specs.StoreState.{empty_store, range_of};
+ghost use Rattle.store_model.specs.{StateFacts.IsBoard, StoreState.empty_store, StoreState.range_of};
 
 use pei_heap::Heap;
 use pei_heap::links::Heads;

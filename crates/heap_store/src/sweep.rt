@@ -1,7 +1,6 @@
 // The pairs that a sweep has still to visit.
-ghost use Rattle.store_model.specs.Service.{OfEach, Present};
+ghost use Rattle.store_model.specs.{Service.OfEach, Service.Present, StoreCall.IsAmong, StoreCall.IsMatch};
 ghost use Rattle.store_model.specs.Service.Sweep as W;
-ghost use Rattle.store_model.specs.StoreCall.{IsAmong, IsMatch};
 
 use crate::store::HeapStore;
 use pei_heap::links::next_match;

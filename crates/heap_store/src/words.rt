@@ -2,8 +2,7 @@
 ghost use Rattle.std.specs.Prelude.{◌≡◌, ◌≤◌, ◌<◌, ◌+◌, ◌-◌, ◌^◌, ℕ, List, take, drop};
 ghost use Rattle.phys_mem.specs.Region.{replaced};
 ghost use Rattle.store_laws.specs.Mapped.{Layout, HasHeap};
-ghost use Rattle.heap_store.specs.WordBytes.{words_bytes};
-ghost use Rattle.heap_store.specs.declared.words.Words.{Words as OfWords};
+ghost use Rattle.heap_store.specs.{WordBytes.words_bytes, declared.words.Words.Words as OfWords};
 
 use phys_mem::PhysMem;
 use pi_base::{little_endian, put_u64, u64_at};

@@ -1,13 +1,9 @@
 -- The board of the tests, and the store over it.
-use Rattle.std.proofs.Common.{◌≡◌, ℕ, ◌+◌, ◌≤◌, List, [], ◌∷◌, length, Result, Ok, Err, arith, inl, inr, sym, subst}
-use Rattle.std.specs.Prelude.{IfOk}
+use Rattle.std.proofs.Common.{◌≡◌, ℕ, ◌+◌, ◌≤◌, List, [], ◌∷◌, length, Result, Ok, Err, arith, inl, inr, sym, subst, IfOk}
 use Rattle.boot_plan.specs.declared.limits.TheConstants.{MOST_TEMP}
 use Rattle.pi_base.specs.declared.memory.OutOfMemory.{OutOfMemory}
 use Rattle.phys_mem.specs.declared.rom.Rom.{Rom}
-use Rattle.store_model.specs.StoreState.{Board, StoreState}
-use Rattle.store_model.specs.StateFacts.{IsBoard}
-use Rattle.store_model.specs.StoreCall.{Anything}
-use Rattle.store_model.specs.Service.{Present}
+use Rattle.store_model.specs.{StoreState.Board, StoreState.StoreState, StateFacts.IsBoard, StoreCall.Anything, Service.Present}
 use Rattle.heap_trials.specs.Volumes.{AreVolumes}
 
 abbrev pub board : (len pages : ℕ) → List Rom → Board

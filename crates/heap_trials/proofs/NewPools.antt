@@ -1,16 +1,11 @@
 -- A pool that was just made may be handed in.
-use Rattle.std.proofs.Common.{◌≡◌, ℕ, ◌+◌, Bool, true, false, cond, List, Result, Ok, Err, subst, arith, length}
-use Rattle.std.specs.Prelude.{nat_lt, replicate, IfOk}
+use Rattle.std.proofs.Common.{◌≡◌, ℕ, ◌+◌, Bool, true, false, cond, List, Result, Ok, Err, subst, arith, length, nat_lt, replicate, IfOk}
 use Rattle.std.proofs.lemmas.List.{length-replicate}
-use Rattle.store_model.specs.declared.store_handle.Pool.{Pool}
-use Rattle.store_model.specs.declared.store_handle.StoreFault.{StoreFault}
-use Rattle.store_model.specs.declared.store_handle.StoreFault.TheVariants.{Full}
-use Rattle.store_model.specs.declared.state.Body.TheVariants.{Bytes}
+use Rattle.store_model.specs.{declared.store_handle.Pool.Pool, declared.store_handle.StoreFault.StoreFault}
+use Rattle.store_model.specs.{declared.store_handle.StoreFault.TheVariants.Full, declared.state.Body.TheVariants.Bytes, StateFacts.IsPool}
 use Rattle.store_model.specs.StoreState.{StoreState, appended, pool_of, rounded, next_body, free}
-use Rattle.store_model.specs.StateFacts.{IsPool}
-use Rattle.store_model.specs.StoreCall.{HasPool}
+use Rattle.store_model.specs.{StoreCall.HasPool, Service.Pool.pool, Service.Pool.most_pool}
 use Rattle.store_model.specs.Service.{Answers, Present, Service}
-use Rattle.store_model.specs.Service.Pool.{pool, most_pool}
 use Rattle.store_laws.proofs.BodyLaws.{all_stay}
 
 abbrev zeros : ℕ → List ℕ

@@ -1,27 +1,20 @@
 -- What stands in a state still does after a service: each adds HOBs, or none.
-use Rattle.std.proofs.Common.{◌≡◌, ℕ, Bool, true, false, cond, List, [], ◌∷◌, length, zero, suc, arith, Option, Some, None, Result, Ok, Err, refl, sym, subst, inl, inr}
-use Rattle.std.specs.Prelude.{◌<◌, fold, slice_get, is_some, option_map, IfOk, replicate}
+use Rattle.std.proofs.Common.{◌≡◌, ℕ, Bool, true, false, cond, List, [], ◌∷◌, length, zero, suc, arith, Option, Some, None, Result, Ok, Err, refl, sym, subst, inl, inr, ◌<◌, fold, slice_get, is_some, option_map, IfOk, replicate}
 use Rattle.pi_base.specs.declared.guid.Guid.{Guid}
 use Rattle.store_model.specs.declared.state.Body.TheVariants.{Bytes, Descriptor}
-use Rattle.store_model.specs.declared.state.HobEntry.{HobEntry}
-use Rattle.store_model.specs.declared.store_handle.Desc.{Desc}
-use Rattle.store_model.specs.declared.store_handle.DescKind.{DescKind}
+use Rattle.store_model.specs.{declared.state.HobEntry.HobEntry, declared.store_handle.Desc.Desc, declared.store_handle.DescKind.DescKind}
 use Rattle.store_model.specs.declared.store_handle.DescKind.TheVariants.{Ppi, Callback, Dispatch}
-use Rattle.store_model.specs.declared.store_handle.GuidFrom.{GuidFrom}
-use Rattle.store_model.specs.declared.store_handle.Pool.{Pool}
-use Rattle.store_model.specs.declared.store_handle.StoreFault.{StoreFault}
+use Rattle.store_model.specs.{declared.store_handle.GuidFrom.GuidFrom, declared.store_handle.Pool.Pool}
+use Rattle.store_model.specs.{declared.store_handle.StoreFault.StoreFault, declared.store_handle.Sweep.Sweep}
 use Rattle.store_model.specs.declared.store_handle.StoreFault.TheVariants as F
-use Rattle.store_model.specs.declared.store_handle.Sweep.{Sweep}
 use Rattle.store_model.specs.StoreState.{StoreState, appended, next_body, pool_of, rounded}
-use Rattle.store_model.specs.StateFacts.{IsDesc, IsDescriptorAt}
+use Rattle.store_model.specs.{StateFacts.IsDesc, StateFacts.IsDescriptorAt, Service.Pool.pool}
 use Rattle.store_model.specs.Service.{Answers, Present, Service}
 use Rattle.store_model.specs.Service.Descriptor.{desc, desc_of, guid_from, kind_at}
 use Rattle.store_model.specs.Service.Install.{install, install_pairs, install_sweep, installed, reinstall, reinstall_pairs, reinstall_sweep, reinstalled, renamed, with_pending, with_ppi}
 use Rattle.store_model.specs.Service.Notify.{notified, notify, notify_pairs, notify_sweep, with_note, with_note_of}
-use Rattle.store_model.specs.Service.Pool.{pool}
 use Rattle.store_laws.specs.Bodies.{IsGrown}
-use Rattle.store_laws.proofs.BodyLaws.{all_stay}
-use Rattle.store_laws.proofs.Steps.{grown_node}
+use Rattle.store_laws.proofs.{BodyLaws.all_stay, Steps.grown_node}
 use Rattle.heap_trials.specs.Scene.{AreThere, HasDesc, IsOfScene}
 
 -- all bodies of a state stand in later ones

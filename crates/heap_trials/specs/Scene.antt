@@ -1,10 +1,8 @@
 -- A store with two PPIs and a notification of each kind, whether or not they are named. The tests of both stores keep it.
 -- Own.
 use Rattle.std.specs.Prelude.{◌≡◌, ◌⊎◌}
-use Rattle.store_model.specs.declared.store_handle.Desc.{Desc}
+use Rattle.store_model.specs.{declared.store_handle.Desc.Desc, StoreState.StoreState, StateFacts.IsDesc, StateFacts.IsDescriptorAt}
 use Rattle.store_model.specs.declared.store_handle.DescKind.TheVariants.{Ppi, Callback, Dispatch}
-use Rattle.store_model.specs.StoreState.{StoreState}
-use Rattle.store_model.specs.StateFacts.{IsDesc, IsDescriptorAt}
 use Rattle.store_model.specs.Service.{Present}
 
 -- the places of their descriptors

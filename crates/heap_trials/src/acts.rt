@@ -1,7 +1,6 @@
 // Calls over the scene, each of which leaves it there.
 ghost use Rattle.std.specs.Prelude.{◌≡◌, ◌≤◌, true, length};
-ghost use Rattle.store_model.specs.Service.{Present, OfEach};
-ghost use Rattle.store_model.specs.StoreCall.{Anything};
+ghost use Rattle.store_model.specs.{Service.Present, Service.OfEach, StoreCall.Anything};
 ghost use Rattle.heap_trials.specs.Scene.{IsLaid};
 
 use crate::scene::{NAME, OTHER, Of, desc_of, fill, install, notify, reinstall};

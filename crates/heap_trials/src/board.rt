@@ -1,8 +1,7 @@
 // The board of all tests, temporary RAM, RAM and a volume, and the stores over it: the program's, and of plain lists.
 ghost use Rattle.std.specs.Prelude.{◌≤◌, ◌+◌, IfOk};
 ghost use Rattle.boot_plan.specs.declared.limits.TheConstants.{MOST_TEMP};
-ghost use Rattle.store_model.specs.Service.{Present};
-ghost use Rattle.store_model.specs.StoreCall.{Anything};
+ghost use Rattle.store_model.specs.{Service.Present, StoreCall.Anything};
 ghost use Rattle.mem_store.specs.MemState.{StandsFor};
 ghost use Rattle.store_plain.specs.PlainState.{stands_for};
 ghost use Rattle.heap_trials.specs.Volumes.{AreVolumes};

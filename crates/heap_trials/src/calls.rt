@@ -1,9 +1,7 @@
 // Calls of any store, each of which leaves a store that stands for a state, so that the next may follow.
 ghost use Rattle.std.specs.Prelude.{◌≤◌, IfOk};
 ghost use Rattle.hob_codec.specs.HobView.{hob_value};
-ghost use Rattle.store_model.specs.Service.{Present};
-ghost use Rattle.store_model.specs.StateFacts.{IsNumberOf};
-ghost use Rattle.store_model.specs.StoreCall.{Anything, IsScriptHob};
+ghost use Rattle.store_model.specs.{Service.Present, StateFacts.IsNumberOf, StoreCall.Anything, StoreCall.IsScriptHob};
 ghost use Rattle.store_model.specs.declared.store_handle.DescKind.TheVariants.{Dispatch};
 ghost use Rattle.heap_trials.specs.Scene.{HasDesc};
 

@@ -1,7 +1,6 @@
 // Each refusal of each service beside the neighbour that passes: over both stores.
 ghost use Rattle.std.specs.Prelude.{◌≤◌};
-ghost use Rattle.store_model.specs.Service.{Present};
-ghost use Rattle.store_model.specs.StoreCall.{Anything};
+ghost use Rattle.store_model.specs.{Service.Present, StoreCall.Anything};
 
 use crate::acts::{Act, Named, fault};
 use crate::board::ROM;

@@ -3,9 +3,7 @@
 // Behind the hand-off HOB, which has 56 bytes, stand four descriptors of 48 bytes with their headers, and then four nodes of 40:
 // of the two notifications, of the PPI, and of the pair that is queued. The end HOB is at 56 + 192 + 160 = 408.
 ghost use Rattle.std.specs.Prelude.{◌≡◌, true};
-ghost use Rattle.store_model.specs.StoreState.{StoreState};
-ghost use Rattle.store_model.specs.StateFacts.{IsDescriptorAt, IsNumberOf};
-ghost use Rattle.store_model.specs.Service.{Present};
+ghost use Rattle.store_model.specs.{StoreState.StoreState, StateFacts.IsDescriptorAt, StateFacts.IsNumberOf, Service.Present};
 ghost use Rattle.store_model.specs.StoreCall.{Anything};
 ghost use Rattle.store_laws.specs.Bodies.{IsGrown};
 ghost use Rattle.heap_trials.specs.Scene.{IsLaid, IsOfScene};

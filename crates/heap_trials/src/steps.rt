@@ -1,7 +1,6 @@
 // The steps of a trial: calls of any store with their answers, and what it tells.
 ghost use Rattle.std.specs.Prelude.{IfOk};
-ghost use Rattle.store_model.specs.Service.{Present};
-ghost use Rattle.store_model.specs.StoreCall.{Anything, HasPool};
+ghost use Rattle.store_model.specs.{Service.Present, StoreCall.Anything, StoreCall.HasPool};
 
 use crate::calls::{
     core_install, create, desc, install_new, migrate, notify_new, pages, plan, pool, pop,

@@ -1,6 +1,5 @@
 // A trial of both stores.
-ghost use Rattle.store_model.specs.Service.{Present};
-ghost use Rattle.store_model.specs.StoreCall.{Anything};
+ghost use Rattle.store_model.specs.{Service.Present, StoreCall.Anything};
 
 use crate::acts::{Act, are_done};
 use crate::board::{lists_over, store_over};

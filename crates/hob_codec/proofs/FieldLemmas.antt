@@ -1,11 +1,8 @@
 -- Fields one after another.
-use Rattle.std.proofs.Common.{◌≡◌, ℕ, ◌+◌, ◌<◌, ◌≤◌, List, [], ◌∷◌, ◌++◌, length, take, drop, get_or, sym, ap, ◌∙◌, arith, length-append, take-append-drop, append_assoc, Bor, Some, leb}
-use Rattle.std.proofs.lemmas.Option.{cond_some}
-use Rattle.hob_codec.specs.HobValue.{HobValue, kind_of}
+use Rattle.std.proofs.Common.{◌≡◌, ℕ, ◌+◌, ◌<◌, ◌≤◌, List, [], ◌∷◌, ◌++◌, length, take, drop, get_or, sym, ap, ◌∙◌, arith, length-append, take-append-drop, append_assoc, Bor, Some, leb, take_all, append-nil}
+use Rattle.std.proofs.{lemmas.Option.cond_some, lemmas.List.take_more, lemmas.List.Concat.flat_map-append}
+use Rattle.hob_codec.specs.{HobValue.HobValue, HobValue.kind_of, FieldView.all_bytes}
 use Rattle.hob_codec.specs.HobBytes.{hob_bytes, hob_len, joined, header_fields, fields_of, length_of}
-use Rattle.std.proofs.lemmas.List.{take_more, take_all, append-nil}
-use Rattle.std.proofs.lemmas.List.Concat.{flat_map-append}
-use Rattle.hob_codec.specs.FieldView.{all_bytes}
 
 -- no slice
 abbrev pub nothing : Bor (List ℕ)

@@ -1,11 +1,8 @@
 -- The places of a list.
 use Rattle.std.proofs.Common.{◌≡◌, ◌≢◌, ◌⊎◌, inl, inr, ℕ, zero, suc, ◌+◌, ◌-◌, ◌%◌, ◌<◌, ◌≤◌, ◌==◌, Bool, true, false, not, ◌||◌, cond, nat_lt, nat_le, List, [], ◌∷◌, ◌++◌, length, Option, Some, None, refl, sym, ap, ◌∙◌, subst, arith}
-use Rattle.std.proofs.lemmas.Bool.Decides.{nat_tests}
-use Rattle.std.proofs.lemmas.Option.{same_Some, none-some}
-use Rattle.hob_codec.specs.declared.fault.HobFault.{HobFault}
+use Rattle.std.proofs.{lemmas.Bool.Decides.nat_tests, lemmas.Option.same_Some, lemmas.Option.none-some}
+use Rattle.hob_codec.specs.{declared.fault.HobFault.HobFault, declared.list.HobPlace.HobPlace, declared.kind.TheConstants.END}
 use Rattle.hob_codec.specs.declared.fault.HobFault.TheVariants.{Short, Length, NoEnd}
-use Rattle.hob_codec.specs.declared.list.HobPlace.{HobPlace}
-use Rattle.hob_codec.specs.declared.kind.TheConstants.{END}
 use Rattle.hob_codec.specs.HobReading.{kind_at, length_at, reading, behind, header_fault}
 use Rattle.hob_codec.specs.HobList.{Leads, place_at, first_fault, fault_at, AreHobs, IsListFault}
 

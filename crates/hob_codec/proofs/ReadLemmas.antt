@@ -1,7 +1,6 @@
 -- What reading gives, by its steps.
 use Rattle.std.proofs.Common.{◌≡◌, ℕ, ◌+◌, Option, None, refl, List}
-use Rattle.hob_codec.specs.declared.fault.HobFault.{HobFault}
-use Rattle.hob_codec.specs.HobValue.{HobValue}
+use Rattle.hob_codec.specs.{declared.fault.HobFault.HobFault, HobValue.HobValue}
 use Rattle.hob_codec.specs.HobReading.{reading, formed, hob_of, header_fault, kind_at, length_at, body_at}
 
 pub reading_is : (bytes : List ℕ) (at kind len : ℕ) (body : List ℕ) (hob : Option HobValue) → ◌≡◌ {A = Option HobFault} None (header_fault bytes at) → kind ≡ kind_at bytes at → len ≡ length_at bytes at → body ≡ body_at bytes at

@@ -1,14 +1,11 @@
 -- What is encoded is read again.
-use Rattle.std.proofs.Common.{◌≡◌, ◌≢◌, ℕ, ◌+◌, ◌-◌, ◌%◌, ◌^◌, ◌<◌, ◌≤◌, true, false, eqb, ltb, leb, List, [], ◌∷◌, ◌++◌, length, take, drop, Option, Some, None, Ok, refl, sym, ap, ◌∙◌, arith, length-append, append_assoc, inl, inr}
-use Rattle.std.proofs.lemmas.List.{append-nil, take_at, drop_at, drop-drop, length-replicate, length-drop}
-use Rattle.std.proofs.lemmas.List.Concat.{flat_map-append}
+use Rattle.std.proofs.Common.{◌≡◌, ◌≢◌, ℕ, ◌+◌, ◌-◌, ◌%◌, ◌^◌, ◌<◌, ◌≤◌, true, false, eqb, ltb, leb, List, [], ◌∷◌, ◌++◌, length, take, drop, Option, Some, None, Ok, refl, sym, ap, ◌∙◌, arith, length-append, append_assoc, inl, inr, append-nil, take_at, drop_at, drop-drop, length-drop}
+use Rattle.std.proofs.{lemmas.List.length-replicate, lemmas.List.Concat.flat_map-append, lemmas.Option.cond_some}
 use Rattle.hob_codec.proofs.ReadLemmas.{reading_is}
-use Rattle.std.proofs.lemmas.Option.{cond_some}
 use Rattle.std.proofs.lemmas.Bool.Decides.{nat_tests}
 use Rattle.pi_base.specs.Field.{little_number, little_bytes}
 use Rattle.pi_base.proofs.FieldLaws.{little_number-little_bytes}
-use Rattle.hob_codec.specs.declared.hob.Handoff.{Handoff}
-use Rattle.hob_codec.specs.declared.fault.HobFault.{HobFault}
+use Rattle.hob_codec.specs.{declared.hob.Handoff.Handoff, declared.fault.HobFault.HobFault}
 use Rattle.hob_codec.specs.HobValue.{HobValue, HandoffHob, AllocationHob, ResourceHob, NamedHob, VolumeHob, CpuHob, PoolHob, Volume2Hob, OtherHob, IsHob, kind_of}
 use Rattle.hob_codec.specs.HobBytes.{hob_bytes, hob_len, joined, header_fields, fields_of, length_of, padding, padded_len}
 use Rattle.hob_codec.specs.HobReading.{reading, padded, hob_of, kind_at, length_at, body_at, header_fault}

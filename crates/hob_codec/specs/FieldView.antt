@@ -1,6 +1,5 @@
 -- The bytes of slices, one after another.
-use Rattle.std.specs.Prelude.{ℕ, List}
-use Rattle.std.specs.List.{flat_map}
+use Rattle.std.specs.Prelude.{ℕ, List, flat_map}
 use Rattle.std.specs.Borrow.{Bor}
 
 abbrev pub all_bytes : List (Bor (List ℕ)) → List ℕ

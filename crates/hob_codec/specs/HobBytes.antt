@@ -1,6 +1,5 @@
 -- The bytes of a hand-off block: type, length and 4 reserved bytes, then its fields. PI 1.8, volume 3, `EFI_HOB_GENERIC_HEADER`. Numbers are little-endian; a body is padded with zeros to a multiple of 8.
-use Rattle.std.specs.Prelude.{ℕ, ◌+◌, ◌-◌, ◌*◌, ◌/◌, List, [], ◌∷◌, ◌++◌, length, replicate, nat_le, if◌then◌else◌, Option, Some, None}
-use Rattle.std.specs.List.{flat_map}
+use Rattle.std.specs.Prelude.{ℕ, ◌+◌, ◌-◌, ◌*◌, ◌/◌, List, [], ◌∷◌, ◌++◌, length, replicate, nat_le, if◌then◌else◌, Option, Some, None, flat_map}
 use Rattle.pi_base.specs.Field.{little_bytes}
 use Rattle.hob_codec.specs.HobValue.{HobValue, HandoffHob, AllocationHob, ResourceHob, NamedHob, VolumeHob, CpuHob, PoolHob, Volume2Hob, OtherHob, kind_of}
 

@@ -2,8 +2,7 @@
 use Rattle.std.specs.Prelude.{◌≡◌, ◌≢◌, ℕ, ◌+◌, ◌&&◌, not, nat_le, ◌==◌, if◌then◌else◌, List, [], ◌∷◌, length, Option, Some, None, Result, Ok, Err}
 use Rattle.hob_codec.specs.declared.fault.HobFault.{HobFault}
 use Rattle.hob_codec.specs.declared.fault.HobFault.TheVariants.{NoEnd, Form}
-use Rattle.hob_codec.specs.declared.list.HobPlace.{HobPlace}
-use Rattle.hob_codec.specs.declared.kind.TheConstants.{HANDOFF, END}
+use Rattle.hob_codec.specs.{declared.list.HobPlace.HobPlace, declared.kind.TheConstants.HANDOFF, declared.kind.TheConstants.END}
 use Rattle.hob_codec.specs.HobValue.{HobValue}
 use Rattle.hob_codec.specs.HobReading.{reading, kind_at, length_at}
 

@@ -1,12 +1,10 @@
 -- A hand-off block that is read at a place, or the first fault there, in the order Short, Length, Form. PI 1.8, volume 3.
 use Rattle.std.specs.Prelude.{ℕ, ◌+◌, ◌-◌, ◌%◌, ◌&&◌, ◌||◌, not, nat_lt, nat_le, ◌==◌, if◌then◌else◌, List, ◌++◌, length, take, drop, slice_index, Option, Some, None, Result, Ok, Err}
-use Rattle.pi_base.specs.Field.{little_number}
-use Rattle.pi_base.specs.Guids.{guid_at}
-use Rattle.hob_codec.specs.declared.fault.HobFault.{HobFault}
+use Rattle.pi_base.specs.{Field.little_number, Guids.guid_at}
+use Rattle.hob_codec.specs.{declared.fault.HobFault.HobFault, HobBytes.padding}
 use Rattle.hob_codec.specs.declared.fault.HobFault.TheVariants.{Short, Length, Form}
 use Rattle.hob_codec.specs.declared.kind.TheConstants.{HANDOFF, ALLOCATION, RESOURCE, NAMED, VOLUME, CPU, POOL, VOLUME2, END}
 use Rattle.hob_codec.specs.HobValue.{HobValue, HandoffHob, AllocationHob, ResourceHob, NamedHob, VolumeHob, CpuHob, PoolHob, Volume2Hob, OtherHob}
-use Rattle.hob_codec.specs.HobBytes.{padding}
 
 -- the number of so many bytes at a place of a body
 abbrev pub number_at : ℕ → ℕ → List ℕ → ℕ

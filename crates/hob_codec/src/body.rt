@@ -1,8 +1,7 @@
 // The HOB that a type and a body are.
 ghost use Rattle.std.specs.Prelude.{◌≡◌, length, option_map};
-ghost use Rattle.hob_codec.specs.HobValue.{HandoffHob};
+ghost use Rattle.hob_codec.specs.{HobValue.HandoffHob, HobView.hob_value};
 ghost use Rattle.hob_codec.specs.HobReading.{hob_of, handoff_of, allocation_of, resource_of, volume2_of};
-ghost use Rattle.hob_codec.specs.HobView.{hob_value};
 
 use crate::hob::{Handoff, Hob};
 use crate::kind::{ALLOCATION, CPU, END, HANDOFF, NAMED, POOL, RESOURCE, VOLUME, VOLUME2};

@@ -1,7 +1,6 @@
 // Fields that are written one after another, and fields of a body.
 ghost use Rattle.std.specs.Prelude.{◌≡◌, ◌≤◌, ◌+◌, ◌++◌, length, take};
-ghost use Rattle.hob_codec.specs.HobBytes.{padding, padded_len};
-ghost use Rattle.hob_codec.specs.FieldView.{all_bytes};
+ghost use Rattle.hob_codec.specs.{HobBytes.padding, HobBytes.padded_len, FieldView.all_bytes};
 
 const ZEROS: [u8; 8] = [0; 8];
 

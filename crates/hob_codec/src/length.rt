@@ -1,7 +1,6 @@
 // The length of an encoded HOB, in bytes with its header.
 ghost use Rattle.std.specs.Prelude.{◌≡◌, ◌≤◌, ◌+◌, ◌%◌, length, nat_le, if◌then◌else◌};
-ghost use Rattle.hob_codec.specs.HobBytes.{hob_len, padded_len};
-ghost use Rattle.hob_codec.specs.HobView.{hob_value};
+ghost use Rattle.hob_codec.specs.{HobBytes.hob_len, HobBytes.padded_len, HobView.hob_value};
 
 use crate::hob::Hob;
 

@@ -1,8 +1,6 @@
 // The places of a HOB list.
 ghost use Rattle.std.specs.Prelude.{◌≡◌, ◌≢◌, ◌⊎◌, ◌≤◌, ◌+◌, ℕ, List, length, IfOk, IfErr, Some, None, MatchResult};
-ghost use Rattle.hob_codec.specs.HobList.{AreHobs, IsListFault};
-ghost use Rattle.hob_codec.specs.declared.list.HobPlace.{HobPlace};
-ghost use Rattle.hob_codec.specs.declared.fault.HobFault.{HobFault};
+ghost use Rattle.hob_codec.specs.{HobList.AreHobs, HobList.IsListFault, declared.list.HobPlace.HobPlace, declared.fault.HobFault.HobFault};
 ghost use Rattle.hob_codec.specs.declared.fault.HobFault.TheVariants.{Memory};
 
 use crate::fault::HobFault;

@@ -1,9 +1,7 @@
 // Reading a HOB at a place.
 ghost use Rattle.std.specs.Prelude.{◌≡◌, ◌≤◌, ◌+◌, ◌++◌, ℕ, List, length, IfNone, Some, Ok, Err, MatchResult, IfOk};
 ghost use Rattle.hob_codec.specs.HobReading.{reading, padded, header_fault, length_at, body_at};
-ghost use Rattle.hob_codec.specs.HobValue.{HobValue, IsHob};
-ghost use Rattle.hob_codec.specs.HobBytes.{hob_bytes, hob_len};
-ghost use Rattle.hob_codec.specs.HobView.{hob_value};
+ghost use Rattle.hob_codec.specs.{HobValue.HobValue, HobValue.IsHob, HobBytes.hob_bytes, HobBytes.hob_len, HobView.hob_value};
 
 use crate::body::hob_of;
 use crate::fault::HobFault;

@@ -1,18 +1,12 @@
 -- The text of a GUID: its characters, and reading it.
-use Rattle.std.proofs.Common.{◌≡◌, ◌<◌, ◌/◌, ◌%◌, ◌&&◌, ℕ, zero, suc, Bool, true, false, eqb, cond, List, [], ◌∷◌, length, Some, None, option_map, refl, sym, ap, ◌∙◌, arith, inl, All}
-use Rattle.std.specs.Prelude.{nat_lt, slice_index}
+use Rattle.std.proofs.Common.{◌≡◌, ◌<◌, ◌/◌, ◌%◌, ◌&&◌, ℕ, zero, suc, Bool, true, false, eqb, cond, List, [], ◌∷◌, length, Some, None, option_map, refl, sym, ap, ◌∙◌, arith, inl, All, nat_lt, slice_index, length-append}
 use Rattle.std.specs.List.{list_all}
-use Rattle.std.proofs.lemmas.Bool.Decides.{nat_tests}
-use Rattle.std.proofs.lemmas.List.{length-append}
-use Rattle.std.proofs.lemmas.List.Elements.{All-from_recursion}
-use Rattle.std.proofs.lemmas.List.Folds.{list_all-append}
+use Rattle.std.proofs.{lemmas.Bool.Decides.nat_tests, lemmas.List.Elements.All-from_recursion, lemmas.List.Folds.list_all-append}
 use Rattle.uuid.specs.Text.{by_index, is_hyphen_place, hex_digit, nibble, digit_place, hyphenated_text, lower}
 use Rattle.uuid.specs.Parts.{swap_fields}
 use Rattle.uuid.proofs.RoundTrips.{parses_hyphenated_text, swap_twice}
 use Rattle.hex.specs.Hex.{IsBytes}
-use Rattle.pi_base.specs.declared.guid.Guid.{Guid}
-use Rattle.pi_base.specs.GuidText.{guid_of_text}
-use Rattle.pi_base.specs.WordText.{guid_text}
+use Rattle.pi_base.specs.{declared.guid.Guid.Guid, GuidText.guid_of_text, WordText.guid_text}
 use Rattle.line_words.specs.PrintedWords.{IsGuid}
 
 -- a digit or a hyphen

@@ -1,14 +1,9 @@
 -- The digits of a number, read.
-use Rattle.std.proofs.Common.{◌≡◌, ◌≢◌, ℕ, ◌<◌, ◌≤◌, ◌^◌, true, false, ltb, List, [], ◌∷◌, refl, ap, ◌∙◌, arith, get_or, Result, Ok, Err}
-use Rattle.std.specs.Char.{digit_value}
-use Rattle.std.specs.Fmt.{digits}
-use Rattle.std.specs.Str.{IsAscii, IsUtf8}
-use Rattle.std.proofs.Math.Nat.{pow-le-pow_left}
-use Rattle.std.proofs.lemmas.Str.{IsUtf8-from_ascii}
+use Rattle.std.proofs.Common.{◌≡◌, ◌≢◌, ℕ, ◌<◌, ◌≤◌, ◌^◌, true, false, ltb, List, [], ◌∷◌, refl, ap, ◌∙◌, arith, get_or, Result, Ok, Err, IsAscii, IsUtf8}
+use Rattle.std.specs.{Char.digit_value, Fmt.digits}
+use Rattle.std.proofs.{Math.Nat.pow-le-pow_left, lemmas.Str.IsUtf8-from_ascii, lemmas.Fmt.digits_is_IsNumeral}
 use Rattle.std.specs.Str.Parse.{AllDigits, IsNumeral, digits_value, ParsesUnsigned, without_leading_plus}
-use Rattle.std.proofs.lemmas.Fmt.{digits_is_IsNumeral}
-use Rattle.std.proofs.lemmas.Str.Ascii.{IsAscii-nil, IsAscii-cons}
-use Rattle.std.proofs.lemmas.Str.Parse.{without_leading_plus_none}
+use Rattle.std.proofs.{lemmas.Str.Ascii.IsAscii-nil, lemmas.Str.Ascii.IsAscii-cons, lemmas.Str.Parse.without_leading_plus_none}
 use Rattle.std.proofs.lemmas.Bool.Decides.{nat_tests}
 use Rattle.line_words.specs.PrintedWords.{IsPlain}
 

@@ -1,9 +1,6 @@
 -- What follows a front.
-use Rattle.std.proofs.Common.{◌≡◌, ℕ, ◌+◌, true, false, eqb, List, ◌++◌, length, take, drop, refl, sym, ap, ◌∙◌, Option, Some, None}
-use Rattle.std.specs.Option.{MatchOption}
-use Rattle.std.specs.Borrow.{Bor}
+use Rattle.std.proofs.Common.{◌≡◌, ℕ, ◌+◌, true, false, eqb, List, ◌++◌, length, take, drop, refl, sym, ap, ◌∙◌, Option, Some, None, MatchOption, Bor, take_at, take-append-drop}
 use Rattle.std.specs.Cmp.Lexicographic.{pointwise}
-use Rattle.std.proofs.lemmas.List.{take_at, take-append-drop}
 use Rattle.line_words.proofs.Comparisons.{same}
 
 front_there : (bytes front rest : List ℕ) → pointwise eqb (take (length front) bytes) front ≡ true → rest ≡ drop (length front) bytes → bytes ≡ front ++ rest

@@ -1,16 +1,11 @@
 -- The words of numbers, GUIDs and bytes are plain.
-use Rattle.std.proofs.Common.{◌≡◌, ℕ, suc, ◌<◌, ◌/◌, ◌%◌, ◌^◌, true, ltb, List, [], ◌∷◌, refl, arith, decimal, slice_index}
-use Rattle.std.specs.Prelude.{nat_lt}
+use Rattle.std.proofs.Common.{◌≡◌, ℕ, suc, ◌<◌, ◌/◌, ◌%◌, ◌^◌, true, ltb, List, [], ◌∷◌, refl, arith, decimal, slice_index, nat_lt}
 use Rattle.std.specs.List.{list_all}
-use Rattle.std.proofs.lemmas.Bool.{and_parts}
-use Rattle.std.proofs.lemmas.Bool.Decides.{nat_tests}
-use Rattle.std.proofs.lemmas.List.Sums.{AllPass-from_list_all}
+use Rattle.std.proofs.{lemmas.Bool.and_parts, lemmas.Bool.Decides.nat_tests, lemmas.List.Sums.AllPass-from_list_all}
 use Rattle.hex.specs.Hex.{encode_with, encode_lower, lower_digits, IsBytes}
-use Rattle.pi_base.specs.declared.guid.Guid.{Guid}
-use Rattle.pi_base.specs.WordText.{hexadecimal, guid_text}
+use Rattle.pi_base.specs.{declared.guid.Guid.Guid, WordText.hexadecimal, WordText.guid_text}
 use Rattle.line_words.specs.PrintedWords.{IsPlain}
-use Rattle.line_words.proofs.GuidWords.{is_guid_char, guid_chars}
-use Rattle.line_words.proofs.Numerals.{numeral_plain}
+use Rattle.line_words.proofs.{GuidWords.is_guid_char, GuidWords.guid_chars, Numerals.numeral_plain}
 
 pub decimal_plain : (n : ℕ) → n < 2 ^ 64 → IsPlain (decimal n)
 decimal_plain n fits = numeral_plain 10 n (omega arith) (omega arith) fits

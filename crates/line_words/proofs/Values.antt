@@ -1,11 +1,8 @@
 -- The value of digits, one more at the end.
 use Rattle.std.proofs.Common.{◌≡◌, ℕ, ◌+◌, ◌*◌, ◌^◌, ◌<◌, ◌≤◌, Bool, true, false, cond, ◌&&◌, ltb, List, [], ◌∷◌, ◌++◌, length, take, drop, refl, sym, ap, ◌∙◌, arith, length-append, get_or, take-append-drop, Option, Some, None, pow-add}
 use Rattle.std.proofs.Math.Nat.{pow-suc, pow-zero, mul-le-mul_left, one-le-pow}
-use Rattle.std.proofs.lemmas.List.{take_more}
-use Rattle.std.proofs.lemmas.List.Folds.{list_all-append}
-use Rattle.std.proofs.lemmas.Bool.Decides.{nat_tests}
-use Rattle.std.specs.Char.{digit_value, is_digit}
-use Rattle.std.specs.List.{list_all}
+use Rattle.std.proofs.{lemmas.List.take_more, lemmas.List.Folds.list_all-append, lemmas.Bool.Decides.nat_tests}
+use Rattle.std.specs.{Char.digit_value, Char.is_digit, List.list_all}
 use Rattle.line_words.specs.Number.{value_in, number_in, are_digits}
 
 -- digits behind digits

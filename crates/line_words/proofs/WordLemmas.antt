@@ -1,11 +1,8 @@
 -- The first word of a line.
-use Rattle.std.proofs.Common.{◌≡◌, ◌≢◌, ℕ, ◌+◌, ◌<◌, Bool, true, false, eqb, ltb, List, [], ◌∷◌, length, take, drop, refl, ap, ◌∙◌, arith, get_or, inl, inr, length-take}
-use Rattle.std.specs.List.{slice_split, position_or_len, filter}
-use Rattle.std.proofs.lemmas.Bool.{cases_lt}
-use Rattle.std.proofs.lemmas.List.{drop_more, drop_all, take_all}
-use Rattle.std.proofs.lemmas.List.Splits.{slice_split_first}
-use Rattle.std.proofs.lemmas.List.Sums.{passes_at_first}
-use Rattle.std.proofs.lemmas.Bool.Decides.{nat_tests}
+use Rattle.std.proofs.Common.{◌≡◌, ◌≢◌, ℕ, ◌+◌, ◌<◌, Bool, true, false, eqb, ltb, List, [], ◌∷◌, length, take, drop, refl, ap, ◌∙◌, arith, get_or, inl, inr, length-take, filter, take_all}
+use Rattle.std.specs.List.{slice_split, position_or_len}
+use Rattle.std.proofs.{lemmas.Bool.cases_lt, lemmas.List.drop_more, lemmas.List.drop_all, lemmas.List.Splits.slice_split_first}
+use Rattle.std.proofs.{lemmas.List.Sums.passes_at_first, lemmas.Bool.Decides.nat_tests}
 use Rattle.line_words.specs.Words.{words}
 use Rattle.line_words.proofs.LineLemmas.{is_byte, no_cut}
 

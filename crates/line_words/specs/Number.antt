@@ -1,7 +1,6 @@
 -- The numbers of a line (own): decimal digits, or `0x` and hexadecimal digits of either case, below 2^64.
 use Rattle.std.specs.Prelude.{ℕ, ◌+◌, ◌*◌, ◌^◌, Bool, ◌&&◌, nat_lt, ◌==◌, if◌then◌else◌, List, [], ◌∷◌, length, Option, Some, None}
-use Rattle.std.specs.Char.{digit_value, is_digit}
-use Rattle.std.specs.List.{list_all}
+use Rattle.std.specs.{Char.digit_value, Char.is_digit, List.list_all}
 
 -- the value of digits by their places: each counts its base once more for each digit behind it
 abbrev pub value_in : ℕ → List ℕ → ℕ

@@ -1,8 +1,6 @@
 // The lines of a text.
-ghost use Rattle.std.specs.Prelude.{◌≡◌, ◌≤◌, ◌<◌, ◌∷◌, length};
-ghost use Rattle.std.specs.List.{position_or_len};
-ghost use Rattle.std.specs.Prelude.{◌==◌};
-ghost use Rattle.std.specs.Str.Lines.{strip_carriage_return};
+ghost use Rattle.std.specs.Prelude.{◌≡◌, ◌≤◌, ◌<◌, ◌∷◌, length, ◌==◌};
+ghost use Rattle.std.specs.{List.position_or_len, Str.Lines.strip_carriage_return};
 ghost use Rattle.line_words.specs.Line.{lines, is_passed_over};
 
 const LINE_FEED: u8 = b'\n';

@@ -1,6 +1,5 @@
 // The numbers of a line.
-ghost use Rattle.std.specs.Prelude.{◌≡◌, ◌≤◌, ◌<◌, ◌+◌, ◌*◌, ◌^◌};
-ghost use Rattle.std.specs.Option.{SomeIff};
+ghost use Rattle.std.specs.Prelude.{◌≡◌, ◌≤◌, ◌<◌, ◌+◌, ◌*◌, ◌^◌, SomeIff};
 ghost use Rattle.line_words.specs.Number.{number_of, number_in};
 
 const DECIMAL: u32 = 10;

@@ -1,18 +1,12 @@
 -- Calls that make no pair.
-use Rattle.std.proofs.Common.{◌≡◌, ℕ, ◌+◌, ◌<◌, ◌≤◌, Bool, true, false, not, cond, ◌||◌, List, [], ◌∷◌, ◌++◌, length, drop, get_or, ap, refl, sym, ◌∙◌}
-use Rattle.std.specs.Prelude.{filter, flat_map, map}
+use Rattle.std.proofs.Common.{◌≡◌, ℕ, ◌+◌, ◌<◌, ◌≤◌, Bool, true, false, not, cond, ◌||◌, List, [], ◌∷◌, ◌++◌, length, drop, get_or, ap, refl, sym, ◌∙◌, filter, flat_map, map}
 use Rattle.std.specs.List.{list_any}
 use Rattle.pi_base.specs.declared.guid.Guid.{Guid}
-use Rattle.mem_store.specs.declared.guid_index.index.Indexed.{Indexed}
-use Rattle.mem_store.specs.Entries.{has_guid}
-use Rattle.store_model.specs.declared.store_handle.Desc.{Desc}
-use Rattle.store_model.specs.StoreState.{StoreState}
+use Rattle.mem_store.specs.{declared.guid_index.index.Indexed.Indexed, Entries.has_guid, Answering.RowsAnswer, declared.index.Index.Index}
+use Rattle.store_model.specs.{declared.store_handle.Desc.Desc, StoreState.StoreState, Service.Install.install_pairs, Service.Install.row_of}
 use Rattle.store_model.specs.Service.Descriptor.{descriptors, guid_at, is_callback, kind_at}
-use Rattle.store_model.specs.Service.Install.{install_pairs, row_of}
 use Rattle.store_model.specs.Service.Notify.{new_dispatches, notify_pairs}
-use Rattle.mem_store.specs.Answering.{RowsAnswer}
 use Rattle.mem_store.specs.Rows.{pair_with, row_at, rows_of}
-use Rattle.mem_store.specs.declared.index.Index.{Index}
 use Rattle.mem_store.specs.Indexed.{all_rows, held}
 use Rattle.mem_store.proofs.Listed.{drop_all, drop_on}
 

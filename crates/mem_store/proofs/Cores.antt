@@ -1,26 +1,17 @@
 -- The core's own install.
-use Rattle.std.proofs.Common.{◌+◌, Bool, true, false, cond, [], ◌∷◌, ◌++◌, ap, refl, ◌∙◌, arith, None, Ok, Err}
-use Rattle.std.specs.Prelude.{nat_lt}
-use Rattle.pi_base.specs.declared.guid.Guid.{Guid}
-use Rattle.pi_base.specs.declared.known_guid.TheConstants.{MEMORY_PPI}
-use Rattle.store_model.specs.declared.state.TheConstants.{CORE}
-use Rattle.store_model.specs.declared.state.Body.TheVariants.{Descriptor}
-use Rattle.store_model.specs.declared.state.DescriptorBody.{DescriptorBody}
-use Rattle.store_model.specs.declared.store_handle.Desc.{Desc}
-use Rattle.store_model.specs.declared.store_handle.DescKind.TheVariants.{Ppi}
-use Rattle.store_model.specs.declared.store_handle.GuidFrom.TheVariants.{Inline}
+use Rattle.std.proofs.Common.{◌+◌, Bool, true, false, cond, [], ◌∷◌, ◌++◌, ap, refl, ◌∙◌, arith, None, Ok, Err, nat_lt}
+use Rattle.pi_base.specs.{declared.guid.Guid.Guid, declared.known_guid.TheConstants.MEMORY_PPI}
+use Rattle.store_model.specs.{declared.state.TheConstants.CORE, declared.state.Body.TheVariants.Descriptor}
+use Rattle.store_model.specs.{declared.state.DescriptorBody.DescriptorBody, declared.store_handle.Desc.Desc}
+use Rattle.store_model.specs.{declared.store_handle.DescKind.TheVariants.Ppi, declared.store_handle.GuidFrom.TheVariants.Inline}
 use Rattle.store_model.specs.declared.store_handle.StoreFault.TheVariants as F
-use Rattle.store_model.specs.declared.store_handle.Sweep.{Sweep}
+use Rattle.store_model.specs.{declared.store_handle.Sweep.Sweep, StateFacts.IsDesc, StateFacts.IsStoreState, Service.Service}
 use Rattle.store_model.specs.StoreState.{StoreState, appended, descriptor_len, free, header_len, body_at, next_body, pool_of}
-use Rattle.store_model.specs.StateFacts.{IsDesc, IsStoreState}
-use Rattle.store_model.specs.Service.{Service}
 use Rattle.store_model.specs.Service.Install.{both_or_full, core_install, core_of, install}
-use Rattle.store_laws.specs.Bodies.{BodiesStay}
-use Rattle.store_laws.specs.Keeping.{KeepFacts, Keeps}
+use Rattle.store_laws.specs.{Bodies.BodiesStay, Keeping.KeepFacts, Keeping.Keeps}
 use Rattle.mem_store.specs.Rows.{rows_of}
 use Rattle.mem_store.specs.Serving.{After, RowsInstalled, RowsOfCore}
-use Rattle.mem_store.proofs.KeepingRows.{guid_in}
-use Rattle.mem_store.proofs.Services.{appended_same, install_keeps}
+use Rattle.mem_store.proofs.{KeepingRows.guid_in, Services.appended_same, Services.install_keeps}
 
 both_on : (P Q : StoreState → Type 0) → ((t : StoreState) → P t → Q t) → (service : Service Sweep) → After P service → After Q (both_or_full service)
 both_on P Q f (Ok done) h = f done.1 h

@@ -1,19 +1,12 @@
 -- Descriptors that are handed in stay, with their kinds and GUIDs.
-use Rattle.std.proofs.Common.{◌≡◌, ℕ, Bool, true, false, not, cond, List, [], ◌∷◌, ap, refl, sym, ◌∙◌, Option}
-use Rattle.std.specs.Prelude.{filter, map, option_map, unwrap_or}
-use Rattle.pi_base.specs.declared.guid.Guid.{Guid}
-use Rattle.pi_base.specs.Lists.{Each}
-use Rattle.store_model.specs.declared.state.Body.{Body}
-use Rattle.store_model.specs.declared.state.Body.TheVariants.{Descriptor}
-use Rattle.store_model.specs.declared.store_handle.Desc.{Desc}
-use Rattle.store_model.specs.declared.store_handle.DescKind.{DescKind}
-use Rattle.store_model.specs.declared.store_handle.DescKind.TheVariants.{Dispatch}
-use Rattle.store_model.specs.StoreState.{StoreState}
-use Rattle.store_model.specs.StateFacts.{IsDesc}
+use Rattle.std.proofs.Common.{◌≡◌, ℕ, Bool, true, false, not, cond, List, [], ◌∷◌, ap, refl, sym, ◌∙◌, Option, filter, map, option_map, unwrap_or}
+use Rattle.pi_base.specs.{declared.guid.Guid.Guid, Lists.Each}
+use Rattle.store_model.specs.{declared.state.Body.Body, declared.state.Body.TheVariants.Descriptor, declared.store_handle.Desc.Desc}
+use Rattle.store_model.specs.{declared.store_handle.DescKind.DescKind, declared.store_handle.DescKind.TheVariants.Dispatch}
+use Rattle.store_model.specs.{StoreState.StoreState, StateFacts.IsDesc}
 use Rattle.store_model.specs.Service.Descriptor.{descriptor_in, is_callback, kind_at, offsets}
 use Rattle.store_laws.specs.Bodies.{IsGrown}
-use Rattle.mem_store.specs.Rows.{row_at}
-use Rattle.mem_store.specs.Serving.{DescsStay}
+use Rattle.mem_store.specs.{Rows.row_at, Serving.DescsStay}
 use Rattle.mem_store.proofs.KeepingRows.{guid_in}
 
 -- the kind that a body tells

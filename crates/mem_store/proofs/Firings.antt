@@ -1,24 +1,16 @@
 -- What fires at a PPI and a callback that meet.
-use Rattle.std.proofs.Common.{◌≡◌, ℕ, zero, suc, ◌+◌, Bool, true, false, cond, List, [], ◌∷◌, ap, refl, sym, subst, ◌∙◌, Option, Some, None}
-use Rattle.std.specs.Prelude.{filter, is_some, option_map, slice_get}
-use Rattle.mem_store.specs.declared.guid_index.index.Indexed.{Indexed}
-use Rattle.mem_store.specs.Entries.{entries_of, has_guid}
+use Rattle.std.proofs.Common.{◌≡◌, ℕ, zero, suc, ◌+◌, Bool, true, false, cond, List, [], ◌∷◌, ap, refl, sym, subst, ◌∙◌, Option, Some, None, filter, is_some, option_map, slice_get}
+use Rattle.mem_store.specs.{declared.guid_index.index.Indexed.Indexed, Entries.entries_of, Entries.has_guid, declared.index.Index.Index}
 use Rattle.pi_base.specs.declared.guid.Guid.{Guid}
-use Rattle.store_model.specs.declared.store_handle.DescKind.{DescKind}
-use Rattle.store_model.specs.declared.store_handle.DescKind.TheVariants.{Ppi}
-use Rattle.store_model.specs.StateFacts.{IsDesc, IsStoreState}
-use Rattle.store_model.specs.Service.Descriptor.{guid_at, number_at}
+use Rattle.store_model.specs.{declared.store_handle.DescKind.DescKind, declared.store_handle.DescKind.TheVariants.Ppi}
+use Rattle.store_model.specs.{StateFacts.IsDesc, StateFacts.IsStoreState, Service.Descriptor.guid_at, Service.Descriptor.number_at}
 use Rattle.store_laws.specs.Named.{IsNamed, NamedAreThere}
 use Rattle.store_laws.proofs.Sweeps.{fires_at}
-use Rattle.mem_store.specs.declared.index.Index.{Index}
-use Rattle.store_model.specs.declared.state.Entry.{Entry}
-use Rattle.store_model.specs.declared.store_handle.Firing.{Firing}
-use Rattle.store_model.specs.declared.store_handle.Sweep.{Sweep}
+use Rattle.store_model.specs.{declared.state.Entry.Entry, declared.store_handle.Firing.Firing, declared.store_handle.Sweep.Sweep}
 use Rattle.store_model.specs.StoreState.{StoreState}
 use Rattle.store_model.specs.Service.Sweep.{firing_at, firing_of, have_one_guid, places_at}
-use Rattle.mem_store.specs.Rows.{rows_of}
+use Rattle.mem_store.specs.{Rows.rows_of, Meeting.meets}
 use Rattle.mem_store.specs.Indexed.{Rows, all_rows, held}
-use Rattle.mem_store.specs.Meeting.{meets}
 use Rattle.mem_store.proofs.Meetings.{entry_row, met_is}
 
 -- what is told at two places

@@ -1,14 +1,10 @@
 -- The entries that have a GUID, by their places.
-use Rattle.std.proofs.Common.{◌≡◌, ℕ, zero, suc, ◌+◌, ◌≤◌, ◌<◌, Bool, true, false, cond, ◌||◌, List, [], ◌∷◌, ◌++◌, length, arith, ap, refl, sym, ◌∙◌, subst, Some, length-append}
-use Rattle.std.specs.Prelude.{slice_get, slice_set, nat_lt}
+use Rattle.std.proofs.Common.{◌≡◌, ℕ, zero, suc, ◌+◌, ◌≤◌, ◌<◌, Bool, true, false, cond, ◌||◌, List, [], ◌∷◌, ◌++◌, length, arith, ap, refl, sym, ◌∙◌, subst, Some, length-append, slice_get, slice_set, nat_lt, option_and_then}
 use Rattle.std.specs.List.{list_any}
-use Rattle.std.specs.Option.{option_and_then}
 use Rattle.std.proofs.lemmas.Bool.Decides.{nat_tests}
-use Rattle.pi_base.specs.declared.guid.Guid.{Guid}
-use Rattle.pi_base.specs.Guids.{same_guid}
-use Rattle.guid_lists.specs.declared.lists.GuidLists.{GuidLists}
+use Rattle.pi_base.specs.{declared.guid.Guid.Guid, Guids.same_guid}
+use Rattle.guid_lists.specs.{declared.lists.GuidLists.GuidLists, Places.AreAt, Places.places}
 use Rattle.guid_lists.specs.Lists.{HasInstead, Passes, Rises, list_of, passed_list, with_number, without_number}
-use Rattle.guid_lists.specs.Places.{AreAt, places}
 use Rattle.guid_lists.proofs.Placing.{added, alike, from_on, one_more, rises, taken}
 use Rattle.guid_lists.proofs.Passing.{same_is, same_self}
 use Rattle.mem_store.specs.declared.guid_index.index.Indexed.{Indexed}

@@ -1,23 +1,17 @@
 -- Rows that stay as they are.
-use Rattle.std.proofs.Common.{◌≡◌, ◌≢◌, ℕ, Bool, true, false, cond, ◌||◌, ◌==◌, List, [], ◌∷◌, ◌++◌, ap, refl, sym, ◌∙◌, Option, Some, eq-eqb}
-use Rattle.std.specs.Prelude.{option_map, unwrap_or}
+use Rattle.std.proofs.Common.{◌≡◌, ◌≢◌, ℕ, Bool, true, false, cond, ◌||◌, ◌==◌, List, [], ◌∷◌, ◌++◌, ap, refl, sym, ◌∙◌, Option, Some, eq-eqb, option_map, unwrap_or}
 use Rattle.std.specs.List.{list_any}
-use Rattle.pi_base.specs.declared.guid.Guid.{Guid}
-use Rattle.pi_base.specs.Lists.{Each}
-use Rattle.store_model.specs.declared.state.Body.{Body}
-use Rattle.store_model.specs.declared.state.Body.TheVariants.{Bytes, Descriptor}
-use Rattle.store_model.specs.declared.state.DescriptorBody.{DescriptorBody}
-use Rattle.store_model.specs.declared.state.Entry.{Entry}
-use Rattle.store_model.specs.declared.store_handle.DescKind.{DescKind}
+use Rattle.pi_base.specs.{declared.guid.Guid.Guid, Lists.Each}
+use Rattle.store_model.specs.{declared.state.Body.Body, declared.state.Body.TheVariants.Bytes, declared.state.Body.TheVariants.Descriptor}
+use Rattle.store_model.specs.{declared.state.DescriptorBody.DescriptorBody, declared.state.Entry.Entry}
+use Rattle.store_model.specs.{declared.store_handle.DescKind.DescKind, HeapImage.descriptor_bytes}
 use Rattle.store_model.specs.declared.store_handle.DescKind.TheVariants.{Ppi, Callback, Dispatch}
-use Rattle.store_model.specs.HeapImage.{descriptor_bytes}
 use Rattle.store_model.specs.StoreState.{Range, StoreState, body_at}
 use Rattle.store_model.specs.StateFacts.{IsEntry, IsStoreState}
 use Rattle.store_model.specs.Migration.{migrated_to, moved_body, moved_descriptor}
 use Rattle.store_model.specs.Service.Descriptor.{descriptor_in, descriptors, is_named, no_guid}
 use Rattle.store_laws.specs.Bodies.{BodiesStay, IsGrown, KeepsLength, changed}
-use Rattle.mem_store.specs.Rows.{row_at, rows_of}
-use Rattle.mem_store.specs.Staying.{RowsAre}
+use Rattle.mem_store.specs.{Rows.row_at, Rows.rows_of, Staying.RowsAre}
 
 -- the GUID that a body tells
 abbrev pub guid_in : Option Body → Guid

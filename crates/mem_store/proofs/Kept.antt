@@ -1,16 +1,10 @@
 -- Calls that leave the lists as they are, over the index that says of the state behind them what it said before.
-use Rattle.std.proofs.Common.{◌≡◌, Bool, true, false, sym, subst, Option, Some, None, Result, Ok, Err}
-use Rattle.std.specs.Prelude.{IfSome}
-use Rattle.store_model.specs.declared.store_handle.StoreFault.{StoreFault}
+use Rattle.std.proofs.Common.{◌≡◌, Bool, true, false, sym, subst, Option, Some, None, Result, Ok, Err, IfSome}
+use Rattle.store_model.specs.{declared.store_handle.StoreFault.StoreFault, StoreState.StoreState, StateFacts.IsStoreState}
 use Rattle.store_model.specs.declared.store_handle.StoreFault.TheVariants as F
-use Rattle.store_model.specs.StoreState.{StoreState}
-use Rattle.store_model.specs.StateFacts.{IsStoreState}
 use Rattle.store_model.specs.Service.{Answers, Performs, Service, Stores, Takes}
-use Rattle.mem_store.specs.Serving.{After, RowsSame}
+use Rattle.mem_store.specs.{Serving.After, Serving.RowsSame, declared.index.Index.Index, declared.store.MemStore.MemStore, Indexed.Says}
 use Rattle.heap_store.specs.HeapState as H
-use Rattle.mem_store.specs.declared.index.Index.{Index}
-use Rattle.mem_store.specs.declared.store.MemStore.{MemStore}
-use Rattle.mem_store.specs.Indexed.{Says}
 use Rattle.mem_store.specs.MemState.{StandsFor}
 use Rattle.mem_store.proofs.Saying.{facts_of, same_says}
 

@@ -1,14 +1,10 @@
 -- Rows that are put one by one.
-use Rattle.std.proofs.Common.{◌≡◌, ℕ, zero, suc, ◌+◌, ◌<◌, ◌≤◌, Bool, true, false, cond, List, [], ◌∷◌, ◌++◌, length, drop, get_or, arith, ap, refl, sym, ◌∙◌}
-use Rattle.std.specs.Prelude.{filter, map}
+use Rattle.std.proofs.Common.{◌≡◌, ℕ, zero, suc, ◌+◌, ◌<◌, ◌≤◌, Bool, true, false, cond, List, [], ◌∷◌, ◌++◌, length, drop, get_or, arith, ap, refl, sym, ◌∙◌, filter, map}
 use Rattle.pi_base.specs.Lists.{Each}
-use Rattle.mem_store.specs.declared.guid_index.index.Indexed.{Indexed}
-use Rattle.store_model.specs.declared.store_handle.Desc.{Desc}
-use Rattle.store_model.specs.StoreState.{StoreState}
+use Rattle.mem_store.specs.{declared.guid_index.index.Indexed.Indexed, declared.index.Which.Which, Picked.is_picked, Picked.picked_of}
+use Rattle.store_model.specs.{declared.store_handle.Desc.Desc, StoreState.StoreState}
 use Rattle.store_model.specs.Service.Descriptor.{is_callback, kind_at, offsets}
-use Rattle.mem_store.specs.declared.index.Which.{Which}
 use Rattle.mem_store.specs.declared.index.Which.TheVariants.{All, Callbacks, Others}
-use Rattle.mem_store.specs.Picked.{is_picked, picked_of}
 
 pub each_at : {A : Type 0} (P : A → Type 0) (xs : List A) (i : ℕ) (d : A) → i < length xs → Each P xs → P (get_or xs i d)
 each_at P [] i d le h = absurd (omega (arith, le))

@@ -1,23 +1,13 @@
 -- The pairs of a sweep, by the rows of a state.
-use Rattle.std.proofs.Common.{◌≡◌, ℕ, zero, suc, ◌+◌, ◌-◌, ◌<◌, ◌≤◌, Bool, true, false, cond, List, [], ◌∷◌, ap, arith, refl, sym, subst, ◌∙◌, Option, Some, None, inl, inr}
-use Rattle.std.specs.Prelude.{map, option_map, slice_get, unwrap_or}
-use Rattle.std.specs.Option.{option_and_then}
-use Rattle.std.proofs.lemmas.Bool.Decides.{eqb_tells, same_from_decides}
-use Rattle.std.proofs.lemmas.Slice.Eq.{bytes_eq-Decides}
-use Rattle.pi_base.specs.declared.guid.Guid.{Guid}
-use Rattle.pi_base.specs.Guids.{same_guid}
-use Rattle.pi_base.specs.Lists.{numbers}
-use Rattle.mem_store.specs.declared.guid_index.index.Indexed.{Indexed}
-use Rattle.mem_store.specs.Entries.{has_at, has_guid}
-use Rattle.store_model.specs.declared.state.Entry.{Entry}
-use Rattle.store_model.specs.declared.store_handle.Firing.{Firing}
-use Rattle.store_model.specs.declared.store_handle.Sweep.{Sweep}
-use Rattle.store_model.specs.StoreState.{StoreState}
-use Rattle.store_model.specs.Service.Descriptor.{guid_at}
+use Rattle.std.proofs.Common.{◌≡◌, ℕ, zero, suc, ◌+◌, ◌-◌, ◌<◌, ◌≤◌, Bool, true, false, cond, List, [], ◌∷◌, ap, arith, refl, sym, subst, ◌∙◌, Option, Some, None, inl, inr, map, option_map, slice_get, unwrap_or, option_and_then}
+use Rattle.std.proofs.{lemmas.Bool.Decides.eqb_tells, lemmas.Bool.Decides.same_from_decides, lemmas.Slice.Eq.bytes_eq-Decides}
+use Rattle.pi_base.specs.{declared.guid.Guid.Guid, Guids.same_guid, Lists.numbers}
+use Rattle.mem_store.specs.{declared.guid_index.index.Indexed.Indexed, Entries.has_at, Entries.has_guid, Rows.row_at, Rows.rows_of}
+use Rattle.store_model.specs.{declared.state.Entry.Entry, declared.store_handle.Firing.Firing, declared.store_handle.Sweep.Sweep}
+use Rattle.store_model.specs.{StoreState.StoreState, Service.Descriptor.guid_at}
 use Rattle.store_model.specs.Service.Sweep.{first_firing, firing_at, have_one_guid, pairs_left, pairs_with, places_at}
 use Rattle.store_laws.specs.Sweeps.{standing}
 use Rattle.store_laws.proofs.Sweeps.{none_here}
-use Rattle.mem_store.specs.Rows.{row_at, rows_of}
 use Rattle.mem_store.specs.Indexed.{Rows, all_rows}
 use Rattle.mem_store.specs.Meeting.{IsFirstMet, NoneMeets, meets}
 

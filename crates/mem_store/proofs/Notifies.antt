@@ -1,23 +1,17 @@
 -- Notifications behind the others of their kinds.
-use Rattle.std.proofs.Common.{◌≡◌, ℕ, ◌+◌, Bool, true, false, not, cond, ◌||◌, List, [], ◌∷◌, ◌++◌, length, ap, refl, sym, subst, ◌∙◌, Ok, Err}
-use Rattle.std.specs.Prelude.{fold, map}
+use Rattle.std.proofs.Common.{◌≡◌, ℕ, ◌+◌, Bool, true, false, not, cond, ◌||◌, List, [], ◌∷◌, ◌++◌, length, ap, refl, sym, subst, ◌∙◌, Ok, Err, fold, map}
 use Rattle.std.specs.List.{list_any}
 use Rattle.pi_base.specs.Lists.{Each}
-use Rattle.store_model.specs.declared.state.Body.TheVariants.{Descriptor, Node}
-use Rattle.store_model.specs.declared.state.Entry.{Entry}
-use Rattle.store_model.specs.declared.store_handle.Desc.{Desc}
-use Rattle.store_model.specs.declared.store_handle.DescKind.{DescKind}
+use Rattle.store_model.specs.{declared.state.Body.TheVariants.Descriptor, declared.state.Body.TheVariants.Node, declared.state.Entry.Entry}
+use Rattle.store_model.specs.{declared.store_handle.Desc.Desc, declared.store_handle.DescKind.DescKind}
 use Rattle.store_model.specs.declared.store_handle.DescKind.TheVariants.{Ppi, Callback, Dispatch}
 use Rattle.store_model.specs.declared.store_handle.StoreFault.TheVariants as F
-use Rattle.store_model.specs.StoreState.{StoreState, pool_of}
-use Rattle.store_model.specs.StateFacts.{IsDesc, IsStoreState}
-use Rattle.store_model.specs.Service.{in_room}
+use Rattle.store_model.specs.{StoreState.StoreState, StoreState.pool_of, StateFacts.IsDesc, StateFacts.IsStoreState, Service.in_room}
 use Rattle.store_model.specs.Service.Descriptor.{descriptors, is_callback, is_ppi, kind_at}
 use Rattle.store_model.specs.Service.Install.{node_need, with_pending}
 use Rattle.store_model.specs.Service.Notify.{new_callbacks, new_dispatches, note_entry, notified, notify, notify_pairs, notify_sweep, with_note, with_note_of}
 use Rattle.store_laws.specs.Bodies.{BodiesStay, IsGrown}
-use Rattle.mem_store.specs.Rows.{row_at, rows_of}
-use Rattle.mem_store.specs.Serving.{After, RowsNotified}
+use Rattle.mem_store.specs.{Rows.row_at, Rows.rows_of, Serving.After, Serving.RowsNotified}
 use Rattle.mem_store.proofs.KeepingRows.{grown_rows}
 use Rattle.mem_store.proofs.Descs.{descs_stay, kind_in, picked_rows}
 use Rattle.mem_store.proofs.Services.{joined, made_in_room, map_append, nothing_more}

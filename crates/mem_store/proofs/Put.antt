@@ -1,23 +1,15 @@
 -- What an index says of the state behind a call that puts entries.
-use Rattle.std.proofs.Common.{◌≡◌, ℕ, Bool, true, false, not, cond, List, [], ◌∷◌, ◌++◌, length, ap, refl, sym, ◌∙◌, Option, Some, Ok, Err}
-use Rattle.std.specs.Prelude.{filter, map, nat_lt, option_map, slice_get, slice_set, unwrap_or}
+use Rattle.std.proofs.Common.{◌≡◌, ℕ, Bool, true, false, not, cond, List, [], ◌∷◌, ◌++◌, length, ap, refl, sym, ◌∙◌, Option, Some, Ok, Err, filter, map, nat_lt, option_map, slice_get, slice_set, unwrap_or}
 use Rattle.std.proofs.lemmas.Slice.Eq.{bytes_eq-Decides}
-use Rattle.pi_base.specs.declared.guid.Guid.{Guid}
-use Rattle.pi_base.specs.declared.known_guid.TheConstants.{MEMORY_PPI}
-use Rattle.pi_base.specs.Guids.{same_guid}
-use Rattle.mem_store.specs.declared.guid_index.index.Indexed.{Indexed}
-use Rattle.mem_store.specs.Entries.{entries_of, has_guid}
-use Rattle.store_model.specs.declared.store_handle.Desc.{Desc}
-use Rattle.store_model.specs.declared.store_handle.StoreFault.{StoreFault}
+use Rattle.pi_base.specs.{declared.guid.Guid.Guid, declared.known_guid.TheConstants.MEMORY_PPI, Guids.same_guid}
+use Rattle.mem_store.specs.{declared.guid_index.index.Indexed.Indexed, Entries.entries_of, Entries.has_guid, Answering.RowsAnswer}
+use Rattle.store_model.specs.{declared.store_handle.Desc.Desc, declared.store_handle.StoreFault.StoreFault}
 use Rattle.store_model.specs.declared.store_handle.StoreFault.TheVariants as F
-use Rattle.store_model.specs.declared.store_handle.Sweep.{Sweep}
+use Rattle.store_model.specs.{declared.store_handle.Sweep.Sweep, Service.Service, Service.in_room}
 use Rattle.store_model.specs.StoreState.{StoreState, free, next_body}
-use Rattle.store_model.specs.Service.{Service, in_room}
 use Rattle.store_model.specs.Service.Descriptor.{is_ppi, kind_at, offsets}
 use Rattle.store_model.specs.Service.Install as I
-use Rattle.store_model.specs.Service.Notify.{new_callbacks, new_dispatches}
-use Rattle.store_model.specs.Service.Reading.{nth_ppi}
-use Rattle.mem_store.specs.Answering.{RowsAnswer}
+use Rattle.store_model.specs.{Service.Notify.new_callbacks, Service.Notify.new_dispatches, Service.Reading.nth_ppi}
 use Rattle.mem_store.specs.Rows.{row_at, rows_of, told_row}
 use Rattle.mem_store.specs.Serving.{RowsInstalled, RowsNotified, RowsOfCore, RowsReplaced}
 use Rattle.mem_store.specs.declared.index.Index.{Index}

@@ -1,26 +1,16 @@
 -- A PPI in the place of another.
-use Rattle.std.proofs.Common.{◌≡◌, ℕ, suc, ◌+◌, Bool, true, false, not, cond, List, [], ◌∷◌, length, ap, refl, sym, ◌∙◌, arith, Ok, Err}
-use Rattle.std.specs.Prelude.{fold, slice_set}
-use Rattle.std.proofs.Common.{◌==◌}
-use Rattle.store_model.specs.declared.state.Body.TheVariants.{Node}
-use Rattle.store_model.specs.declared.state.Entry.{Entry}
-use Rattle.store_model.specs.declared.store_handle.Desc.{Desc}
-use Rattle.store_model.specs.declared.store_handle.DescKind.{DescKind}
+use Rattle.std.proofs.Common.{◌≡◌, ℕ, suc, ◌+◌, Bool, true, false, not, cond, List, [], ◌∷◌, length, ap, refl, sym, ◌∙◌, arith, Ok, Err, fold, slice_set, ◌==◌}
+use Rattle.store_model.specs.{declared.state.Body.TheVariants.Node, declared.state.Entry.Entry, declared.store_handle.Desc.Desc}
+use Rattle.store_model.specs.{declared.store_handle.DescKind.DescKind, StoreState.StoreState, StoreState.pool_of, Service.in_room}
 use Rattle.store_model.specs.declared.store_handle.DescKind.TheVariants.{Ppi, Callback, Dispatch}
 use Rattle.store_model.specs.declared.store_handle.StoreFault.TheVariants as F
-use Rattle.store_model.specs.StoreState.{StoreState, pool_of}
 use Rattle.store_model.specs.StateFacts.{IsDesc, IsDescOf, IsStoreState}
-use Rattle.store_model.specs.Service.{in_room}
 use Rattle.store_model.specs.Service.Descriptor.{is_ppi, kind_at}
 use Rattle.store_model.specs.Service.Install as I
 use Rattle.store_model.specs.Service.Install.{renamed, place_of, reinstall_pairs, with_pending}
-use Rattle.store_laws.specs.Bodies.{BodiesStay, IsGrown}
-use Rattle.store_laws.specs.Steps.{StepsKeepFacts}
-use Rattle.mem_store.specs.Rows.{row_at, rows_of}
-use Rattle.mem_store.specs.Serving.{After, RowsReplaced}
-use Rattle.mem_store.proofs.Descs.{kind_in}
-use Rattle.mem_store.proofs.KeepingRows.{grown_rows}
-use Rattle.mem_store.proofs.Services.{made_in_room, refused_or}
+use Rattle.store_laws.specs.{Bodies.BodiesStay, Bodies.IsGrown, Steps.StepsKeepFacts}
+use Rattle.mem_store.specs.{Rows.row_at, Rows.rows_of, Serving.After, Serving.RowsReplaced}
+use Rattle.mem_store.proofs.{Descs.kind_in, KeepingRows.grown_rows, Services.made_in_room, Services.refused_or}
 
 kind_ppi : (kind : DescKind) → is_ppi kind ≡ true → kind ≡ Ppi
 kind_ppi Ppi is = refl

@@ -1,13 +1,9 @@
 -- What an index says of one state and of another.
 use Rattle.std.proofs.Common.{◌≡◌, List, ap, ◌∙◌, sym}
-use Rattle.mem_store.specs.declared.guid_index.index.Indexed.{Indexed}
-use Rattle.store_model.specs.StoreState.{StoreState}
-use Rattle.store_model.specs.StateFacts.{IsStoreState}
-use Rattle.mem_store.specs.Rows.{rows_of}
-use Rattle.mem_store.specs.Serving.{RowsSame}
+use Rattle.mem_store.specs.{declared.guid_index.index.Indexed.Indexed, Rows.rows_of, Serving.RowsSame, declared.index.Index.Index}
+use Rattle.store_model.specs.{StoreState.StoreState, StateFacts.IsStoreState}
 use Rattle.heap_store.specs.declared.store.HeapStore.{HeapStore}
 use Rattle.heap_store.specs.HeapState as H
-use Rattle.mem_store.specs.declared.index.Index.{Index}
 use Rattle.mem_store.specs.Indexed.{Becomes, Rows, Says, all_rows, held}
 
 pub facts_of : (m : HeapStore) (s : StoreState) → H.StandsFor m s → IsStoreState s

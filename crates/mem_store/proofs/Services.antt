@@ -1,28 +1,18 @@
 -- The services, one by one.
-use Rattle.std.proofs.Common.{◌≡◌, ◌≢◌, ℕ, ◌+◌, ◌-◌, ◌*◌, ◌≤◌, ◌==◌, Bool, true, false, not, cond, List, [], ◌∷◌, ◌++◌, length, take, drop, ap, refl, sym, ◌∙◌, arith, Option, Some, None, Ok, Err, length-append, length-drop}
-use Rattle.std.specs.Prelude.{IfSome, fold, map, nat_lt, option_map, replicate}
+use Rattle.std.proofs.Common.{◌≡◌, ◌≢◌, ℕ, ◌+◌, ◌-◌, ◌*◌, ◌≤◌, ◌==◌, Bool, true, false, not, cond, List, [], ◌∷◌, ◌++◌, length, take, drop, ap, refl, sym, ◌∙◌, arith, Option, Some, None, Ok, Err, length-append, length-drop, IfSome, fold, map, nat_lt, option_map, replicate, length-take}
 use Rattle.std.proofs.lemmas.Bool.Decides.{nat_tests}
-use Rattle.std.proofs.lemmas.List.{length-take}
-use Rattle.pi_base.specs.declared.guid.Guid.{Guid}
-use Rattle.pi_base.specs.Lists.{Each}
-use Rattle.hob_codec.specs.HobValue.{HobValue}
-use Rattle.hob_codec.specs.HobBytes.{length_of}
+use Rattle.pi_base.specs.{declared.guid.Guid.Guid, Lists.Each}
+use Rattle.hob_codec.specs.{HobValue.HobValue, HobBytes.length_of}
 use Rattle.std.specs.List.{list_all}
 use Rattle.store_model.specs.declared.state.Body.TheVariants.{Bytes, Descriptor, Node}
-use Rattle.store_model.specs.declared.state.DescriptorBody.{DescriptorBody}
-use Rattle.store_model.specs.declared.state.Entry.{Entry}
-use Rattle.store_model.specs.declared.state.HobEntry.{HobEntry}
-use Rattle.store_model.specs.declared.state.Pending.{Pending}
-use Rattle.store_model.specs.declared.store_handle.Desc.{Desc}
-use Rattle.store_model.specs.declared.store_handle.DescKind.{DescKind}
-use Rattle.store_model.specs.declared.store_handle.GuidFrom.{GuidFrom}
-use Rattle.store_model.specs.declared.store_handle.Pool.{Pool}
-use Rattle.store_model.specs.declared.store_handle.StoreFault.{StoreFault}
+use Rattle.store_model.specs.{declared.state.DescriptorBody.DescriptorBody, declared.state.Entry.Entry, declared.state.HobEntry.HobEntry}
+use Rattle.store_model.specs.{declared.state.Pending.Pending, declared.store_handle.Desc.Desc, declared.store_handle.DescKind.DescKind}
+use Rattle.store_model.specs.{declared.store_handle.GuidFrom.GuidFrom, declared.store_handle.Pool.Pool}
+use Rattle.store_model.specs.{declared.store_handle.StoreFault.StoreFault, Migration.migrated_to, Migration.migration}
 use Rattle.store_model.specs.declared.store_handle.StoreFault.TheVariants as F
 use Rattle.store_model.specs.StoreState.{Range, StoreState, appended, descriptor_len, end_place, free, header_len, next_body, pool_of, rounded}
 use Rattle.store_model.specs.StateFacts.{IsDesc, IsPending, IsPool, IsStoreState}
-use Rattle.store_model.specs.Migration.{migrated_to, migration}
-use Rattle.store_model.specs.Service.{Service, in_room}
+use Rattle.store_model.specs.{Service.Service, Service.in_room, Service.Queue.popped, Service.Queue.zeroed}
 use Rattle.store_model.specs.Service.Descriptor.{desc_of, descriptors, guid_from, is_ppi, kind_at, offsets}
 use Rattle.store_model.specs.Service.Descriptor as D
 use Rattle.store_model.specs.Service.Hob as H
@@ -30,7 +20,6 @@ use Rattle.store_model.specs.Service.Install.{install_pairs, with_pending, with_
 use Rattle.store_model.specs.Service.Install as I
 use Rattle.store_model.specs.Service.Memory as M
 use Rattle.store_model.specs.Service.Pool as P
-use Rattle.store_model.specs.Service.Queue.{popped, zeroed}
 use Rattle.store_laws.specs.Bodies.{BodiesStay, IsGrown, KeepsLength, changed}
 use Rattle.mem_store.specs.Rows.{row_at, rows_of}
 use Rattle.mem_store.specs.Serving.{After, RowsInstalled, RowsSame}

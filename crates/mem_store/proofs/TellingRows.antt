@@ -1,19 +1,11 @@
 -- Rows of a list, by the entries' own words.
-use Rattle.std.proofs.Common.{◌≡◌, ℕ, Bool, true, false, cond, ◌||◌, List, [], ◌∷◌, ap, refl, sym, ◌∙◌, Option, Some, None}
-use Rattle.std.specs.Prelude.{filter, map, option_map, slice_get}
+use Rattle.std.proofs.Common.{◌≡◌, ℕ, Bool, true, false, cond, ◌||◌, List, [], ◌∷◌, ap, refl, sym, ◌∙◌, Option, Some, None, filter, map, option_map, slice_get}
 use Rattle.std.specs.List.{list_any}
-use Rattle.std.proofs.lemmas.Bool.Decides.{same_from_decides}
-use Rattle.std.proofs.lemmas.Option.{slice_get-map}
-use Rattle.std.proofs.lemmas.Slice.Eq.{bytes_eq-Decides}
-use Rattle.pi_base.specs.declared.guid.Guid.{Guid}
-use Rattle.pi_base.specs.Guids.{same_guid}
-use Rattle.mem_store.specs.declared.guid_index.index.Indexed.{Indexed}
-use Rattle.mem_store.specs.Entries.{entries_of, has_guid}
-use Rattle.store_model.specs.declared.state.Entry.{Entry}
-use Rattle.store_model.specs.StoreState.{StoreState}
-use Rattle.store_model.specs.Service.Descriptor.{descriptors, guid_at}
-use Rattle.store_model.specs.Service.Install.{has_ppi, row_of}
-use Rattle.store_model.specs.Service.Reading.{nth_ppi}
+use Rattle.std.proofs.{lemmas.Bool.Decides.same_from_decides, lemmas.Option.slice_get-map, lemmas.Slice.Eq.bytes_eq-Decides}
+use Rattle.pi_base.specs.{declared.guid.Guid.Guid, Guids.same_guid}
+use Rattle.mem_store.specs.{declared.guid_index.index.Indexed.Indexed, Entries.entries_of, Entries.has_guid}
+use Rattle.store_model.specs.{declared.state.Entry.Entry, StoreState.StoreState, Service.Descriptor.descriptors, Service.Descriptor.guid_at}
+use Rattle.store_model.specs.{Service.Install.has_ppi, Service.Install.row_of, Service.Reading.nth_ppi}
 use Rattle.mem_store.specs.Rows.{pair_with, row_at, rows_of, told_row}
 
 any_rows : (s : StoreState) (guid : Guid) (entries : List Entry)

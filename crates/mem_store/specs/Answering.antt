@@ -4,10 +4,8 @@ use Rattle.std.specs.Prelude.{◌≡◌, ℕ, map, option_map, slice_get}
 use Rattle.std.specs.List.{list_any}
 use Rattle.pi_base.specs.declared.guid.Guid.{Guid}
 use Rattle.mem_store.specs.Entries.{entries_of, has_guid}
-use Rattle.store_model.specs.StoreState.{StoreState}
-use Rattle.store_model.specs.Service.Descriptor.{descriptors, guid_at}
-use Rattle.store_model.specs.Service.Install.{has_ppi, row_of}
-use Rattle.store_model.specs.Service.Reading.{nth_ppi}
+use Rattle.store_model.specs.{StoreState.StoreState, Service.Descriptor.descriptors, Service.Descriptor.guid_at}
+use Rattle.store_model.specs.{Service.Install.has_ppi, Service.Install.row_of, Service.Reading.nth_ppi}
 use Rattle.mem_store.specs.Rows.{pair_with, rows_of, told_row}
 
 pub record RowsAnswer : Type 0 where

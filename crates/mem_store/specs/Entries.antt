@@ -1,8 +1,7 @@
 -- Entries in order, and those of a GUID among them.
 -- Own.
 use Rattle.std.specs.Prelude.{ℕ, Bool, false, List, filter, option_map, unwrap_or, slice_get}
-use Rattle.pi_base.specs.declared.guid.Guid.{Guid}
-use Rattle.pi_base.specs.Guids.{same_guid}
+use Rattle.pi_base.specs.{declared.guid.Guid.Guid, Guids.same_guid}
 use Rattle.mem_store.specs.declared.guid_index.index.Indexed.{Indexed}
 
 -- whether an entry has a GUID, and whether the one in a place has it

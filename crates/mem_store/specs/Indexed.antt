@@ -2,11 +2,8 @@
 -- Own.
 use Rattle.std.specs.Prelude.{◌≡◌, ◌∷◌, ◌++◌, [], true, List, length, option_map, Some}
 use Rattle.pi_base.specs.declared.known_guid.TheConstants.{MEMORY_PPI}
-use Rattle.mem_store.specs.declared.guid_index.index.Indexed.{Indexed}
-use Rattle.mem_store.specs.Entries.{entries_of}
-use Rattle.store_model.specs.StoreState.{StoreState}
-use Rattle.store_model.specs.Service.Reading.{nth_ppi}
-use Rattle.mem_store.specs.Rows.{rows_of, told_row}
+use Rattle.mem_store.specs.{declared.guid_index.index.Indexed.Indexed, Entries.entries_of, Rows.rows_of, Rows.told_row}
+use Rattle.store_model.specs.{StoreState.StoreState, Service.Reading.nth_ppi}
 use Rattle.mem_store.specs.declared.index.Index.{Index}
 
 -- the rows of the three lists

@@ -1,12 +1,9 @@
 -- A PPI and a callback of one GUID, by their places in the lists that an index has, and the pairs of a sweep.
 -- PI 1.8, volume 1, `NotifyPpi()`; the places are own.
 use Rattle.std.specs.Prelude.{◌≡◌, ℕ, ◌+◌, ◌<◌, ◌≤◌, Bool, true, false, Option, Some, None, option_map, slice_get, unwrap_or}
-use Rattle.store_model.specs.declared.store_handle.Firing.{Firing}
-use Rattle.store_model.specs.declared.store_handle.Sweep.{Sweep}
-use Rattle.store_model.specs.StoreState.{StoreState}
+use Rattle.store_model.specs.{declared.store_handle.Firing.Firing, declared.store_handle.Sweep.Sweep, StoreState.StoreState}
 use Rattle.store_model.specs.Service.Sweep.{firing_at, next_match}
-use Rattle.mem_store.specs.Entries.{has_at}
-use Rattle.mem_store.specs.declared.index.Index.{Index}
+use Rattle.mem_store.specs.{Entries.has_at, declared.index.Index.Index}
 use Rattle.mem_store.specs.Indexed.{Rows, all_rows, held}
 
 -- whether the PPI in a place and the callback in another have one GUID

@@ -1,8 +1,7 @@
 -- The descriptors of a list that belong into one of the three lists.
 -- Own.
 use Rattle.std.specs.Prelude.{ℕ, Bool, true, not, List, filter}
-use Rattle.store_model.specs.declared.store_handle.Desc.{Desc}
-use Rattle.store_model.specs.StoreState.{StoreState}
+use Rattle.store_model.specs.{declared.store_handle.Desc.Desc, StoreState.StoreState}
 use Rattle.store_model.specs.Service.Descriptor.{is_callback, kind_at, offsets}
 use Rattle.mem_store.specs.declared.index.Which.{Which}
 use Rattle.mem_store.specs.declared.index.Which.TheVariants.{All, Callbacks, Others}

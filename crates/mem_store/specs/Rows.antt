@@ -2,9 +2,7 @@
 -- Own.
 use Rattle.std.specs.Prelude.{ℕ, List, map}
 use Rattle.mem_store.specs.declared.guid_index.index.Indexed.{Indexed}
-use Rattle.store_model.specs.declared.state.Entry.{Entry}
-use Rattle.store_model.specs.declared.store_handle.Desc.{Desc}
-use Rattle.store_model.specs.StoreState.{StoreState}
+use Rattle.store_model.specs.{declared.state.Entry.Entry, declared.store_handle.Desc.Desc, StoreState.StoreState}
 use Rattle.store_model.specs.Service.Descriptor.{descriptors, guid_at, number_at}
 
 -- the row of the descriptor at a place

@@ -2,17 +2,12 @@
 -- and another where a PPI takes the place of one.
 -- PI 1.8, volume 1, "PEI Services".
 use Rattle.std.specs.Prelude.{◌≡◌, ℕ, List, [], ◌∷◌, ◌++◌, map, Ok, Err, IfSome, slice_set, ⊤}
-use Rattle.pi_base.specs.Lists.{Each}
-use Rattle.pi_base.specs.declared.known_guid.TheConstants.{MEMORY_PPI}
+use Rattle.pi_base.specs.{Lists.Each, declared.known_guid.TheConstants.MEMORY_PPI}
 use Rattle.hob_codec.specs.HobValue.{HobValue}
-use Rattle.store_model.specs.declared.store_handle.Desc.{Desc}
-use Rattle.store_model.specs.declared.store_handle.DescKind.{DescKind}
-use Rattle.store_model.specs.declared.store_handle.GuidFrom.{GuidFrom}
-use Rattle.store_model.specs.declared.store_handle.Pool.{Pool}
-use Rattle.store_model.specs.StoreState.{StoreState, next_body}
+use Rattle.store_model.specs.{declared.store_handle.Desc.Desc, declared.store_handle.DescKind.DescKind}
+use Rattle.store_model.specs.{declared.store_handle.GuidFrom.GuidFrom, declared.store_handle.Pool.Pool}
+use Rattle.store_model.specs.{StoreState.StoreState, StoreState.next_body, Migration.migration, Service.Service}
 use Rattle.store_model.specs.StateFacts.{IsDesc, IsPool, IsStoreState}
-use Rattle.store_model.specs.Migration.{migration}
-use Rattle.store_model.specs.Service.{Service}
 use Rattle.store_model.specs.Service.Descriptor as D
 use Rattle.store_model.specs.Service.Hob as H
 use Rattle.store_model.specs.Service.Install as I

@@ -1,12 +1,9 @@
 -- The rows of entries stay where the GUIDs of their descriptors do: behind another body, where one changes that is no descriptor, and in the move.
 -- Own.
 use Rattle.std.specs.Prelude.{◌≡◌, ◌≢◌, ℕ}
-use Rattle.store_model.specs.declared.state.Body.{Body}
-use Rattle.store_model.specs.declared.state.Body.TheVariants.{Descriptor}
-use Rattle.store_model.specs.declared.state.DescriptorBody.{DescriptorBody}
-use Rattle.store_model.specs.StoreState.{Range, StoreState}
-use Rattle.store_model.specs.StateFacts.{IsStoreState}
-use Rattle.store_model.specs.Migration.{migrated_to}
+use Rattle.store_model.specs.{declared.state.Body.Body, declared.state.Body.TheVariants.Descriptor}
+use Rattle.store_model.specs.{declared.state.DescriptorBody.DescriptorBody, StoreState.Range, StoreState.StoreState}
+use Rattle.store_model.specs.{StateFacts.IsStoreState, Migration.migrated_to}
 use Rattle.store_laws.specs.Bodies.{IsGrown, KeepsLength, changed}
 use Rattle.mem_store.specs.Rows.{rows_of}
 

@@ -1,14 +1,11 @@
 // What is installed and registered, by GUID.
 ghost use Rattle.std.specs.Prelude.{◌≡◌, ◌++◌, ◌∷◌, [], true, if◌then◌else◌, IfOk, map, slice_set};
-ghost use Rattle.store_model.specs.Service.{OfEach, Present};
-ghost use Rattle.store_model.specs.Service.Descriptor.{offsets};
-ghost use Rattle.store_model.specs.Service.Notify.{new_callbacks, new_dispatches};
-ghost use Rattle.store_model.specs.StateFacts.{IsDesc};
+ghost use Rattle.store_model.specs.{Service.OfEach, Service.Present, Service.Descriptor.offsets};
+ghost use Rattle.store_model.specs.{Service.Notify.new_callbacks, Service.Notify.new_dispatches, StateFacts.IsDesc};
 ghost use Rattle.store_model.specs.StoreCall.{Anything, AreDescs};
-ghost use Rattle.mem_store.specs.Rows.{row_at};
+ghost use Rattle.mem_store.specs.{Rows.row_at, Picked.is_picked, Picked.picked_of};
 ghost use Rattle.heap_store.specs.HeapState as H;
 ghost use Rattle.mem_store.specs.Indexed.{Becomes, BecomesCore, held};
-ghost use Rattle.mem_store.specs.Picked.{is_picked, picked_of};
 
 use crate::guid_index::{GuidIndex, Indexed};
 use heap_store::HeapStore;

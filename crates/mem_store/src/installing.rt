@@ -1,10 +1,8 @@
 // Entries are put behind others in memory, by what the index tells.
 ghost use Rattle.std.specs.Prelude.{◌≡◌, false};
 ghost use Rattle.store_model.specs.Service.{And, Performs, Present};
-ghost use Rattle.store_model.specs.Service.Install.{install};
-ghost use Rattle.store_model.specs.Service.Notify.{notify};
+ghost use Rattle.store_model.specs.{Service.Install.install, Service.Notify.notify, StoreCall.AreDescs, StoreCall.AreFew};
 ghost use Rattle.heap_store.specs.HeapState as H;
-ghost use Rattle.store_model.specs.StoreCall.{AreDescs, AreFew};
 
 use crate::pairs::are_callbacks;
 use crate::store::MemStore;

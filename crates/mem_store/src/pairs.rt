@@ -1,8 +1,6 @@
 // Calls that queue no pair. PI 1.8, volume 1, `InstallPpi()` and `NotifyPpi()`.
 ghost use Rattle.std.specs.Prelude.{◌≡◌, [], true};
-ghost use Rattle.store_model.specs.Service.{OfEach, Present};
-ghost use Rattle.store_model.specs.Service.Install.{install_pairs};
-ghost use Rattle.store_model.specs.Service.Notify.{notify_pairs};
+ghost use Rattle.store_model.specs.{Service.OfEach, Service.Present, Service.Install.install_pairs, Service.Notify.notify_pairs};
 ghost use Rattle.store_model.specs.StoreCall.{AreDescs};
 ghost use Rattle.heap_store.specs.HeapState as H;
 ghost use Rattle.mem_store.specs.Indexed.{Says};

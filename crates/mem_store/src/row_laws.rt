@@ -1,7 +1,5 @@
 // What follows from the definitions alone.
-ghost use Rattle.mem_store.specs.Answering.{RowsAnswer};
-ghost use Rattle.mem_store.specs.Serving.{ServicesKeepRows};
-ghost use Rattle.mem_store.specs.Staying.{RowsStay};
+ghost use Rattle.mem_store.specs.{Answering.RowsAnswer, Serving.ServicesKeepRows, Staying.RowsStay};
 
 use store_laws::{bodies_stay, services_keep_facts, steps_keep_facts};
 

@@ -1,11 +1,7 @@
 -- The bases of a volume and of those nested in it.
-use Rattle.std.proofs.Common.{◌≡◌, ℕ, zero, suc, ◌+◌, ◌<◌, ◌≤◌, List, [], ◌∷◌, ◌++◌, length, drop, refl, sym, arith, subst, length-take}
-use Rattle.std.specs.Prelude.{◌≢◌}
-use Rattle.fv_volume.specs.declared.volume.Volume.{Volume}
-use Rattle.fv_volume.specs.Volume.{IsVolume}
-use Rattle.mod_catalog.specs.declared.catalogue.VolumeEntry.{VolumeEntry}
-use Rattle.mod_catalog.specs.ReadFile.{Stretch}
-use Rattle.mod_catalog.specs.Totals.{Holding}
+use Rattle.std.proofs.Common.{◌≡◌, ℕ, zero, suc, ◌+◌, ◌<◌, ◌≤◌, List, [], ◌∷◌, ◌++◌, length, drop, refl, sym, arith, subst, length-take, ◌≢◌}
+use Rattle.fv_volume.specs.{declared.volume.Volume.Volume, Volume.IsVolume}
+use Rattle.mod_catalog.specs.{declared.catalogue.VolumeEntry.VolumeEntry, ReadFile.Stretch, Totals.Holding}
 use Rattle.mod_catalog.specs.VolumeTree.{Image, Holds, AreNested, nested_image, nested_stretches, entry_of}
 use Rattle.pi_base.specs.Lists.{Each, Ordered}
 use Rattle.pi_base.proofs.ListFacts.{each_more, each_append, each_cross, ordered_append}

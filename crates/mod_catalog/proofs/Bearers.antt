@@ -1,18 +1,10 @@
 -- The file that a name stands for, as it is looked up.
-use Rattle.std.proofs.Common.{◌≡◌, ◌<◌, ◌≤◌, ℕ, suc, ◌+◌, Bool, true, false, cond, ◌&&◌, ◌==◌, List, [], ◌∷◌, length, position, Option, Some, None, is_some, option_map, refl, sym, ap, ◌∙◌, arith}
-use Rattle.std.specs.Prelude.{slice_index_or}
-use Rattle.std.proofs.lemmas.Bool.Decides.{nat_tests}
-use Rattle.std.proofs.lemmas.Cmp.{nat_list_eq_equiv}
-use Rattle.pi_base.specs.declared.guid.Guid.{Guid}
-use Rattle.pi_base.specs.declared.phase.Phase.{Phase}
-use Rattle.pi_base.specs.Guids.{same_guid}
-use Rattle.pi_base.specs.GuidMap.{value_of}
+use Rattle.std.proofs.Common.{◌≡◌, ◌<◌, ◌≤◌, ℕ, suc, ◌+◌, Bool, true, false, cond, ◌&&◌, ◌==◌, List, [], ◌∷◌, length, position, Option, Some, None, is_some, option_map, refl, sym, ap, ◌∙◌, arith, slice_index_or}
+use Rattle.std.proofs.{lemmas.Bool.Decides.nat_tests, lemmas.Cmp.nat_list_eq_equiv}
+use Rattle.pi_base.specs.{declared.guid.Guid.Guid, declared.phase.Phase.Phase, Guids.same_guid, GuidMap.value_of}
 use Rattle.fv_volume.specs.declared.file.FfsFile.{FfsFile}
-use Rattle.mod_catalog.specs.FileType.{has_part}
-use Rattle.mod_catalog.specs.ReadFile.{is_file}
+use Rattle.mod_catalog.specs.{FileType.has_part, ReadFile.is_file, declared.ranks.Bearer.Bearer, declared.ranks.Ranks.Ranks}
 use Rattle.mod_catalog.specs.APrioriNames.{bearer, kept_names, rank_of}
-use Rattle.mod_catalog.specs.declared.ranks.Bearer.{Bearer}
-use Rattle.mod_catalog.specs.declared.ranks.Ranks.{Ranks}
 use Rattle.mod_catalog.specs.Ranks.{bearer_from, HoldRanks}
 
 -- it is the file of the definitions

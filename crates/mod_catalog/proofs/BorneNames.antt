@@ -1,14 +1,11 @@
 -- Names that differ and each stand for a file with a part are no more than such files.
 use Rattle.std.proofs.Common.{◌≡◌, ◌+◌, ◌≤◌, Bool, true, false, cond, not, ◌&&◌, List, [], ◌∷◌, length, filter, is_some, Some, refl, ap, ◌∙◌, arith}
 use Rattle.std.proofs.lemmas.Cmp.{nat_list_eq_equiv}
-use Rattle.pi_base.specs.declared.guid.Guid.{Guid}
-use Rattle.pi_base.specs.declared.phase.Phase.{Phase}
-use Rattle.pi_base.specs.Guids.{same_guid}
+use Rattle.pi_base.specs.{declared.guid.Guid.Guid, declared.phase.Phase.Phase, Guids.same_guid}
 use Rattle.pi_base.specs.Lists.{Each, Ordered, firsts}
 use Rattle.pi_base.proofs.ListFacts.{each_filter, ordered_filter}
 use Rattle.fv_volume.specs.declared.file.FfsFile.{FfsFile}
-use Rattle.mod_catalog.specs.FileType.{has_part}
-use Rattle.mod_catalog.specs.APrioriNames.{bearer, kept_names}
+use Rattle.mod_catalog.specs.{FileType.has_part, APrioriNames.bearer, APrioriNames.kept_names}
 
 abbrev pub Differ : Guid → Guid → Type 0
 Differ a b = same_guid a b ≡ false

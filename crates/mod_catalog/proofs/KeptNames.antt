@@ -1,24 +1,13 @@
 -- The names that a list keeps, with one name more.
-use Rattle.std.proofs.Common.{◌≡◌, ◌<◌, ◌≤◌, ℕ, zero, suc, ◌+◌, Bool, true, false, cond, not, ◌||◌, List, [], ◌∷◌, ◌++◌, length, map, filter, position, Option, Some, None, is_some, refl, sym, ap, ◌∙◌, subst, arith, length-append}
-use Rattle.std.specs.Prelude.{slice_index_or, slice_set}
-use Rattle.std.specs.Map.{lookup}
-use Rattle.std.specs.List.{list_any, position_from}
-use Rattle.std.specs.Option.{option_or}
-use Rattle.std.proofs.lemmas.Cmp.{nat_list_eq_equiv}
-use Rattle.std.proofs.lemmas.List.{append-nil, get_or-set_same, get_or-set_other}
-use Rattle.std.proofs.lemmas.List.Elements.{filter-append}
-use Rattle.std.proofs.lemmas.Iterator.Adapters.{position_from-zero}
-use Rattle.pi_base.specs.declared.guid.Guid.{Guid}
-use Rattle.pi_base.specs.Guids.{same_guid}
-use Rattle.pi_base.specs.Lists.{firsts, numbers}
-use Rattle.pi_base.specs.GuidMap.{value_of}
+use Rattle.std.proofs.Common.{◌≡◌, ◌<◌, ◌≤◌, ℕ, zero, suc, ◌+◌, Bool, true, false, cond, not, ◌||◌, List, [], ◌∷◌, ◌++◌, length, map, filter, position, Option, Some, None, is_some, refl, sym, ap, ◌∙◌, subst, arith, length-append, slice_index_or, slice_set, append-nil, get_or-set_same, get_or-set_other}
+use Rattle.std.specs.{Map.lookup, List.list_any, List.position_from, Option.option_or}
+use Rattle.std.proofs.{lemmas.Cmp.nat_list_eq_equiv, lemmas.List.Elements.filter-append, lemmas.Iterator.Adapters.position_from-zero}
+use Rattle.pi_base.specs.{declared.guid.Guid.Guid, Guids.same_guid, Lists.firsts, Lists.numbers, GuidMap.value_of}
 use Rattle.fv_volume.specs.declared.file.FfsFile.{FfsFile}
 use Rattle.pi_base.specs.declared.phase.Phase.{Phase}
-use Rattle.mod_catalog.specs.FileType.{has_part}
-use Rattle.mod_catalog.specs.APrioriNames.{bearer, kept_names}
+use Rattle.mod_catalog.specs.{FileType.has_part, APrioriNames.bearer, APrioriNames.kept_names, declared.ranks.Bearer.Bearer}
 use Rattle.mod_catalog.proofs.BorneNames.{few_kept as few_kept_names}
 use Rattle.mod_catalog.specs.Ranks.{kept_of, known, AreKept, ArePlaces, AreBearers, AreOfSome}
-use Rattle.mod_catalog.specs.declared.ranks.Bearer.{Bearer}
 use Rattle.mod_catalog.specs.declared.ranks.Kept.{Kept}
 use Rattle.mod_catalog.proofs.Bearers.{same_some, within_files, one_name}
 

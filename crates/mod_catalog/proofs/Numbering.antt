@@ -1,15 +1,10 @@
 -- The numbers of the volumes and modules that a volume holds.
-use Rattle.std.proofs.Common.{◌≡◌, ℕ, zero, suc, ◌+◌, ◌<◌, ◌≤◌, List, [], ◌∷◌, ◌++◌, length, sym, arith, subst, inl, length-append}
-use Rattle.std.specs.Prelude.{IfSome}
-use Rattle.pi_base.specs.declared.phase.Phase.{Phase}
-use Rattle.pi_base.specs.declared.phase.Phase.TheVariants.{Pei, Dxe}
-use Rattle.mod_catalog.specs.declared.catalogue.Module.{Module}
-use Rattle.mod_catalog.specs.declared.catalogue.VolumeEntry.{VolumeEntry}
-use Rattle.mod_catalog.specs.ReadFile.{IsReadFile, Stretch}
-use Rattle.mod_catalog.specs.Totals.{Holding, module_files}
+use Rattle.std.proofs.Common.{◌≡◌, ℕ, zero, suc, ◌+◌, ◌<◌, ◌≤◌, List, [], ◌∷◌, ◌++◌, length, sym, arith, subst, inl, length-append, IfSome}
+use Rattle.pi_base.specs.{declared.phase.Phase.Phase, declared.phase.Phase.TheVariants.Pei, declared.phase.Phase.TheVariants.Dxe}
+use Rattle.mod_catalog.specs.{declared.catalogue.Module.Module, declared.catalogue.VolumeEntry.VolumeEntry}
+use Rattle.mod_catalog.specs.{ReadFile.IsReadFile, ReadFile.Stretch, Totals.Holding, Totals.module_files, FileType.has_module}
 use Rattle.mod_catalog.specs.VolumeTree.{Image, Holds, AreNested, nested_image, nested_stretches, entry_of}
 use Rattle.mod_catalog.specs.WellFormed.{AreNumbered, Precedes, RanksDiffer, IsPartOf}
-use Rattle.mod_catalog.specs.FileType.{has_module}
 use Rattle.pi_base.specs.Lists.{Each, Ordered}
 use Rattle.pi_base.proofs.ListFacts.{each_more, each_append, each_cross, each_filter, ordered_append, ordered_filter}
 use Rattle.mod_catalog.proofs.OwnModules.{AreOwn, Before, own_modules}

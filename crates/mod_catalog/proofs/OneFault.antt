@@ -1,24 +1,14 @@
 -- Images have one first fault: of two, one would stand where the other says that all is sound.
-use Rattle.std.proofs.Common.{◌≡◌, ℕ, zero, suc, ◌+◌, Bool, true, false, List, [], ◌∷◌, ◌++◌, length, map, refl, sym, ap, ◌∙◌, subst, arith, drop, inl, inr, true≢false}
-use Rattle.std.proofs.lemmas.Bool.{eqb-true}
-use Rattle.std.specs.Prelude.{◌==◌}
-use Rattle.pi_base.specs.Field.{AreBytes}
-use Rattle.pi_base.specs.Lists.{Each}
-use Rattle.fv_volume.specs.declared.file.FfsFile.{FfsFile}
-use Rattle.fv_volume.specs.declared.file_type.TheConstants.{VOLUME_IMAGE}
-use Rattle.fv_volume.specs.declared.volume.Volume.{Volume}
-use Rattle.fv_volume.specs.declared.fault.VolFault.{VolFault}
-use Rattle.fv_volume.specs.Volume.{IsVolume}
-use Rattle.fv_volume.specs.declared.sections.section.Section.{Section}
+use Rattle.std.proofs.Common.{◌≡◌, ℕ, zero, suc, ◌+◌, Bool, true, false, List, [], ◌∷◌, ◌++◌, length, map, refl, sym, ap, ◌∙◌, subst, arith, drop, inl, inr, true≢false, eqb-true, ◌==◌}
+use Rattle.pi_base.specs.{Field.AreBytes, Lists.Each}
+use Rattle.fv_volume.specs.{declared.file.FfsFile.FfsFile, declared.file_type.TheConstants.VOLUME_IMAGE, declared.volume.Volume.Volume}
+use Rattle.fv_volume.specs.{declared.fault.VolFault.VolFault, Volume.IsVolume, declared.sections.section.Section.Section}
 use Rattle.fv_volume.specs.declared.sections.fault.SecFault.{SecFault}
 use Rattle.act_code.specs.declared.fault.ActFault.{ActFault}
-use Rattle.boot_plan.specs.declared.plan.Plan.{Plan}
-use Rattle.boot_plan.specs.declared.plan.PlanVolume.{PlanVolume}
-use Rattle.mod_catalog.specs.declared.limits.TheConstants.{MOST_DEPTH}
-use Rattle.mod_catalog.specs.declared.image_fault.ImageFault.{ImageFault}
-use Rattle.mod_catalog.specs.declared.image_fault.ImageCause.{ImageCause}
+use Rattle.boot_plan.specs.{declared.plan.Plan.Plan, declared.plan.PlanVolume.PlanVolume}
+use Rattle.mod_catalog.specs.{declared.limits.TheConstants.MOST_DEPTH, declared.image_fault.ImageFault.ImageFault}
+use Rattle.mod_catalog.specs.{declared.image_fault.ImageCause.ImageCause, FileType.has_module}
 use Rattle.mod_catalog.specs.ImageCause.{volume_cause, section_cause, script_cause}
-use Rattle.mod_catalog.specs.FileType.{has_module}
 use Rattle.mod_catalog.specs.ReadFile.{ReadFile, Stretch, file_body, section_body, holds_volume, nested_in}
 use Rattle.mod_catalog.specs.Totals.{Totals, AreWithin, no_totals, totals_with, with_volume, bytes_of}
 use Rattle.mod_catalog.specs.VolumeTree.{Image, Holding, AreNested, Holds, nested_image, nested_stretches, joined, nothing}

@@ -1,24 +1,14 @@
 -- The modules of one volume.
-use Rattle.std.proofs.Common.{◌≡◌, ℕ, ◌<◌, ◌≤◌, Bool, true, false, cond, List, [], ◌∷◌, length, Option, Some, None, refl, sym, ap, ◌∙◌, arith, subst, inl, inr, eqb-true, get_or}
-use Rattle.std.proofs.lemmas.Bool.{false≢true}
-use Rattle.std.proofs.lemmas.Slice.Eq.{bytes_eq-Decides}
-use Rattle.std.proofs.lemmas.List.Quantifiers.{position-Some}
-use Rattle.std.specs.Prelude.{◌⊎◌, find, position, IfSome, unwrap_or}
-use Rattle.pi_base.specs.declared.guid.Guid.{Guid}
-use Rattle.pi_base.specs.declared.phase.Phase.{Phase}
-use Rattle.pi_base.specs.declared.phase.Phase.TheVariants.{Pei, Dxe}
-use Rattle.fv_volume.specs.declared.file.FfsFile.{FfsFile}
-use Rattle.fv_volume.specs.declared.sections.section.Section.{Section}
-use Rattle.act_code.specs.declared.script.Script.{Script}
-use Rattle.act_code.specs.declared.action.Action.{Action}
-use Rattle.act_code.specs.declared.header.TheConstants.{MOST_SCRIPT}
+use Rattle.std.proofs.Common.{◌≡◌, ℕ, ◌<◌, ◌≤◌, Bool, true, false, cond, List, [], ◌∷◌, length, Option, Some, None, refl, sym, ap, ◌∙◌, arith, subst, inl, inr, eqb-true, get_or, ◌⊎◌, find, position, IfSome, unwrap_or}
+use Rattle.std.proofs.{lemmas.Bool.false≢true, lemmas.Slice.Eq.bytes_eq-Decides, lemmas.List.Quantifiers.position-Some}
+use Rattle.pi_base.specs.{declared.guid.Guid.Guid, declared.phase.Phase.Phase}
+use Rattle.pi_base.specs.{declared.phase.Phase.TheVariants.Pei, declared.phase.Phase.TheVariants.Dxe, Guids.same_guid}
+use Rattle.fv_volume.specs.{declared.file.FfsFile.FfsFile, declared.sections.section.Section.Section}
+use Rattle.act_code.specs.{declared.script.Script.Script, declared.action.Action.Action, declared.header.TheConstants.MOST_SCRIPT}
 use Rattle.act_code.specs.Script.{IsScript, IsInGrammar, script_bytes}
-use Rattle.mod_catalog.specs.declared.catalogue.Module.{Module}
-use Rattle.mod_catalog.specs.declared.catalogue.Part.{Part}
-use Rattle.mod_catalog.specs.declared.catalogue.PartExpr.{PartExpr}
+use Rattle.mod_catalog.specs.{declared.catalogue.Module.Module, declared.catalogue.Part.Part, declared.catalogue.PartExpr.PartExpr}
 use Rattle.mod_catalog.specs.declared.catalogue.PartExpr.TheVariants.{Absent, Malformed, Held}
 use Rattle.mod_catalog.specs.FileType.{has_part, expression_section}
-use Rattle.pi_base.specs.Guids.{same_guid}
 use Rattle.mod_catalog.specs.ReadFile.{ReadFile, IsReadFile, is_file, section_body, first_body, script_sections}
 use Rattle.mod_catalog.specs.APrioriNames.{bearer, kept_names, a_priori_list, rank_of}
 use Rattle.mod_catalog.specs.ModuleEntry.{IsExpression, is_of_phase, script_for, IsPart, IsPartIf, IsModule}

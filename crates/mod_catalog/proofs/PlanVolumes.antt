@@ -1,21 +1,14 @@
 -- All volumes of a plan, and why their catalogue is well-formed.
-use Rattle.std.proofs.Common.{◌≡◌, ℕ, ◌+◌, ◌<◌, ◌≤◌, Bool, true, false, cond, List, [], ◌∷◌, ◌++◌, length, Option, None, refl, sym, ap, arith, subst, inl, inr}
-use Rattle.std.specs.Prelude.{◌⊎◌, ◌&&◌, filter, is_none, nat_le, IfSome}
+use Rattle.std.proofs.Common.{◌≡◌, ℕ, ◌+◌, ◌<◌, ◌≤◌, Bool, true, false, cond, List, [], ◌∷◌, ◌++◌, length, Option, None, refl, sym, ap, arith, subst, inl, inr, ◌⊎◌, ◌&&◌, filter, is_none, nat_le, IfSome, leb-true}
 use Rattle.std.specs.List.{list_all}
-use Rattle.std.proofs.lemmas.Bool.{and_parts, or_cases, leb-true, false≢true}
-use Rattle.pi_base.specs.declared.phase.Phase.{Phase}
-use Rattle.pi_base.specs.declared.phase.Phase.TheVariants.{Pei, Dxe}
-use Rattle.boot_plan.specs.declared.plan.Plan.{Plan}
-use Rattle.boot_plan.specs.declared.plan.PlanVolume.{PlanVolume}
-use Rattle.boot_plan.specs.declared.limits.TheConstants.{MOST_END}
-use Rattle.mod_catalog.specs.declared.catalogue.Catalog.{Catalog}
-use Rattle.mod_catalog.specs.declared.catalogue.Module.{Module}
-use Rattle.mod_catalog.specs.declared.catalogue.VolumeEntry.{VolumeEntry}
+use Rattle.std.proofs.lemmas.Bool.{and_parts, or_cases, false≢true}
+use Rattle.pi_base.specs.{declared.phase.Phase.Phase, declared.phase.Phase.TheVariants.Pei, declared.phase.Phase.TheVariants.Dxe}
+use Rattle.boot_plan.specs.{declared.plan.Plan.Plan, declared.plan.PlanVolume.PlanVolume, declared.limits.TheConstants.MOST_END}
+use Rattle.mod_catalog.specs.{declared.catalogue.Catalog.Catalog, declared.catalogue.Module.Module}
+use Rattle.mod_catalog.specs.{declared.catalogue.VolumeEntry.VolumeEntry, Parts.parts_in, WellFormed.IsRankWithin, WellFormed.IsWellFormed}
 use Rattle.mod_catalog.specs.Totals.{Holding, AreWithin, totals_with}
 use Rattle.mod_catalog.specs.VolumeTree.{Image, Holds, entry_of, joined, nothing}
 use Rattle.mod_catalog.specs.Catalogue.{are_apart, has_place, plan_image, IsPlaced, PlanHolds, IsCatalogue, no_totals}
-use Rattle.mod_catalog.specs.Parts.{parts_in}
-use Rattle.mod_catalog.specs.WellFormed.{IsRankWithin, IsWellFormed}
 use Rattle.pi_base.specs.Lists.{Each, Ordered}
 use Rattle.pi_base.proofs.ListFacts.{each_more, each_append, each_cross, ordered_append}
 use Rattle.mod_catalog.proofs.RankBounds.{IsBelow, below_more, part_count, length-parts_from}

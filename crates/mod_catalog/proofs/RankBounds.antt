@@ -1,20 +1,12 @@
 -- A rank is below the number of the parts of its phase in its volume.
-use Rattle.std.proofs.Common.{◌≡◌, ℕ, ◌+◌, ◌<◌, ◌≤◌, Bool, true, false, cond, List, [], ◌∷◌, ◌++◌, length, map, filter, Option, Some, None, is_some, refl, sym, ap, ◌∙◌, arith, subst, length-append}
-use Rattle.std.proofs.lemmas.Bool.{false≢true, eq-eqb}
-use Rattle.std.proofs.lemmas.List.Elements.{filter-append}
-use Rattle.std.proofs.lemmas.List.Quantifiers.{position-Some}
-use Rattle.std.specs.Prelude.{IfSome, position, ◌&&◌, ◌||◌, ◌==◌}
-use Rattle.pi_base.specs.declared.guid.Guid.{Guid}
-use Rattle.pi_base.specs.declared.phase.Phase.{Phase}
-use Rattle.pi_base.specs.declared.phase.Phase.TheVariants.{Pei, Dxe}
-use Rattle.pi_base.specs.Guids.{same_guid}
+use Rattle.std.proofs.Common.{◌≡◌, ℕ, ◌+◌, ◌<◌, ◌≤◌, Bool, true, false, cond, List, [], ◌∷◌, ◌++◌, length, map, filter, Option, Some, None, is_some, refl, sym, ap, ◌∙◌, arith, subst, length-append, eq-eqb, IfSome, position, ◌&&◌, ◌||◌, ◌==◌}
+use Rattle.std.proofs.{lemmas.Bool.false≢true, lemmas.List.Elements.filter-append, lemmas.List.Quantifiers.position-Some}
+use Rattle.pi_base.specs.{declared.guid.Guid.Guid, declared.phase.Phase.Phase}
+use Rattle.pi_base.specs.{declared.phase.Phase.TheVariants.Pei, declared.phase.Phase.TheVariants.Dxe, Guids.same_guid}
 use Rattle.pi_base.specs.Lists.{Each, EachPair}
 use Rattle.pi_base.proofs.ListFacts.{each_more, each_append, right_each}
-use Rattle.fv_volume.specs.declared.file.FfsFile.{FfsFile}
-use Rattle.mod_catalog.specs.declared.catalogue.Module.{Module}
-use Rattle.mod_catalog.specs.declared.catalogue.Part.{Part}
-use Rattle.fv_volume.specs.declared.file_type.TheConstants.{VOLUME_IMAGE as VOLUME_FILE}
-use Rattle.mod_catalog.specs.FileType.{has_part, has_module}
+use Rattle.fv_volume.specs.{declared.file.FfsFile.FfsFile, declared.file_type.TheConstants.VOLUME_IMAGE as VOLUME_FILE}
+use Rattle.mod_catalog.specs.{declared.catalogue.Module.Module, declared.catalogue.Part.Part, FileType.has_part, FileType.has_module}
 use Rattle.mod_catalog.specs.ReadFile.{ReadFile, AreRead, is_read, is_file, a_priori_file}
 use Rattle.mod_catalog.specs.APrioriNames.{bearer, kept_names, a_priori_list, rank_of}
 use Rattle.mod_catalog.specs.ModuleEntry.{IsPart, IsPartIf, IsModule}

@@ -1,20 +1,13 @@
 -- An expression that was read is short.
-use Rattle.std.proofs.Common.{◌≤◌, ℕ, List, [], ◌∷◌, ◌++◌, length, map, Option, Some, None, arith, length-append}
+use Rattle.std.proofs.Common.{◌≤◌, ℕ, List, [], ◌∷◌, ◌++◌, length, map, Option, Some, None, arith, length-append, IfSome}
 use Rattle.std.proofs.lemmas.List.{length-map}
-use Rattle.std.specs.Prelude.{IfSome}
-use Rattle.pi_base.specs.declared.phase.Phase.{Phase}
-use Rattle.pi_base.specs.declared.phase.Phase.TheVariants.{Pei, Dxe}
-use Rattle.depex_code.specs.declared.depex.Depex.{Depex}
+use Rattle.pi_base.specs.{declared.phase.Phase.Phase, declared.phase.Phase.TheVariants.Pei, declared.phase.Phase.TheVariants.Dxe}
+use Rattle.depex_code.specs.{declared.depex.Depex.Depex, declared.instruction.Instruction.Instruction}
 use Rattle.depex_code.specs.declared.depex.Depex.TheVariants.{Before, After, Expr}
-use Rattle.depex_code.specs.declared.instruction.Instruction.{Instruction}
 use Rattle.depex_code.specs.declared.instruction.Instruction.TheVariants.{Of, End}
-use Rattle.depex_code.specs.declared.reading.TheConstants.{MOST_OPCODES}
-use Rattle.depex_code.specs.declared.values.TheConstants.{MOST_VALUES}
-use Rattle.depex_code.specs.Tree.{DepexTree, postfix}
-use Rattle.depex_code.specs.Expression.{sor_front, instructions}
-use Rattle.mod_catalog.specs.declared.catalogue.Catalog.{Catalog}
-use Rattle.mod_catalog.specs.declared.catalogue.Part.{Part}
-use Rattle.mod_catalog.specs.declared.catalogue.PartExpr.{PartExpr}
+use Rattle.depex_code.specs.{declared.reading.TheConstants.MOST_OPCODES, declared.values.TheConstants.MOST_VALUES}
+use Rattle.depex_code.specs.{Tree.DepexTree, Tree.postfix, Expression.sor_front, Expression.instructions}
+use Rattle.mod_catalog.specs.{declared.catalogue.Catalog.Catalog, declared.catalogue.Part.Part, declared.catalogue.PartExpr.PartExpr}
 use Rattle.mod_catalog.specs.declared.catalogue.PartExpr.TheVariants.{Absent, Malformed, Held}
 use Rattle.mod_catalog.specs.ModuleEntry.{IsExpression}
 use Rattle.mod_catalog.specs.WellFormed.{IsShort, IsShortExpression, AreShort, IsPartOf, IsWellFormed}

@@ -1,14 +1,9 @@
 -- Files of a volume that are sound: whatever a fault names is none of them.
-use Rattle.std.proofs.Common.{◌≡◌, ◌<◌, ◌≤◌, ℕ, ◌+◌, Bool, true, false, List, [], ◌∷◌, ◌++◌, length, map, refl, sym, ap, ◌∙◌, subst, arith, length-append, drop, inl, inr}
-use Rattle.std.specs.Prelude.{sum_by}
-use Rattle.std.proofs.lemmas.List.Sums.{sum_by-append, sum_by-cons}
-use Rattle.std.proofs.lemmas.Grind.{flat_map-append}
+use Rattle.std.proofs.Common.{◌≡◌, ◌<◌, ◌≤◌, ℕ, ◌+◌, Bool, true, false, List, [], ◌∷◌, ◌++◌, length, map, refl, sym, ap, ◌∙◌, subst, arith, length-append, drop, inl, inr, sum_by}
+use Rattle.std.proofs.{lemmas.List.Sums.sum_by-append, lemmas.List.Sums.sum_by-cons, lemmas.Grind.flat_map-append}
 use Rattle.std.proofs.lemmas.List.Elements.{filter-append}
-use Rattle.pi_base.specs.Field.{AreBytes}
-use Rattle.pi_base.specs.Lists.{Each}
-use Rattle.fv_volume.specs.declared.file.FfsFile.{FfsFile}
-use Rattle.fv_volume.specs.declared.sections.section.Section.{Section}
-use Rattle.fv_volume.specs.Stream.{AreSections}
+use Rattle.pi_base.specs.{Field.AreBytes, Lists.Each}
+use Rattle.fv_volume.specs.{declared.file.FfsFile.FfsFile, declared.sections.section.Section.Section, Stream.AreSections}
 use Rattle.act_code.specs.Script.{IsScript}
 use Rattle.mod_catalog.specs.declared.limits.TheConstants.{MOST_MODULES, MOST_SCRIPT_BYTES}
 use Rattle.mod_catalog.specs.FileType.{has_module}

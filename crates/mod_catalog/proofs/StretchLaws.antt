@@ -1,10 +1,6 @@
 -- Where the volumes that are nested in a volume lie.
-use Rattle.std.proofs.Common.{ℕ, ◌+◌, ◌<◌, ◌≤◌, Bool, List, [], ◌∷◌, ◌++◌, length, drop, map, filter, sym, arith, subst, All, length-take}
-use Rattle.std.specs.Prelude.{AllPairs}
-use Rattle.std.specs.List.{flat_map}
-use Rattle.fv_volume.specs.declared.file.FfsFile.{FfsFile}
-use Rattle.fv_volume.specs.declared.volume.Volume.{Volume}
-use Rattle.fv_volume.specs.Volume.{IsVolume}
+use Rattle.std.proofs.Common.{ℕ, ◌+◌, ◌<◌, ◌≤◌, Bool, List, [], ◌∷◌, ◌++◌, length, drop, map, filter, sym, arith, subst, All, length-take, AllPairs, flat_map}
+use Rattle.fv_volume.specs.{declared.file.FfsFile.FfsFile, declared.volume.Volume.Volume, Volume.IsVolume}
 use Rattle.fv_volume.specs.Places.{AreInside, AreWithin, AreInOrder}
 use Rattle.fv_volume.specs.declared.sections.section.Section.{Section}
 use Rattle.fv_volume.specs.Stream.{AreSections, AreInside as SectionsInside, AreInOrder as SectionsInOrder}

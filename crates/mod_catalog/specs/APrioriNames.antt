@@ -1,13 +1,8 @@
 -- The a priori list of a phase, and the ranks that it gives (PI 1.8, volume 1, "A Priori File", and volume 2; own where a name is unknown or comes again).
-use Rattle.std.specs.Prelude.{ℕ, ◌*◌, ◌/◌, if◌then◌else◌, ◌&&◌, List, [], length, map, filter, find, position, Option, None, is_some, option_map, unwrap_or}
-use Rattle.std.specs.Option.{option_and_then}
-use Rattle.pi_base.specs.Guids.{same_guid, guid_at}
-use Rattle.pi_base.specs.Lists.{numbers, firsts}
-use Rattle.pi_base.specs.declared.guid.Guid.{Guid}
-use Rattle.pi_base.specs.declared.guid.TheConstants.{GUID_LEN}
-use Rattle.pi_base.specs.declared.phase.Phase.{Phase}
-use Rattle.fv_volume.specs.declared.file.FfsFile.{FfsFile}
-use Rattle.fv_volume.specs.declared.sections.section_type.TheConstants.{RAW}
+use Rattle.std.specs.Prelude.{ℕ, ◌*◌, ◌/◌, if◌then◌else◌, ◌&&◌, List, [], length, map, filter, find, position, Option, None, is_some, option_map, unwrap_or, option_and_then}
+use Rattle.pi_base.specs.{Guids.same_guid, Guids.guid_at, Lists.numbers, Lists.firsts, declared.guid.Guid.Guid}
+use Rattle.pi_base.specs.{declared.guid.TheConstants.GUID_LEN, declared.phase.Phase.Phase}
+use Rattle.fv_volume.specs.{declared.file.FfsFile.FfsFile, declared.sections.section_type.TheConstants.RAW}
 use Rattle.mod_catalog.specs.FileType.{has_part}
 use Rattle.mod_catalog.specs.ReadFile.{ReadFile, a_priori_file, is_file, first_body}
 

@@ -1,14 +1,10 @@
 -- The catalogue of a plan and its images: all volumes and modules, in the order of their numbers, where nothing is at fault.
 use Rattle.std.specs.Prelude.{◌≡◌, ℕ, ◌+◌, Bool, true, ◌&&◌, ◌||◌, nat_le, List, [], ◌∷◌, length, filter, None, is_none}
 use Rattle.std.specs.List.{list_all}
-use Rattle.boot_plan.specs.declared.plan.Plan.{Plan}
-use Rattle.boot_plan.specs.declared.plan.PlanVolume.{PlanVolume}
-use Rattle.boot_plan.specs.declared.limits.TheConstants.{MOST_END}
-use Rattle.mod_catalog.specs.declared.limits.TheConstants.{MOST_DEPTH}
-use Rattle.mod_catalog.specs.declared.catalogue.Catalog.{Catalog}
-use Rattle.mod_catalog.specs.declared.catalogue.VolumeEntry.{VolumeEntry}
+use Rattle.boot_plan.specs.{declared.plan.Plan.Plan, declared.plan.PlanVolume.PlanVolume, declared.limits.TheConstants.MOST_END}
+use Rattle.mod_catalog.specs.{declared.limits.TheConstants.MOST_DEPTH, declared.catalogue.Catalog.Catalog}
+use Rattle.mod_catalog.specs.{declared.catalogue.VolumeEntry.VolumeEntry, Totals.AreWithin, Totals.totals_with}
 pub use Rattle.mod_catalog.specs.Totals.{no_totals}
-use Rattle.mod_catalog.specs.Totals.{AreWithin, totals_with}
 use Rattle.mod_catalog.specs.VolumeTree.{Image, Holding, Holds, joined, nothing}
 
 -- no address is in both of two stretches of memory

@@ -1,7 +1,6 @@
 -- Which files have modules, volumes and a priori lists, and in which sections (PI 1.8, volume 3, `EFI_FV_FILETYPE` and section types).
 use Rattle.std.specs.Prelude.{ℕ, Bool, ◌||◌, ◌==◌}
-use Rattle.pi_base.specs.declared.guid.Guid.{Guid}
-use Rattle.pi_base.specs.declared.phase.Phase.{Phase}
+use Rattle.pi_base.specs.{declared.guid.Guid.Guid, declared.phase.Phase.Phase}
 use Rattle.pi_base.specs.declared.phase.Phase.TheVariants.{Pei, Dxe}
 pub use Rattle.fv_volume.specs.declared.file_type.TheConstants.{FREEFORM, PEIM, DRIVER, COMBINED_PEIM_DRIVER, COMBINED_MM_DXE}
 use Rattle.fv_volume.specs.declared.sections.section_type.TheConstants.{PEI_DEPEX, DXE_DEPEX}

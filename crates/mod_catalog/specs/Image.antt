@@ -1,7 +1,6 @@
 -- The image of a volume as the code has it: its bytes, and where they are.
 use Rattle.std.specs.Prelude.{ℕ, ◌+◌, ◌<◌, ◌^◌, List, length}
-use Rattle.mod_catalog.specs.declared.location.Location.{Location}
-use Rattle.mod_catalog.specs.VolumeTree.{Image}
+use Rattle.mod_catalog.specs.{declared.location.Location.Location, VolumeTree.Image}
 
 abbrev pub image_of : List ℕ → Location → Image
 image_of bytes location = record { bytes = bytes; location = location }

@@ -1,7 +1,6 @@
 -- The causes of an image, from those of its volumes, sections and scripts.
-use Rattle.fv_volume.specs.declared.fault.VolCause.{VolCause}
+use Rattle.fv_volume.specs.{declared.fault.VolCause.VolCause, declared.sections.fault.SecCause.SecCause}
 use Rattle.fv_volume.specs.declared.fault.VolCause.TheVariants as V
-use Rattle.fv_volume.specs.declared.sections.fault.SecCause.{SecCause}
 use Rattle.fv_volume.specs.declared.sections.fault.SecCause.TheVariants as S
 use Rattle.act_code.specs.declared.fault.ActCause.{ActCause}
 use Rattle.act_code.specs.declared.fault.ActCause.TheVariants as A

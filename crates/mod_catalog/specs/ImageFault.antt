@@ -4,23 +4,16 @@
 -- A nested volume is examined whole before what follows it.
 use Rattle.std.specs.Prelude.{◌≡◌, ◌⊎◌, ℕ, zero, suc, ◌+◌, ◌-◌, ◌<◌, ◌≤◌, true, false, List, ◌∷◌, ◌++◌, length, map, filter}
 use Rattle.pi_base.specs.Lists.{Each}
-use Rattle.fv_volume.specs.declared.file.FfsFile.{FfsFile}
-use Rattle.fv_volume.specs.declared.volume.Volume.{Volume}
-use Rattle.fv_volume.specs.declared.fault.VolFault.{VolFault}
-use Rattle.fv_volume.specs.Volume.{IsVolume, IsFirstFault as IsVolumeFault}
-use Rattle.fv_volume.specs.declared.sections.section.Section.{Section}
-use Rattle.fv_volume.specs.declared.sections.fault.SecFault.{SecFault}
-use Rattle.fv_volume.specs.Stream.{AreSections, IsFirstFault as IsSectionFault}
-use Rattle.act_code.specs.declared.script.Script.{Script}
-use Rattle.act_code.specs.declared.fault.ActFault.{ActFault}
+use Rattle.fv_volume.specs.{declared.file.FfsFile.FfsFile, declared.volume.Volume.Volume, declared.fault.VolFault.VolFault}
+use Rattle.fv_volume.specs.{Volume.IsVolume, Volume.IsFirstFault as IsVolumeFault, declared.sections.section.Section.Section}
+use Rattle.fv_volume.specs.{declared.sections.fault.SecFault.SecFault, Stream.AreSections, Stream.IsFirstFault as IsSectionFault}
+use Rattle.act_code.specs.{declared.script.Script.Script, declared.fault.ActFault.ActFault}
 use Rattle.act_code.specs.Script.{IsScript, IsFault as IsScriptFault}
-use Rattle.boot_plan.specs.declared.plan.Plan.{Plan}
-use Rattle.boot_plan.specs.declared.plan.PlanVolume.{PlanVolume}
+use Rattle.boot_plan.specs.{declared.plan.Plan.Plan, declared.plan.PlanVolume.PlanVolume}
 use Rattle.mod_catalog.specs.declared.limits.TheConstants.{MOST_DEPTH, MOST_VOLUMES, MOST_MODULES, MOST_SCRIPT_BYTES}
-use Rattle.mod_catalog.specs.declared.image_fault.ImageFault.{ImageFault}
+use Rattle.mod_catalog.specs.{declared.image_fault.ImageFault.ImageFault, FileType.has_module}
 use Rattle.mod_catalog.specs.declared.image_fault.ImageCause.TheVariants.{Nesting, TooManyModules, Place, TooManyVolumes, ScriptTotal}
 use Rattle.mod_catalog.specs.ImageCause.{volume_cause, section_cause, script_cause}
-use Rattle.mod_catalog.specs.FileType.{has_module}
 use Rattle.mod_catalog.specs.ReadFile.{ReadFile, Stretch, IsReadFile, is_read, file_body, section_body, script_sections, nested_in}
 use Rattle.mod_catalog.specs.Totals.{Totals, AreWithin, no_totals, totals_with, with_volume, module_files, bytes_of, script_bytes_of}
 use Rattle.mod_catalog.specs.VolumeTree.{Image, Holding, Holds, AreNested, nested_image, nested_stretches, nothing}

@@ -1,10 +1,8 @@
 -- What lies in what: sections in their file, files in their volume, and stretches below an end.
 use Rattle.std.specs.Prelude.{ℕ, ◌+◌, ◌≤◌, List, length, All}
 use Rattle.pi_base.specs.Lists.{Each}
-use Rattle.fv_volume.specs.declared.file.FfsFile.{FfsFile}
-use Rattle.fv_volume.specs.declared.sections.section.Section.{Section}
-use Rattle.mod_catalog.specs.declared.read_file.ReadFile.{ReadFile}
-use Rattle.mod_catalog.specs.declared.read_file.Stretch.{Stretch}
+use Rattle.fv_volume.specs.{declared.file.FfsFile.FfsFile, declared.sections.section.Section.Section}
+use Rattle.mod_catalog.specs.{declared.read_file.ReadFile.ReadFile, declared.read_file.Stretch.Stretch}
 
 -- the body of a section lies in that of its file
 abbrev pub LiesIn : FfsFile → Section → Type 0

@@ -1,16 +1,12 @@
 -- The module of a file: what it has for PEI and for DXE.
 use Rattle.std.specs.Prelude.{◌≡◌, ℕ, Bool, true, false, List, [], find, Option, Some, None, unwrap_or, ⊤}
-use Rattle.pi_base.specs.declared.phase.Phase.{Phase}
-use Rattle.pi_base.specs.declared.phase.Phase.TheVariants.{Pei, Dxe}
+use Rattle.pi_base.specs.{declared.phase.Phase.Phase, declared.phase.Phase.TheVariants.Pei, declared.phase.Phase.TheVariants.Dxe}
 use Rattle.fv_volume.specs.declared.file.FfsFile.{FfsFile}
 use Rattle.depex_code.specs.Expression.{Reads, IsMalformed}
 use Rattle.act_code.specs.declared.script.Script.{Script}
-use Rattle.mod_catalog.specs.declared.catalogue.Module.{Module}
-use Rattle.mod_catalog.specs.declared.catalogue.Part.{Part}
-use Rattle.mod_catalog.specs.declared.catalogue.PartExpr.{PartExpr}
+use Rattle.mod_catalog.specs.{declared.catalogue.Module.Module, declared.catalogue.Part.Part, declared.catalogue.PartExpr.PartExpr}
 use Rattle.mod_catalog.specs.declared.catalogue.PartExpr.TheVariants.{Absent, Malformed, Held}
-use Rattle.mod_catalog.specs.FileType.{has_part, expression_section}
-use Rattle.mod_catalog.specs.ReadFile.{ReadFile, first_body}
+use Rattle.mod_catalog.specs.{FileType.has_part, FileType.expression_section, ReadFile.ReadFile, ReadFile.first_body}
 use Rattle.mod_catalog.specs.APrioriNames.{a_priori_list, rank_of}
 
 -- the expression in the first section for it

@@ -1,21 +1,12 @@
 -- The modules of a volume's files, and their parts.
 use Rattle.std.specs.Prelude.{◌≡◌, ℕ, List}
-use Rattle.pi_base.specs.Lists.{EachPair}
-use Rattle.pi_base.specs.declared.guid.Guid.{Guid}
-use Rattle.pi_base.specs.declared.phase.Phase.{Phase}
+use Rattle.pi_base.specs.{Lists.EachPair, declared.guid.Guid.Guid, declared.phase.Phase.Phase}
 use Rattle.pi_base.specs.declared.phase.Phase.TheVariants.{Pei, Dxe}
-use Rattle.fv_volume.specs.declared.file.FfsFile.{FfsFile}
-use Rattle.fv_volume.specs.declared.sections.section.Section.{Section}
+use Rattle.fv_volume.specs.{declared.file.FfsFile.FfsFile, declared.sections.section.Section.Section}
 use Rattle.act_code.specs.declared.script.Script.{Script}
-use Rattle.mod_catalog.specs.declared.catalogue.Module.{Module}
-use Rattle.mod_catalog.specs.declared.catalogue.Part.{Part}
-use Rattle.mod_catalog.specs.FileType.{expression_section}
-use Rattle.mod_catalog.specs.declared.read_file.ReadFile.{ReadFile}
-use Rattle.mod_catalog.specs.ReadFile.{first_body}
-use Rattle.mod_catalog.specs.APrioriNames.{a_priori_list, rank_of}
-use Rattle.mod_catalog.specs.ModuleEntry.{IsExpression, IsModule}
-use Rattle.mod_catalog.specs.Totals.{module_files}
-use Rattle.mod_catalog.specs.declared.modules.VolumeRanks.{VolumeRanks}
+use Rattle.mod_catalog.specs.{declared.catalogue.Module.Module, declared.catalogue.Part.Part, FileType.expression_section}
+use Rattle.mod_catalog.specs.{declared.read_file.ReadFile.ReadFile, ReadFile.first_body, APrioriNames.a_priori_list, APrioriNames.rank_of}
+use Rattle.mod_catalog.specs.{ModuleEntry.IsExpression, ModuleEntry.IsModule, Totals.module_files, declared.modules.VolumeRanks.VolumeRanks}
 use Rattle.mod_catalog.specs.Ranks.{GiveRanks}
 
 -- the modules of some of the files of a volume

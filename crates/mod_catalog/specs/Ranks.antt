@@ -1,16 +1,8 @@
 -- The files that names stand for, and the names of an a priori list that are kept, as they are looked up.
 use Rattle.std.specs.Prelude.{◌≡◌, ℕ, ◌+◌, ◌≤◌, Bool, ◌&&◌, if◌then◌else◌, List, [], ◌∷◌, length, filter, position, slice_index_or, is_some, Option, Some, None}
-use Rattle.pi_base.specs.Guids.{same_guid}
-use Rattle.pi_base.specs.Lists.{firsts}
-use Rattle.pi_base.specs.declared.guid.Guid.{Guid}
-use Rattle.pi_base.specs.declared.phase.Phase.{Phase}
-use Rattle.fv_volume.specs.declared.file.FfsFile.{FfsFile}
-use Rattle.fv_volume.specs.declared.search.TheConstants.{MOST_FILES}
-use Rattle.pi_base.specs.GuidMap.{value_of}
-use Rattle.mod_catalog.specs.APrioriNames.{kept_names}
-use Rattle.mod_catalog.specs.FileType.{has_part}
-use Rattle.mod_catalog.specs.declared.ranks.Bearer.{Bearer}
-use Rattle.mod_catalog.specs.declared.ranks.Ranks.{Ranks}
+use Rattle.pi_base.specs.{Guids.same_guid, Lists.firsts, declared.guid.Guid.Guid, declared.phase.Phase.Phase, GuidMap.value_of}
+use Rattle.fv_volume.specs.{declared.file.FfsFile.FfsFile, declared.search.TheConstants.MOST_FILES}
+use Rattle.mod_catalog.specs.{APrioriNames.kept_names, FileType.has_part, declared.ranks.Bearer.Bearer, declared.ranks.Ranks.Ranks}
 use Rattle.mod_catalog.specs.declared.ranks.Kept.{Kept}
 
 -- the first file of a name with a part for the phase, of files of which the first has this index

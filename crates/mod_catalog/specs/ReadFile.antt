@@ -2,18 +2,14 @@
 -- Each has its sections, and its scripts (PI 1.8, volume 3, firmware file sections; the scripts are own).
 use Rattle.std.specs.Prelude.{◌≡◌, ℕ, ◌+◌, Bool, false, ◌&&◌, ◌||◌, ◌==◌, List, take, drop, map, filter, find, Option, Some, None, option_map, nat_eq}
 use Rattle.std.specs.List.{starts_with}
-use Rattle.pi_base.specs.Guids.{same_guid}
-use Rattle.pi_base.specs.Lists.{Each, EachPair}
-use Rattle.pi_base.specs.declared.guid.Guid.{Guid}
-use Rattle.pi_base.specs.declared.phase.Phase.{Phase}
+use Rattle.pi_base.specs.{Guids.same_guid, Lists.Each, Lists.EachPair, declared.guid.Guid.Guid, declared.phase.Phase.Phase}
 use Rattle.pi_base.specs.declared.phase.Phase.TheVariants.{Pei, Dxe}
 use Rattle.fv_volume.specs.declared.file.FfsFile.{FfsFile}
 use Rattle.fv_volume.specs.declared.file_type.TheConstants.{FREEFORM, VOLUME_IMAGE as VOLUME_FILE}
 use Rattle.fv_volume.specs.declared.sections.section.Section.{Section}
 use Rattle.fv_volume.specs.declared.sections.section_type.TheConstants.{RAW, VOLUME_IMAGE as VOLUME_SECTION}
 use Rattle.fv_volume.specs.Stream.{AreSections}
-use Rattle.act_code.specs.declared.header.TheConstants.{MAGIC}
-use Rattle.act_code.specs.Script.{IsScript}
+use Rattle.act_code.specs.{declared.header.TheConstants.MAGIC, Script.IsScript}
 use Rattle.mod_catalog.specs.FileType.{has_module, a_priori_name}
 pub use Rattle.mod_catalog.specs.declared.read_file.ReadFile.{ReadFile}
 pub use Rattle.mod_catalog.specs.declared.read_file.Stretch.{Stretch}

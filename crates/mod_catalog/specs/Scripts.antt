@@ -1,14 +1,10 @@
 -- The scripts of a file, and how many bytes they have.
 use Rattle.std.specs.Prelude.{◌≡◌, ℕ, ◌+◌, ◌≤◌, List}
 use Rattle.pi_base.specs.Lists.{EachPair}
-use Rattle.fv_volume.specs.declared.file.FfsFile.{FfsFile}
-use Rattle.fv_volume.specs.declared.sections.section.Section.{Section}
-use Rattle.act_code.specs.declared.script.Script.{Script}
-use Rattle.act_code.specs.Script.{IsScript}
-use Rattle.mod_catalog.specs.declared.limits.TheConstants.{MOST_SCRIPT_BYTES}
-use Rattle.mod_catalog.specs.ReadFile.{section_body, script_sections}
-use Rattle.mod_catalog.specs.Totals.{bytes_of}
-use Rattle.mod_catalog.specs.declared.scripts.Scripts.{Scripts}
+use Rattle.fv_volume.specs.{declared.file.FfsFile.FfsFile, declared.sections.section.Section.Section}
+use Rattle.act_code.specs.{declared.script.Script.Script, Script.IsScript}
+use Rattle.mod_catalog.specs.{declared.limits.TheConstants.MOST_SCRIPT_BYTES, ReadFile.section_body, ReadFile.script_sections}
+use Rattle.mod_catalog.specs.{Totals.bytes_of, declared.scripts.Scripts.Scripts}
 
 -- a section's script
 abbrev pub IsScriptOf : List ℕ → FfsFile → Section → Script → Type 0

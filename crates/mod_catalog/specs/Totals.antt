@@ -2,8 +2,7 @@
 use Rattle.std.specs.Prelude.{ℕ, ◌+◌, ◌≤◌, List, length, filter, sum_by}
 use Rattle.fv_volume.specs.declared.sections.section.Section.{Section}
 use Rattle.mod_catalog.specs.declared.limits.TheConstants.{MOST_VOLUMES, MOST_MODULES, MOST_SCRIPT_BYTES}
-use Rattle.mod_catalog.specs.FileType.{has_module}
-use Rattle.mod_catalog.specs.ReadFile.{ReadFile, script_sections}
+use Rattle.mod_catalog.specs.{FileType.has_module, ReadFile.ReadFile, ReadFile.script_sections}
 pub use Rattle.mod_catalog.specs.Holding.{Holding}
 pub use Rattle.mod_catalog.specs.declared.totals.Totals.{Totals}
 

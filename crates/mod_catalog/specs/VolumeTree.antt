@@ -1,14 +1,10 @@
 -- What a volume holds with all volumes nested in it: a volume, then each nested one by place, followed by its own nested ones
 -- (PI 1.8, volume 3; the numbers are own).
-use Rattle.std.specs.Prelude.{◌≡◌, ℕ, zero, suc, ◌+◌, List, [], ◌∷◌, length, take, drop}
-use Rattle.std.specs.List.{flat_map}
+use Rattle.std.specs.Prelude.{◌≡◌, ℕ, zero, suc, ◌+◌, List, [], ◌∷◌, length, take, drop, flat_map}
 use Rattle.pi_base.specs.Lists.{EachPair}
-use Rattle.fv_volume.specs.declared.volume.Volume.{Volume}
-use Rattle.fv_volume.specs.Volume.{IsVolume}
-use Rattle.mod_catalog.specs.declared.catalogue.Module.{Module}
-use Rattle.mod_catalog.specs.declared.catalogue.VolumeEntry.{VolumeEntry}
+use Rattle.fv_volume.specs.{declared.volume.Volume.Volume, Volume.IsVolume}
+use Rattle.mod_catalog.specs.{declared.catalogue.Module.Module, declared.catalogue.VolumeEntry.VolumeEntry, ModuleEntry.IsModule}
 use Rattle.mod_catalog.specs.ReadFile.{ReadFile, Stretch, AreRead, nested_in}
-use Rattle.mod_catalog.specs.ModuleEntry.{IsModule}
 use Rattle.mod_catalog.specs.Totals.{module_files, script_bytes_of}
 pub use Rattle.mod_catalog.specs.Holding.{Holding, joined, nothing}
 pub use Rattle.mod_catalog.specs.Location.{Location, nested_location}

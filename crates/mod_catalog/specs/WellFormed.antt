@@ -1,20 +1,12 @@
 -- What every catalogue keeps, for the calls that take one.
 use Rattle.std.specs.Prelude.{◌≡◌, ◌≢◌, ◌⊎◌, ℕ, ◌+◌, ◌<◌, ◌≤◌, List, [], ◌∷◌, length, Option, Some, None, IfSome, ⊤}
-use Rattle.pi_base.specs.declared.phase.Phase.{Phase}
-use Rattle.pi_base.specs.declared.phase.Phase.TheVariants.{Pei, Dxe}
-use Rattle.depex_code.specs.declared.depex.Depex.{Depex}
+use Rattle.pi_base.specs.{declared.phase.Phase.Phase, declared.phase.Phase.TheVariants.Pei, declared.phase.Phase.TheVariants.Dxe}
+use Rattle.depex_code.specs.{declared.depex.Depex.Depex, declared.values.TheConstants.MOST_VALUES, Tree.postfix, Expression.IsOfPhase}
 use Rattle.depex_code.specs.declared.depex.Depex.TheVariants.{Before, After, Expr}
-use Rattle.depex_code.specs.declared.values.TheConstants.{MOST_VALUES}
-use Rattle.depex_code.specs.Tree.{postfix}
-use Rattle.depex_code.specs.Expression.{IsOfPhase}
-use Rattle.act_code.specs.declared.header.TheConstants.{MOST_SCRIPT}
-use Rattle.act_code.specs.Script.{IsInGrammar, script_bytes}
+use Rattle.act_code.specs.{declared.header.TheConstants.MOST_SCRIPT, Script.IsInGrammar, Script.script_bytes}
 use Rattle.mod_catalog.specs.declared.limits.TheConstants.{MOST_VOLUMES, MOST_MODULES}
-use Rattle.mod_catalog.specs.declared.catalogue.Catalog.{Catalog}
-use Rattle.mod_catalog.specs.declared.catalogue.VolumeEntry.{VolumeEntry}
-use Rattle.mod_catalog.specs.declared.catalogue.Module.{Module}
-use Rattle.mod_catalog.specs.declared.catalogue.Part.{Part}
-use Rattle.mod_catalog.specs.declared.catalogue.PartExpr.{PartExpr}
+use Rattle.mod_catalog.specs.{declared.catalogue.Catalog.Catalog, declared.catalogue.VolumeEntry.VolumeEntry}
+use Rattle.mod_catalog.specs.{declared.catalogue.Module.Module, declared.catalogue.Part.Part, declared.catalogue.PartExpr.PartExpr}
 use Rattle.mod_catalog.specs.declared.catalogue.PartExpr.TheVariants.{Absent, Malformed, Held}
 use Rattle.pi_base.specs.Lists.{Each, Ordered}
 pub use Rattle.mod_catalog.specs.Parts.{part_of}

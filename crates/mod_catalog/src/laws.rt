@@ -1,14 +1,9 @@
 // What follows from the definitions alone.
 ghost use Rattle.std.specs.Prelude.{◌≡◌, ℕ, List};
-ghost use Rattle.pi_base.specs.Field.{AreBytes};
-ghost use Rattle.pi_base.specs.Lists.{Each};
-ghost use Rattle.pi_base.specs.declared.phase.Phase.{Phase};
+ghost use Rattle.pi_base.specs.{Field.AreBytes, Lists.Each, declared.phase.Phase.Phase};
 ghost use Rattle.boot_plan.specs.declared.plan.Plan.{Plan};
-ghost use Rattle.mod_catalog.specs.Catalogue.{IsCatalogue};
-ghost use Rattle.mod_catalog.specs.WellFormed.{AreShort, IsWellFormed};
-ghost use Rattle.mod_catalog.specs.ImageFault.{IsImageFault};
-ghost use Rattle.mod_catalog.specs.declared.catalogue.Catalog.{Catalog};
-ghost use Rattle.mod_catalog.specs.declared.image_fault.ImageFault.{ImageFault};
+ghost use Rattle.mod_catalog.specs.{Catalogue.IsCatalogue, WellFormed.AreShort, WellFormed.IsWellFormed, ImageFault.IsImageFault};
+ghost use Rattle.mod_catalog.specs.{declared.catalogue.Catalog.Catalog, declared.image_fault.ImageFault.ImageFault};
 
 /// The images of a plan have one catalogue at most, or one first fault, and never both.
 pub fn one_catalogue()

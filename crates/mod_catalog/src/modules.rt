@@ -1,14 +1,8 @@
 // The modules of a volume.
 ghost use Rattle.std.specs.Prelude.{◌≤◌, ◌++◌, ◌∷◌, [], List, length, IfOk, OnOk};
-ghost use Rattle.fv_volume.specs.declared.file.FfsFile.{FfsFile as File};
-ghost use Rattle.fv_volume.specs.declared.search.TheConstants.{MOST_FILES};
-ghost use Rattle.fv_volume.specs.Places.{AreInside};
-ghost use Rattle.mod_catalog.specs.declared.read_file.ReadFile.{ReadFile as Read};
-ghost use Rattle.mod_catalog.specs.ReadFile.{AreRead};
-ghost use Rattle.mod_catalog.specs.ModuleEntry.{IsModule};
-ghost use Rattle.mod_catalog.specs.APriori.{AreFound};
-ghost use Rattle.mod_catalog.specs.Lying.{IsPlaced, ArePlaced};
-ghost use Rattle.mod_catalog.specs.Modules.{AreModules, RanksHold};
+ghost use Rattle.fv_volume.specs.{declared.file.FfsFile.FfsFile as File, declared.search.TheConstants.MOST_FILES, Places.AreInside};
+ghost use Rattle.mod_catalog.specs.{declared.read_file.ReadFile.ReadFile as Read, ReadFile.AreRead, ModuleEntry.IsModule, APriori.AreFound};
+ghost use Rattle.mod_catalog.specs.{Lying.IsPlaced, Lying.ArePlaced, Modules.AreModules, Modules.RanksHold};
 
 use crate::a_priori::APrioriFiles;
 use crate::a_priori_list::a_priori_body;

@@ -1,9 +1,7 @@
 // The ranks of a volume's files, which an a priori list gives them.
 ghost use Rattle.std.specs.Prelude.{◌≡◌, ◌≤◌, ◌<◌, ◌+◌, ◌++◌, ◌∷◌, ℕ, [], None, List, length, replicate, slice_index_or, IfOk, OnOk};
-ghost use Rattle.pi_base.specs.declared.guid.Guid.{Guid as Name};
-ghost use Rattle.pi_base.specs.declared.phase.Phase.{Phase as OfPhase};
-ghost use Rattle.fv_volume.specs.declared.file.FfsFile.{FfsFile as File};
-ghost use Rattle.fv_volume.specs.declared.search.TheConstants.{MOST_FILES};
+ghost use Rattle.pi_base.specs.{declared.guid.Guid.Guid as Name, declared.phase.Phase.Phase as OfPhase};
+ghost use Rattle.fv_volume.specs.{declared.file.FfsFile.FfsFile as File, declared.search.TheConstants.MOST_FILES};
 ghost use Rattle.mod_catalog.specs.APrioriNames.{guids_in, rank_of};
 ghost use Rattle.mod_catalog.specs.Ranks.{AreBearers, AreOfSome, AreKept, HoldRanks, GiveRanks};
 

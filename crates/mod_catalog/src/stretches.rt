@@ -1,7 +1,6 @@
 // The stretches of a volume in which others are nested.
 ghost use Rattle.std.specs.Prelude.{◌≡◌, ◌≤◌, ◌+◌, IfOk};
-ghost use Rattle.mod_catalog.specs.ReadFile.{holds_volume, nested_in};
-ghost use Rattle.mod_catalog.specs.Lying.{LieIn, AreStretchesBelow};
+ghost use Rattle.mod_catalog.specs.{ReadFile.holds_volume, ReadFile.nested_in, Lying.LieIn, Lying.AreStretchesBelow};
 
 use crate::Stretch;
 use fv_volume::sections::{Section, section_type};

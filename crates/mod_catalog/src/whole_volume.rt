@@ -1,13 +1,9 @@
 // A volume put together with what its files hold.
 ghost use Rattle.std.specs.Prelude.{◌≡◌, ◌≤◌, ◌+◌, ℕ, suc, filter, IfOk};
-ghost use Rattle.fv_volume.specs.Volume.{IsVolume};
-ghost use Rattle.fv_volume.specs.Places.{AreInside};
-ghost use Rattle.mod_catalog.specs.ReadFile.{AreRead, is_read};
-ghost use Rattle.mod_catalog.specs.declared.totals.Totals.{Totals};
+ghost use Rattle.fv_volume.specs.{Volume.IsVolume, Places.AreInside};
+ghost use Rattle.mod_catalog.specs.{ReadFile.AreRead, ReadFile.is_read, declared.totals.Totals.Totals};
 ghost use Rattle.mod_catalog.specs.Totals.{AreWithin, totals_with, with_volume};
-ghost use Rattle.mod_catalog.specs.VolumeTree.{Holds, entry_of};
-ghost use Rattle.mod_catalog.specs.APriori.{AreFound};
-ghost use Rattle.mod_catalog.specs.Examined.{AreExamined, IsFirstEntry};
+ghost use Rattle.mod_catalog.specs.{VolumeTree.Holds, VolumeTree.entry_of, APriori.AreFound, Examined.AreExamined, Examined.IsFirstEntry};
 ghost use Rattle.mod_catalog.specs.Image.{image_of};
 
 use crate::a_priori::APrioriFiles;

@@ -1,9 +1,8 @@
 -- Each call has a reply.
 use Rattle.std.proofs.Common.{◌≡◌, ℕ, suc, List, [], ◌∷◌, length, refl, ap}
-use Rattle.mp_core.specs.declared.event.MpEvent.{MpEvent}
+use Rattle.mp_core.specs.{declared.event.MpEvent.MpEvent, OutcomeText.calls}
 use Rattle.mp_core.specs.declared.event.MpEvent.TheVariants.{All, This, Enable, Switch, Who, Turn}
 use Rattle.mp_core.specs.Past.{Past, after, opening, replies, replies_from}
-use Rattle.mp_core.specs.OutcomeText.{calls}
 
 answered_from : (processors : ℕ) (past : Past) (events : List MpEvent) → length (replies_from processors past events) ≡ length (calls events)
 answered_from processors past [] = refl

@@ -1,16 +1,11 @@
 -- Lines of events, one after another.
-use Rattle.std.proofs.Common.{◌≡◌, ℕ, ◌+◌, Bool, true, false, not, cond, List, [], ◌∷◌, ◌++◌, map, append_assoc, append-nil, Option, Some, None, Ok, refl, sym, ap, ◌∙◌}
-use Rattle.std.proofs.lemmas.List.{map-append}
-use Rattle.std.proofs.lemmas.Option.{none-some}
-use Rattle.std.specs.Prelude.{is_none, option_map}
-use Rattle.std.specs.List.{find}
+use Rattle.std.proofs.Common.{◌≡◌, ℕ, ◌+◌, Bool, true, false, not, cond, List, [], ◌∷◌, ◌++◌, map, append_assoc, append-nil, Option, Some, None, Ok, refl, sym, ap, ◌∙◌, is_none, option_map, find}
+use Rattle.std.proofs.{lemmas.List.map-append, lemmas.Option.none-some}
 use Rattle.line_words.specs.Line.{is_passed_over}
-use Rattle.mp_core.specs.declared.event.MpEvent.{MpEvent}
-use Rattle.mp_core.specs.declared.fault.MpFault.{MpFault}
+use Rattle.mp_core.specs.{declared.event.MpEvent.MpEvent, declared.fault.MpFault.MpFault}
 use Rattle.mp_core.specs.declared.fault.MpFault.TheVariants.{Bad, Memory}
-use Rattle.mp_core.specs.FileFaults.{IsEventFault, TakesLine}
+use Rattle.mp_core.specs.{FileFaults.IsEventFault, FileFaults.TakesLine, LineText.event_of}
 use Rattle.mp_core.specs.FileText.{numbered_from, spelled, first_without_event}
-use Rattle.mp_core.specs.LineText.{event_of}
 
 abbrev pub somes : List MpEvent → List (Option MpEvent)
 somes events = map (λ event. Some event) events

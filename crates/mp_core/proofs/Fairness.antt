@@ -1,12 +1,10 @@
 -- The table starts a processor only where its last job is done, and a processor is busy where a part of a job is not yet done.
-use Rattle.std.proofs.Common.{◌≡◌, ℕ, zero, suc, ◌<◌, ◌≤◌, Bool, true, false, not, ◌||◌, cond, eqb, ltb, List, [], ◌∷◌, ◌++◌, length, drop, sym, refl, ap, subst, ◌∙◌, arith, Option, Some, None, ⊎_elim}
-use Rattle.std.proofs.lemmas.Bool.{false≢true, true≢false, eqb-true, eqb-false, ne_eqb, lt-ltb, le-ltb, cases_lt}
-use Rattle.std.proofs.lemmas.List.{append-nil, drop_all}
-use Rattle.std.specs.Option.{option_or, is_some}
-use Rattle.mp_core.specs.declared.op.Op.{Op}
+use Rattle.std.proofs.Common.{◌≡◌, ℕ, zero, suc, ◌<◌, ◌≤◌, Bool, true, false, not, ◌||◌, cond, eqb, ltb, List, [], ◌∷◌, ◌++◌, length, drop, sym, refl, ap, subst, ◌∙◌, arith, Option, Some, None, ⊎_elim, true≢false, eqb-true, ne_eqb, lt-ltb, le-ltb, append-nil, is_some}
+use Rattle.std.proofs.lemmas.Bool.{false≢true, eqb-false, cases_lt}
+use Rattle.std.proofs.lemmas.List.{drop_all}
+use Rattle.std.specs.Option.{option_or}
+use Rattle.mp_core.specs.{declared.op.Op.Op, Past.is_empty, Fair.starts, Fair.IsFair}
 use Rattle.mp_core.specs.Schedule.{Step, Starts, Turns, turns, last_start, is_busy, undone, ops_of}
-use Rattle.mp_core.specs.Past.{is_empty}
-use Rattle.mp_core.specs.Fair.{starts, IsFair}
 use Rattle.mp_core.proofs.Turned.{turns-starts, turns-again, starts-turns, none_undone}
 
 pub fair-turns : (q : ℕ) (s : List Step) → IsFair s → IsFair (s ++ Turns q ∷ [])

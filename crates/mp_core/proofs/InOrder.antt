@@ -1,16 +1,10 @@
 -- What is done and what is not yet done of each start is its job, and the cells and records of the jobs one after another are their sums and Puts.
-use Rattle.std.proofs.Common.{◌≡◌, ℕ, ◌+◌, ◌%◌, ◌^◌, ◌≤◌, Bool, true, false, cond, eqb, List, [], ◌∷◌, ◌++◌, length, take, drop, sym, refl, ap, subst, ◌∙◌, arith, append_assoc}
-use Rattle.std.proofs.Math.Nat.{mod-add-mod}
-use Rattle.std.proofs.lemmas.Bool.{eqb-true}
-use Rattle.std.proofs.lemmas.List.{append-nil, take_all, drop_all, take-append-drop}
-use Rattle.std.proofs.lemmas.List.Concat.{flat_map-append}
+use Rattle.std.proofs.Common.{◌≡◌, ℕ, ◌+◌, ◌%◌, ◌^◌, ◌≤◌, Bool, true, false, cond, eqb, List, [], ◌∷◌, ◌++◌, length, take, drop, sym, refl, ap, subst, ◌∙◌, arith, append_assoc, eqb-true, append-nil, take_all, take-append-drop, fold, flat_map}
+use Rattle.std.proofs.{Math.Nat.mod-add-mod, lemmas.List.drop_all, lemmas.List.Concat.flat_map-append}
 use Rattle.std.proofs.lemmas.List.Sums.{sum_by-cons, sum_by-take-drop}
-use Rattle.std.specs.List.{fold, flat_map}
-use Rattle.mp_core.specs.declared.op.Op.{Op}
-use Rattle.mp_core.specs.declared.op.Op.TheVariants.{Add, Put}
+use Rattle.mp_core.specs.{declared.op.Op.Op, declared.op.Op.TheVariants.Add, declared.op.Op.TheVariants.Put, Fair.starts, Fair.IsFair}
 use Rattle.mp_core.specs.Schedule.{Step, Starts, Turns, Part, turns, jobs, done, undone, added, adds, put, ops_of, puts}
 use Rattle.mp_core.specs.OneAfterAnother.{Contents, blank, does, does_all, one_after_another}
-use Rattle.mp_core.specs.Fair.{starts, IsFair}
 use Rattle.mp_core.proofs.Turned.{same, none_done, none_undone, none_jobs, sum_of, adds-cons}
 
 pub adds_join : (c : ℕ) (s : List Step) → adds c (done s) + adds c (undone s) ≡ adds c (jobs s)

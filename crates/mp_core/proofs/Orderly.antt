@@ -1,14 +1,11 @@
 -- The table sees to it that starts are orderly.
-use Rattle.std.proofs.Common.{◌≡◌, ℕ, zero, suc, ◌+◌, ◌<◌, ◌≤◌, Bool, true, false, not, ◌||◌, cond, eqb, ltb, List, [], ◌∷◌, ◌++◌, map, sym, refl, ap, subst, ◌∙◌, arith, append_assoc, ⊎_elim, inl, inr, ◌⊎◌}
-use Rattle.std.proofs.lemmas.Bool.{true≢false, ne_eqb, not-false, ltb-true, or_parts, cases_lt}
-use Rattle.std.proofs.lemmas.List.{append-nil}
+use Rattle.std.proofs.Common.{◌≡◌, ℕ, zero, suc, ◌+◌, ◌<◌, ◌≤◌, Bool, true, false, not, ◌||◌, cond, eqb, ltb, List, [], ◌∷◌, ◌++◌, map, sym, refl, ap, subst, ◌∙◌, arith, append_assoc, ⊎_elim, inl, inr, ◌⊎◌, true≢false, ne_eqb, ltb-true, append-nil, filter}
+use Rattle.std.proofs.lemmas.Bool.{not-false, or_parts, cases_lt}
 use Rattle.std.proofs.lemmas.List.Concat.{flat_map-append}
-use Rattle.std.specs.List.{filter, list_any}
+use Rattle.std.specs.List.{list_any}
 use Rattle.pi_base.specs.Lists.{numbers}
-use Rattle.mp_core.specs.declared.event.MpEvent.{MpEvent}
+use Rattle.mp_core.specs.{declared.event.MpEvent.MpEvent, declared.op.Op.Op, declared.reply.MpWord.MpWord}
 use Rattle.mp_core.specs.declared.event.MpEvent.TheVariants.{All, This, Enable, Switch, Who, Turn}
-use Rattle.mp_core.specs.declared.op.Op.{Op}
-use Rattle.mp_core.specs.declared.reply.MpWord.{MpWord}
 use Rattle.mp_core.specs.declared.reply.MpWord.TheVariants.{Success, DeviceError, NotStarted, NotReady, NotFound, InvalidParameter, Unsupported}
 use Rattle.mp_core.specs.Schedule.{Step, Starts, Turns, Part, is_busy, undone, ops_of}
 use Rattle.mp_core.specs.Past.{Past, opening, is_enabled_ap, enabled_aps, first_refusal, is_empty, startup_all_aps, startup_this_ap, enable_disable_ap, switch_bsp, if_success, started, after, past_from}

@@ -1,11 +1,8 @@
 -- A text that is put piece by piece.
-use Rattle.std.proofs.Common.{◌≡◌, ℕ, zero, suc, ◌+◌, ◌<◌, List, [], ◌∷◌, ◌++◌, length, map, drop, get_or, append_assoc, Option, Result, refl, ap, ◌∙◌, sym, subst, arith}
+use Rattle.std.proofs.Common.{◌≡◌, ℕ, zero, suc, ◌+◌, ◌<◌, List, [], ◌∷◌, ◌++◌, length, map, drop, get_or, append_assoc, Option, Result, refl, ap, ◌∙◌, sym, subst, arith, flat_map}
 use Rattle.std.proofs.lemmas.List.{drop_more}
-use Rattle.std.specs.Io.KnownBytes.{Appends}
-use Rattle.std.specs.List.{flat_map, enumerate_from}
-use Rattle.boot_io.specs.Line.{spaced}
-use Rattle.boot_io.specs.declared.sink.SinkFault.{SinkFault}
-use Rattle.boot_io.specs.Sink.{AppendsPart, Puts}
+use Rattle.std.specs.{Io.KnownBytes.Appends, List.enumerate_from}
+use Rattle.boot_io.specs.{Line.spaced, declared.sink.SinkFault.SinkFault, Sink.AppendsPart, Sink.Puts}
 use Rattle.boot_io.proofs.PutsLaws.{appends_then, part_of_more, part_then, puts_then}
 
 -- what was put so far and what is left are the whole text

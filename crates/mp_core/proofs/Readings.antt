@@ -2,10 +2,8 @@
 use Rattle.std.proofs.Common.{◌≡◌, ◌⊎◌, inl, inr, ℕ, ◌+◌, List, [], ◌∷◌, length, Option, Some, None, refl, sym, ap, ◌∙◌, arith}
 use Rattle.std.proofs.lemmas.Option.{same_Some, none-some}
 use Rattle.line_words.specs.Line.{lines}
-use Rattle.mp_core.specs.declared.event.MpEvent.{MpEvent}
-use Rattle.mp_core.specs.declared.file.MpFile.{MpFile}
+use Rattle.mp_core.specs.{declared.event.MpEvent.MpEvent, declared.file.MpFile.MpFile, LineText.head_of, LineText.event_of}
 use Rattle.mp_core.specs.FileText.{numbered, spelled, first_without_event, first_bad, first_bad_by, AreLinesOf, IsMpFile, IsFirstBad}
-use Rattle.mp_core.specs.LineText.{head_of, event_of}
 use Rattle.mp_core.proofs.EventLines.{somes}
 
 head_same : (a b : Option MpEvent) (xs ys : List (Option MpEvent)) → a ∷ xs ≡ b ∷ ys → a ≡ b

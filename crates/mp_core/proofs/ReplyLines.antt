@@ -1,8 +1,7 @@
 -- The lines of calls, one after another.
 use Rattle.std.proofs.Common.{◌≡◌, ◌-◌, ◌≤◌, false, List, [], ◌∷◌, ◌++◌, length, take, drop, get_or, refl, sym, ap, ◌∙◌, arith}
 use Rattle.std.proofs.lemmas.List.{take_rest}
-use Rattle.mp_core.specs.declared.event.MpEvent.{MpEvent}
-use Rattle.mp_core.specs.declared.reply.MpReply.{MpReply}
+use Rattle.mp_core.specs.{declared.event.MpEvent.MpEvent, declared.reply.MpReply.MpReply}
 use Rattle.mp_core.specs.OutcomeText.{is_turn, reply_line, replies_text}
 
 pub next_reply : (events : List MpEvent) (event : MpEvent) (replies : List MpReply) (other : MpReply) → event ≡ get_or events 0 event → 1 ≤ length events → 1 ≤ length replies → is_turn event ≡ false

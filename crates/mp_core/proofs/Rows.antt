@@ -1,12 +1,10 @@
 -- The worked lists of events, computed by the definitions.
 use Rattle.std.proofs.Common.{◌≡◌, true, false, List, [], ◌∷◌, refl}
-use Rattle.mp_core.specs.declared.event.MpEvent.{MpEvent}
+use Rattle.mp_core.specs.{declared.event.MpEvent.MpEvent, declared.op.Op.TheVariants.Add, declared.op.Op.TheVariants.Put}
 use Rattle.mp_core.specs.declared.event.MpEvent.TheVariants.{All, This, Enable, Switch, Who, Turn}
-use Rattle.mp_core.specs.declared.op.Op.TheVariants.{Add, Put}
-use Rattle.mp_core.specs.declared.reply.MpReply.TheVariants.{Word, Number}
+use Rattle.mp_core.specs.{declared.reply.MpReply.TheVariants.Word, declared.reply.MpReply.TheVariants.Number, Past.replies, Past.schedule}
 use Rattle.mp_core.specs.declared.reply.MpWord.TheVariants.{Success, DeviceError, NotStarted, NotReady, NotFound, InvalidParameter, Unsupported}
 use Rattle.mp_core.specs.Schedule.{busy_after, cells_after, records_after}
-use Rattle.mp_core.specs.Past.{replies, schedule}
 use Rattle.mp_core.specs.OneAfterAnother.{cells_of, one_after_another, records_of}
 
 -- three processors and one cell: a start of all, turns, and one of a busy AP; the others when all are disabled

@@ -1,24 +1,17 @@
 -- A run from its first event on.
-use Rattle.std.proofs.Common.{◌≡◌, ℕ, zero, suc, ⊎_elim, cond, eqb, ◌+◌, ◌%◌, ◌^◌, ◌<◌, Bool, false, not, List, [], ◌∷◌, ◌++◌, map, length, take, get_or, sym, refl, ap, subst, ◌∙◌, arith}
-use Rattle.std.proofs.lemmas.Bool.{or_parts, cases_lt, eq-eqb}
-use Rattle.std.proofs.lemmas.List.{append-nil, append_assoc, take_more, get_or-map}
+use Rattle.std.proofs.Common.{◌≡◌, ℕ, zero, suc, ⊎_elim, cond, eqb, ◌+◌, ◌%◌, ◌^◌, ◌<◌, Bool, false, not, List, [], ◌∷◌, ◌++◌, map, length, take, get_or, sym, refl, ap, subst, ◌∙◌, arith, eq-eqb, append-nil, append_assoc, flat_map, option_to_list}
+use Rattle.std.proofs.{lemmas.Bool.or_parts, lemmas.Bool.cases_lt, lemmas.List.take_more, lemmas.List.get_or-map}
 use Rattle.std.proofs.lemmas.List.Sums.{fold_more}
-use Rattle.std.specs.List.{flat_map, list_any}
-use Rattle.std.specs.Option.{option_to_list}
+use Rattle.std.specs.List.{list_any}
 use Rattle.pi_base.specs.Lists.{Each, numbers}
-use Rattle.mp_core.specs.declared.event.MpEvent.{MpEvent}
-use Rattle.mp_core.specs.declared.machine.Machine.{Machine}
-use Rattle.mp_core.specs.declared.processor.Processor.{Processor}
-use Rattle.mp_core.specs.declared.reply.MpOutcome.{MpOutcome}
-use Rattle.mp_core.specs.Fair.{AreOrderly}
-use Rattle.mp_core.specs.Machine.{IsMachine, IsLeft}
+use Rattle.mp_core.specs.{declared.event.MpEvent.MpEvent, declared.machine.Machine.Machine, declared.processor.Processor.Processor}
+use Rattle.mp_core.specs.{declared.reply.MpOutcome.MpOutcome, Fair.AreOrderly, Machine.IsMachine, Machine.IsLeft}
 use Rattle.mp_core.specs.OneAfterAnother.{one_after_another, cells_of, records_of, Completes}
 use Rattle.mp_core.specs.Past.{Past, opening, after, is_empty, past_from, reply, replies_from}
 use Rattle.mp_core.specs.Schedule.{Step, Part, is_busy, done, undone, adds, ops_of, put, puts, cells_after, records_after, busy_after}
 use Rattle.mp_core.proofs.Fairness.{is_busy-undone, front_empty, back_empty}
 use Rattle.mp_core.proofs.InOrder.{mod_twice, cells_in_order, records_in_order}
-use Rattle.mp_core.proofs.Orderly.{idle_from}
-use Rattle.mp_core.proofs.Standing.{length-numbers, numbers_at}
+use Rattle.mp_core.proofs.{Orderly.idle_from, Standing.length-numbers, Standing.numbers_at}
 use Rattle.mp_core.proofs.Turned.{none_undone, adds-cons, sum_of}
 
 -- one event more

@@ -1,20 +1,12 @@
 -- A machine that stands for a past, and the pasts for which it stands after a change.
-use Rattle.std.proofs.Common.{◌≡◌, ℕ, zero, suc, ◌+◌, ◌%◌, ◌^◌, ◌<◌, ◌≤◌, ◌≢◌, Bool, false, cond, eqb, List, [], ◌∷◌, ◌++◌, map, length, take, drop, get_or, set, sym, refl, ap, subst, ◌∙◌, arith, ⊎_elim}
-use Rattle.std.proofs.Math.Nat.{mod-add-mod}
-use Rattle.std.proofs.lemmas.Bool.{eq-eqb, ne_eqb, cases_eq}
-use Rattle.std.proofs.lemmas.List.{append-nil, get_or-set_same, get_or-set_other, length-set, length-map, get_or-map, same_lists}
-use Rattle.std.proofs.lemmas.List.Concat.{flat_map-append}
+use Rattle.std.proofs.Common.{◌≡◌, ℕ, zero, suc, ◌+◌, ◌%◌, ◌^◌, ◌<◌, ◌≤◌, ◌≢◌, Bool, false, cond, eqb, List, [], ◌∷◌, ◌++◌, map, length, take, drop, get_or, set, sym, refl, ap, subst, ◌∙◌, arith, ⊎_elim, eq-eqb, ne_eqb, append-nil, get_or-set_same, get_or-set_other, length-set, flat_map, sum_by, Bor}
+use Rattle.std.proofs.{Math.Nat.mod-add-mod, lemmas.Bool.cases_eq, lemmas.List.Concat.flat_map-append}
+use Rattle.std.proofs.lemmas.List.{length-map, get_or-map, same_lists}
 use Rattle.std.proofs.lemmas.List.Sums.{sum_by-cons, sum_by_push}
-use Rattle.std.specs.List.{flat_map, sum_by}
-use Rattle.std.specs.Borrow.{Bor}
 use Rattle.pi_base.specs.Lists.{Each, numbers}
 use Rattle.mp_core.specs.declared.event.MpEvent.TheVariants as event
-use Rattle.mp_core.specs.declared.machine.Machine.{Machine}
-use Rattle.mp_core.specs.declared.op.Op.{Op}
-use Rattle.mp_core.specs.declared.op.Op.TheVariants.{Add}
-use Rattle.mp_core.specs.declared.processor.Processor.{Processor}
-use Rattle.mp_core.specs.Calls.{IsOp}
-use Rattle.mp_core.specs.Fair.{AreOrderly, IsFair}
+use Rattle.mp_core.specs.{declared.machine.Machine.Machine, declared.op.Op.Op, declared.op.Op.TheVariants.Add}
+use Rattle.mp_core.specs.{declared.processor.Processor.Processor, Calls.IsOp, Fair.AreOrderly, Fair.IsFair}
 use Rattle.mp_core.specs.Machine.{IsMachine, IsProcessor}
 use Rattle.mp_core.specs.Past.{Past, after, started, with_enabled}
 use Rattle.mp_core.specs.Schedule.{Step, Starts, Turns, Part, done, undone, ops_of, puts, put, adds, added, cells_after}

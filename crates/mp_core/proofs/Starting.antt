@@ -1,21 +1,14 @@
 -- Starting the enabled APs one by one.
-use Rattle.std.proofs.Common.{◌≡◌, ℕ, zero, suc, ◌+◌, ◌<◌, ◌≤◌, Bool, true, false, cond, List, [], ◌∷◌, ◌++◌, map, length, get_or, set, sym, ap, subst, ◌∙◌, arith, append_assoc}
-use Rattle.std.proofs.lemmas.Bool.{ne_eqb}
-use Rattle.std.proofs.lemmas.List.{append-nil, map-append}
-use Rattle.std.specs.Borrow.{Bor}
-use Rattle.std.specs.List.{filter, list_any}
+use Rattle.std.proofs.Common.{◌≡◌, ℕ, zero, suc, ◌+◌, ◌<◌, ◌≤◌, Bool, true, false, cond, List, [], ◌∷◌, ◌++◌, map, length, get_or, set, sym, ap, subst, ◌∙◌, arith, append_assoc, ne_eqb, append-nil, Bor, filter}
+use Rattle.std.proofs.lemmas.List.{map-append}
+use Rattle.std.specs.List.{list_any}
 use Rattle.pi_base.specs.Lists.{Each, numbers}
-use Rattle.mp_core.specs.declared.machine.Machine.{Machine}
-use Rattle.mp_core.specs.declared.op.Op.{Op}
-use Rattle.mp_core.specs.declared.processor.Processor.{Processor}
-use Rattle.mp_core.specs.Calls.{IsOp}
-use Rattle.mp_core.specs.Fair.{AreOrderly}
-use Rattle.mp_core.specs.Machine.{IsMachine}
+use Rattle.mp_core.specs.{declared.machine.Machine.Machine, declared.op.Op.Op, declared.processor.Processor.Processor, Calls.IsOp}
+use Rattle.mp_core.specs.{Fair.AreOrderly, Machine.IsMachine}
 use Rattle.mp_core.specs.Past.{Past, enabled_aps, is_enabled_ap, started}
 use Rattle.mp_core.specs.Schedule.{Step, Starts, is_busy, undone, ops_of}
 use Rattle.mp_core.proofs.Orderly.{all_idle, orderly_all, undone_other}
-use Rattle.mp_core.proofs.Searching.{filter_push}
-use Rattle.mp_core.proofs.Standing.{start_stands}
+use Rattle.mp_core.proofs.{Searching.filter_push, Standing.start_stands}
 
 -- a processor's operations stay while lower processors start
 undone_above : (p from count : ℕ) (f : ℕ → Bool) (s : List Step) (job : List Op) → from + count ≤ p

@@ -1,12 +1,9 @@
 -- What a turn at the end does, and a start at the end.
-use Rattle.std.proofs.Common.{◌≡◌, ℕ, zero, suc, ◌+◌, ◌≤◌, Bool, true, false, ◌||◌, cond, eqb, List, [], ◌∷◌, ◌++◌, length, take, drop, sym, refl, ap, subst, ◌∙◌, arith, append_assoc}
-use Rattle.std.proofs.lemmas.Bool.{false≢true, true≢false, eqb-true, eqb-false, eq-eqb, ne_eqb}
-use Rattle.std.proofs.lemmas.List.{append-nil, drop_all}
+use Rattle.std.proofs.Common.{◌≡◌, ℕ, zero, suc, ◌+◌, ◌≤◌, Bool, true, false, ◌||◌, cond, eqb, List, [], ◌∷◌, ◌++◌, length, take, drop, sym, refl, ap, subst, ◌∙◌, arith, append_assoc, true≢false, eqb-true, eq-eqb, ne_eqb, append-nil, sum_by}
+use Rattle.std.proofs.{lemmas.Bool.false≢true, lemmas.Bool.eqb-false, lemmas.List.drop_all}
 use Rattle.std.proofs.lemmas.List.Sums.{sum_by-cons, sum_by-append}
-use Rattle.std.specs.List.{sum_by}
-use Rattle.mp_core.specs.declared.op.Op.{Op}
+use Rattle.mp_core.specs.{declared.op.Op.Op, Fair.starts, Fair.IsFair}
 use Rattle.mp_core.specs.Schedule.{Step, Starts, Turns, Part, turns, jobs, done, undone, added, adds, ops_of}
-use Rattle.mp_core.specs.Fair.{starts, IsFair}
 
 pub same : {A : Type 0} (b : Bool) (x : A) → cond b x x ≡ x
 same true x = refl

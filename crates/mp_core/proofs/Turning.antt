@@ -1,18 +1,11 @@
 -- The turns of a processor that is busy, and of one that is not.
-use Rattle.std.proofs.Common.{◌≡◌, ℕ, ◌+◌, ◌%◌, ◌^◌, ◌<◌, [], ◌∷◌, ◌++◌, map, length, take, drop, get_or, set, sym, refl, ap, subst, ◌∙◌, Some, None}
-use Rattle.std.proofs.lemmas.List.{append-nil, length-map}
-use Rattle.std.specs.List.{flat_map}
+use Rattle.std.proofs.Common.{◌≡◌, ℕ, ◌+◌, ◌%◌, ◌^◌, ◌<◌, [], ◌∷◌, ◌++◌, map, length, take, drop, get_or, set, sym, refl, ap, subst, ◌∙◌, Some, None, append-nil, flat_map}
+use Rattle.std.proofs.lemmas.List.{length-map}
 use Rattle.pi_base.specs.Lists.{Each, numbers}
 use Rattle.mp_core.specs.declared.event.MpEvent.TheVariants as event
-use Rattle.mp_core.specs.declared.machine.Machine.{Machine}
-use Rattle.mp_core.specs.declared.op.Op.{Op}
-use Rattle.mp_core.specs.declared.op.Op.TheVariants.{Add, Put}
-use Rattle.mp_core.specs.declared.processor.Processor.{Processor}
-use Rattle.mp_core.specs.Calls.{IsOp}
-use Rattle.mp_core.specs.Fair.{AreOrderly}
-use Rattle.mp_core.specs.Machine.{IsMachine, IsProcessor}
-use Rattle.mp_core.specs.Past.{Past, after}
-use Rattle.mp_core.specs.Processor.{Does}
+use Rattle.mp_core.specs.{declared.machine.Machine.Machine, declared.op.Op.Op}
+use Rattle.mp_core.specs.{declared.op.Op.TheVariants.Add, declared.op.Op.TheVariants.Put, declared.processor.Processor.Processor}
+use Rattle.mp_core.specs.{Calls.IsOp, Fair.AreOrderly, Machine.IsMachine, Machine.IsProcessor, Past.Past, Past.after, Processor.Does}
 use Rattle.mp_core.specs.Schedule.{done, undone, ops_of, puts, put, adds}
 use Rattle.mp_core.proofs.Standing.{turn_stands, cells_add, cells_same, sum_one, length-numbers}
 use Rattle.mp_core.proofs.Turned.{sum_of}

@@ -2,10 +2,8 @@
 -- Own.
 use Rattle.std.specs.Prelude.{ℕ, ◌<◌, ◌≤◌, List, length, ⊤}
 use Rattle.pi_base.specs.Lists.{Each}
-use Rattle.mp_core.specs.declared.event.MpEvent.{MpEvent}
+use Rattle.mp_core.specs.{declared.event.MpEvent.MpEvent, declared.limits.TheConstants.MOST_OPS, declared.op.Op.Op}
 use Rattle.mp_core.specs.declared.event.MpEvent.TheVariants.{All, This, Enable, Switch, Who, Turn}
-use Rattle.mp_core.specs.declared.limits.TheConstants.{MOST_OPS}
-use Rattle.mp_core.specs.declared.op.Op.{Op}
 use Rattle.mp_core.specs.declared.op.Op.TheVariants.{Add, Put}
 
 -- how many there may be, from one on

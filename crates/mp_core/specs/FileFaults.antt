@@ -1,10 +1,8 @@
 -- Why a text stands for no MP file, and what lines leave of the events that are read.
 use Rattle.std.specs.Prelude.{◌≡◌, ℕ, List, [], ◌∷◌, ◌++◌, map, Some, None, Result, Ok, Err}
-use Rattle.mp_core.specs.declared.event.MpEvent.{MpEvent}
-use Rattle.mp_core.specs.declared.fault.MpFault.{MpFault}
-use Rattle.mp_core.specs.declared.fault.MpFault.TheVariants.{Bad, Memory}
+use Rattle.mp_core.specs.{declared.event.MpEvent.MpEvent, declared.fault.MpFault.MpFault}
+use Rattle.mp_core.specs.{declared.fault.MpFault.TheVariants.Bad, declared.fault.MpFault.TheVariants.Memory, LineText.head_of}
 use Rattle.mp_core.specs.FileText.{numbered_from, spelled, first_without_event, first_bad_by, IsFirstBad}
-use Rattle.mp_core.specs.LineText.{head_of}
 
 -- the fault is that of the text's first bad line, memory aside
 abbrev pub IsMpFault : List ℕ → MpFault → Type 0

@@ -1,10 +1,8 @@
 -- What the text of an MP file stands for, and where it stands for nothing (own). Lines that are empty or begin with `#` are passed over.
-use Rattle.std.specs.Prelude.{◌≡◌, ℕ, ◌+◌, not, List, [], ◌∷◌, length, map, filter, Option, Some, None, is_none, option_map}
-use Rattle.std.specs.List.{find, enumerate_from}
+use Rattle.std.specs.Prelude.{◌≡◌, ℕ, ◌+◌, not, List, [], ◌∷◌, length, map, filter, Option, Some, None, is_none, option_map, find}
+use Rattle.std.specs.List.{enumerate_from}
 use Rattle.line_words.specs.Line.{lines, is_passed_over}
-use Rattle.mp_core.specs.declared.event.MpEvent.{MpEvent}
-use Rattle.mp_core.specs.declared.file.MpFile.{MpFile}
-use Rattle.mp_core.specs.LineText.{head_of, event_of}
+use Rattle.mp_core.specs.{declared.event.MpEvent.MpEvent, declared.file.MpFile.MpFile, LineText.head_of, LineText.event_of}
 
 -- lines that are not passed over, each with its number, the first line having this one
 abbrev pub numbered_from : ℕ → List (List ℕ) → List (ℕ × List ℕ)

@@ -1,16 +1,12 @@
 -- The lines of an MP file (own). The first is `mp N C`, with how many processors and cells there are. Each other is an event's:
 -- `all BY OP..`, `this BY P OP..`, `enable BY P`, `disable BY P`, `switch BY P on` or `off`, `who BY` or `turn P`, with one or more
 -- operations `add=CELL:N` or `put=N`. Lines and words are those of `line_words`.
-use Rattle.std.specs.Prelude.{ℕ, ◌==◌, nat_le, ◌&&◌, Bool, true, false, if◌then◌else◌, List, [], ◌∷◌, length, Option, Some, None, codes, option_and_then, option_map}
-use Rattle.std.specs.List.{find, before_first, after_first}
-use Rattle.std.specs.Str.{bytes_eq}
-use Rattle.line_words.specs.Words.{words, is_plain}
-use Rattle.line_words.specs.Number.{number_in}
-use Rattle.mp_core.specs.declared.event.MpEvent.{MpEvent}
+use Rattle.std.specs.Prelude.{ℕ, ◌==◌, nat_le, ◌&&◌, Bool, true, false, if◌then◌else◌, List, [], ◌∷◌, length, Option, Some, None, codes, option_and_then, option_map, find, bytes_eq}
+use Rattle.std.specs.List.{before_first, after_first}
+use Rattle.line_words.specs.{Words.words, Words.is_plain, Number.number_in}
+use Rattle.mp_core.specs.{declared.event.MpEvent.MpEvent, declared.op.Op.Op, declared.op.Op.TheVariants.Add, declared.op.Op.TheVariants.Put}
 use Rattle.mp_core.specs.declared.event.MpEvent.TheVariants as E
 use Rattle.mp_core.specs.declared.limits.TheConstants.{MOST_PROCESSORS, MOST_CELLS, MOST_OPS}
-use Rattle.mp_core.specs.declared.op.Op.{Op}
-use Rattle.mp_core.specs.declared.op.Op.TheVariants.{Add, Put}
 use Rattle.mp_core.specs.declared.keyword.Keyword.{Keyword}
 use Rattle.mp_core.specs.declared.keyword.Keyword.TheVariants.{All, This, Enable, Disable, Switch, Who, Turn}
 use Rattle.mp_core.specs.Words.{number_below, processor_of, count_of}

@@ -3,12 +3,8 @@
 use Rattle.std.specs.Prelude.{◌≡◌, ℕ, ◌<◌, List, length, map, not, slice_index_or, false}
 use Rattle.std.specs.List.{list_any}
 use Rattle.pi_base.specs.Lists.{Each}
-use Rattle.mp_core.specs.declared.op.Op.{Op}
-use Rattle.mp_core.specs.declared.machine.Machine.{Machine}
-use Rattle.mp_core.specs.declared.reply.MpOutcome.{MpOutcome}
-use Rattle.mp_core.specs.declared.processor.Processor.{Processor}
-use Rattle.mp_core.specs.Calls.{IsOp}
-use Rattle.mp_core.specs.Fair.{AreOrderly}
+use Rattle.mp_core.specs.{declared.op.Op.Op, declared.machine.Machine.Machine, declared.reply.MpOutcome.MpOutcome}
+use Rattle.mp_core.specs.{declared.processor.Processor.Processor, Calls.IsOp, Fair.AreOrderly}
 use Rattle.mp_core.specs.Past.{Past, is_empty, enabled_aps, started}
 use Rattle.mp_core.specs.Schedule.{is_busy, undone, done, ops_of, puts, cells_after}
 

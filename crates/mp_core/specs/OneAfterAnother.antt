@@ -3,11 +3,8 @@
 use Rattle.std.specs.Prelude.{◌≡◌, ℕ, ◌+◌, ◌^◌, ◌%◌, ◌<◌, ◌==◌, false, if◌then◌else◌, List, [], ◌∷◌, ◌++◌, map, fold, slice_index, slice_index_or}
 use Rattle.std.specs.List.{list_any}
 use Rattle.pi_base.specs.Lists.{numbers}
-use Rattle.mp_core.specs.declared.event.MpEvent.{MpEvent}
-use Rattle.mp_core.specs.declared.op.Op.{Op}
-use Rattle.mp_core.specs.declared.op.Op.TheVariants.{Add, Put}
-use Rattle.mp_core.specs.declared.reply.MpOutcome.{MpOutcome}
-use Rattle.mp_core.specs.Past.{schedule}
+use Rattle.mp_core.specs.{declared.event.MpEvent.MpEvent, declared.op.Op.Op, declared.op.Op.TheVariants.Add, declared.op.Op.TheVariants.Put}
+use Rattle.mp_core.specs.{declared.reply.MpOutcome.MpOutcome, Past.schedule}
 use Rattle.mp_core.specs.Schedule.{Step, Part, jobs, done, undone, adds, puts, cells_after, records_after, busy_after}
 
 -- what each cell and each processor's record has

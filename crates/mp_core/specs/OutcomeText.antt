@@ -1,19 +1,15 @@
 -- What is printed of an MP file and its outcome (own): a line is a keyword and words with a space between. What a cell has is
 -- hexadecimal, and each other number is decimal.
-use Rattle.std.specs.Prelude.{ℕ, Bool, true, false, not, List, [], ◌∷◌, ◌++◌, map, filter, codes, decimal}
-use Rattle.std.specs.List.{flat_map, enumerate_from, zip}
+use Rattle.std.specs.Prelude.{ℕ, Bool, true, false, not, List, [], ◌∷◌, ◌++◌, map, filter, codes, decimal, flat_map, zip}
+use Rattle.std.specs.List.{enumerate_from}
 use Rattle.pi_base.specs.WordText.{hexadecimal}
 use Rattle.boot_io.specs.Line.{line_of}
-use Rattle.mp_core.specs.declared.event.MpEvent.{MpEvent}
+use Rattle.mp_core.specs.{declared.event.MpEvent.MpEvent, declared.reply.MpOutcome.MpOutcome, declared.reply.MpReply.MpReply}
 use Rattle.mp_core.specs.declared.event.MpEvent.TheVariants as E
-use Rattle.mp_core.specs.declared.reply.MpOutcome.{MpOutcome}
-use Rattle.mp_core.specs.declared.reply.MpReply.{MpReply}
-use Rattle.mp_core.specs.declared.reply.MpReply.TheVariants.{Word, Number}
-use Rattle.mp_core.specs.declared.reply.MpWord.{MpWord}
+use Rattle.mp_core.specs.{declared.reply.MpReply.TheVariants.Word, declared.reply.MpReply.TheVariants.Number, declared.reply.MpWord.MpWord}
 use Rattle.mp_core.specs.declared.reply.MpWord.TheVariants.{Success, DeviceError, NotStarted, NotReady, NotFound, InvalidParameter, Unsupported}
-use Rattle.mp_core.specs.declared.keyword.Keyword.{Keyword}
+use Rattle.mp_core.specs.{declared.keyword.Keyword.Keyword, LineText.keyword_text}
 use Rattle.mp_core.specs.declared.keyword.Keyword.TheVariants.{All, This, Enable, Disable, Switch, Who, Turn}
-use Rattle.mp_core.specs.LineText.{keyword_text}
 
 -- the keyword of an event's line
 abbrev pub keyword_of : MpEvent → Keyword

@@ -3,12 +3,9 @@
 use Rattle.std.specs.Prelude.{ℕ, ◌==◌, nat_lt, Bool, true, false, not, ◌&&◌, if◌then◌else◌, List, [], ◌∷◌, ◌++◌, map, filter, fold, Option, Some, None, option_to_list}
 use Rattle.std.specs.List.{list_any}
 use Rattle.pi_base.specs.Lists.{numbers}
-use Rattle.mp_core.specs.declared.event.MpEvent.{MpEvent}
+use Rattle.mp_core.specs.{declared.event.MpEvent.MpEvent, declared.op.Op.Op, declared.reply.MpReply.MpReply}
 use Rattle.mp_core.specs.declared.event.MpEvent.TheVariants.{All, This, Enable, Switch, Who, Turn}
-use Rattle.mp_core.specs.declared.op.Op.{Op}
-use Rattle.mp_core.specs.declared.reply.MpReply.{MpReply}
-use Rattle.mp_core.specs.declared.reply.MpReply.TheVariants.{Word, Number}
-use Rattle.mp_core.specs.declared.reply.MpWord.{MpWord}
+use Rattle.mp_core.specs.{declared.reply.MpReply.TheVariants.Word, declared.reply.MpReply.TheVariants.Number, declared.reply.MpWord.MpWord}
 use Rattle.mp_core.specs.declared.reply.MpWord.TheVariants.{Success, DeviceError, NotStarted, NotReady, NotFound, InvalidParameter, Unsupported}
 use Rattle.mp_core.specs.Schedule.{Step, Starts, Turns, is_busy}
 

@@ -1,8 +1,7 @@
 -- What a processor of the code stands for.
 -- Own.
 use Rattle.std.specs.Prelude.{◌≡◌, List, [], ◌∷◌, true, Option, Some, None, ℕ, slice_set, slice_index_or}
-use Rattle.mp_core.specs.declared.op.Op.{Op}
-use Rattle.mp_core.specs.declared.processor.Processor.{Processor}
+use Rattle.mp_core.specs.{declared.op.Op.Op, declared.processor.Processor.Processor}
 
 abbrev pub IsNew : Processor → Type 0
 IsNew p = (p.enabled ≡ true) × (p.rest.now ≡ []) × (p.record ≡ [])

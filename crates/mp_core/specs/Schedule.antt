@@ -4,8 +4,7 @@
 use Rattle.std.specs.Prelude.{ℕ, suc, ◌^◌, ◌%◌, ◌==◌, nat_lt, Bool, false, if◌then◌else◌, List, [], ◌∷◌, length, take, drop, map, flat_map, sum_by, Option, Some, None}
 use Rattle.std.specs.Option.{option_or}
 use Rattle.pi_base.specs.Lists.{numbers}
-use Rattle.mp_core.specs.declared.op.Op.{Op}
-use Rattle.mp_core.specs.declared.op.Op.TheVariants.{Add, Put}
+use Rattle.mp_core.specs.{declared.op.Op.Op, declared.op.Op.TheVariants.Add, declared.op.Op.TheVariants.Put}
 
 -- a processor starts a job, or has a turn
 pub data Step : Type 0 where

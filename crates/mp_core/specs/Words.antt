@@ -1,8 +1,7 @@
 -- The words of a line and the numbers in them (own). A number is of decimal digits alone, and zeros may stand before it.
 use Rattle.std.specs.Prelude.{◌≡◌, ◌≢◌, ℕ, nat_lt, nat_le, ◌&&◌, ◌^◌, if◌then◌else◌, List, [], ◌∷◌, slice_index, Option, Some, None}
 use Rattle.std.specs.Borrow.{Bor}
-use Rattle.line_words.specs.Words.{words}
-use Rattle.line_words.specs.Number.{number_in}
+use Rattle.line_words.specs.{Words.words, Number.number_in}
 
 -- a number that is below a limit
 abbrev pub below : ℕ → Option ℕ → Option ℕ

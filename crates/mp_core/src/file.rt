@@ -2,9 +2,8 @@
 ghost use Rattle.std.specs.Prelude.{◌+◌, ◌-◌, ◌<◌, ◌^◌, ◌∷◌, length, IfOk, IfErr};
 ghost use Rattle.line_words.specs.Line.{lines};
 ghost use Rattle.mp_core.specs.declared.limits.TheConstants.{MOST_CELLS, MOST_PROCESSORS};
-ghost use Rattle.mp_core.specs.Calls.{AreEvents, IsCount};
+ghost use Rattle.mp_core.specs.{Calls.AreEvents, Calls.IsCount, FileFaults.IsMpFault, FileFaults.IsFaultBehind};
 ghost use Rattle.mp_core.specs.FileText.{IsMpFile, AreLinesOf, numbered_from};
-ghost use Rattle.mp_core.specs.FileFaults.{IsMpFault, IsFaultBehind};
 
 use crate::event::MpEvent;
 use crate::fault::MpFault;

@@ -1,8 +1,7 @@
 // The first line of a file.
 ghost use Rattle.std.specs.Prelude.{◌≡◌, ◌≢◌, ◌∷◌, slice_index, IfSome};
 ghost use Rattle.line_words.specs.Words.{words};
-ghost use Rattle.mp_core.specs.declared.limits.TheConstants.{MOST_CELLS, MOST_PROCESSORS};
-ghost use Rattle.mp_core.specs.Calls.{IsCount};
+ghost use Rattle.mp_core.specs.{declared.limits.TheConstants.MOST_CELLS, declared.limits.TheConstants.MOST_PROCESSORS, Calls.IsCount};
 ghost use Rattle.mp_core.specs.LineText.{head_of, head_of_words};
 
 use crate::limits::{MOST_CELLS, MOST_PROCESSORS};

@@ -1,7 +1,6 @@
 // The first words of events' lines.
 ghost use Rattle.std.specs.Prelude.{◌≡◌};
-ghost use Rattle.mp_core.specs.LineText.{keyword_text, keyword_named};
-ghost use Rattle.mp_core.specs.OutcomeText.{keyword_of};
+ghost use Rattle.mp_core.specs.{LineText.keyword_text, LineText.keyword_named, OutcomeText.keyword_of};
 
 use crate::event::MpEvent;
 

@@ -1,11 +1,7 @@
 // What holds of every list of events, and of every text.
 ghost use Rattle.std.specs.Prelude.{◌≡◌, ◌⊎◌, ℕ, List, length};
-ghost use Rattle.mp_core.specs.declared.event.MpEvent.{MpEvent};
-ghost use Rattle.mp_core.specs.declared.file.MpFile.{MpFile};
-ghost use Rattle.mp_core.specs.FileText.{IsMpFile, IsFirstBad};
-ghost use Rattle.mp_core.specs.OneAfterAnother.{CompletesInOrder, IdlesInOrder};
-ghost use Rattle.mp_core.specs.OutcomeText.{calls};
-ghost use Rattle.mp_core.specs.Past.{replies};
+ghost use Rattle.mp_core.specs.{declared.event.MpEvent.MpEvent, declared.file.MpFile.MpFile, FileText.IsMpFile, FileText.IsFirstBad};
+ghost use Rattle.mp_core.specs.{OneAfterAnother.CompletesInOrder, OneAfterAnother.IdlesInOrder, OutcomeText.calls, Past.replies};
 
 /// At any moment what is done and what is to come are the jobs one after another, and where no processor is busy, what is done is.
 pub fn jobs_in_order()

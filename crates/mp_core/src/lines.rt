@@ -1,9 +1,7 @@
 // The lines of events.
 ghost use Rattle.std.specs.Prelude.{◌≡◌, ◌+◌, ◌<◌, ◌^◌, [], length, map, Some, IfOk, IfErr, OnOk};
 ghost use Rattle.line_words.specs.Line.{lines};
-ghost use Rattle.mp_core.specs.Calls.{AreEvents};
-ghost use Rattle.mp_core.specs.FileText.{numbered_from, spelled};
-ghost use Rattle.mp_core.specs.FileFaults.{IsEventFault, TakesLine};
+ghost use Rattle.mp_core.specs.{Calls.AreEvents, FileText.numbered_from, FileText.spelled, FileFaults.IsEventFault, FileFaults.TakesLine};
 
 use crate::event::MpEvent;
 use crate::event_line::read_event;

@@ -1,8 +1,6 @@
 // Printing outcomes and refusals.
-ghost use Rattle.std.specs.Prelude.{◌≡◌, ◌∷◌, [], map, decimal};
-ghost use Rattle.std.specs.List.{flat_map};
-ghost use Rattle.boot_io.specs.Line.{line_of, spaced};
-ghost use Rattle.boot_io.specs.Sink.{Puts, SinkFaultsAfter};
+ghost use Rattle.std.specs.Prelude.{◌≡◌, ◌∷◌, [], map, decimal, flat_map};
+ghost use Rattle.boot_io.specs.{Line.line_of, Line.spaced, Sink.Puts, Sink.SinkFaultsAfter};
 ghost use Rattle.mp_core.specs.OutcomeText.{is_turn, reply_line, replies_text, cell_line, cells_text, record_line, records_text, outcome_text, bad_line};
 
 use crate::event::MpEvent;

@@ -1,9 +1,8 @@
 // A list of events.
 ghost use Rattle.std.specs.Prelude.{◌≡◌, IfOk};
 ghost use Rattle.mp_core.specs.declared.limits.TheConstants.{MOST_CELLS, MOST_PROCESSORS};
-ghost use Rattle.mp_core.specs.Calls.{AreEvents, IsCount};
+ghost use Rattle.mp_core.specs.{Calls.AreEvents, Calls.IsCount, Past.replies, Past.schedule};
 ghost use Rattle.mp_core.specs.OneAfterAnother.{Completes, IsIdle, IsInOrder};
-ghost use Rattle.mp_core.specs.Past.{replies, schedule};
 ghost use Rattle.mp_core.specs.Schedule.{busy_after, cells_after, records_after};
 
 use crate::event::MpEvent;

@@ -1,41 +1,23 @@
 -- The next action of the top frame, where fuel is left.
-use Rattle.std.proofs.Common.{◌≡◌, ℕ, zero, suc, ◌+◌, Bool, true, false, cond, List, [], ◌∷◌, ◌++◌, refl, sym, ap, ◌∙◌, Option, Some, None, nat_le, arith}
-use Rattle.std.specs.Option.{option_and_then}
-use Rattle.std.specs.Prelude.{map, option_map, slice_get, unwrap_or}
+use Rattle.std.proofs.Common.{◌≡◌, ℕ, zero, suc, ◌+◌, Bool, true, false, cond, List, [], ◌∷◌, ◌++◌, refl, sym, ap, ◌∙◌, Option, Some, None, nat_le, arith, option_and_then, map, option_map, slice_get, unwrap_or, append-nil}
 use Rattle.std.proofs.lemmas.Bool.Decides.{nat_tests}
-use Rattle.std.proofs.lemmas.List.{append-nil}
-use Rattle.pi_base.specs.declared.phase.Phase.TheVariants.{Pei}
-use Rattle.pi_base.specs.declared.word.Word.TheVariants.{Success}
-use Rattle.act_code.specs.declared.action.Action.{Action}
-use Rattle.act_code.specs.declared.action.Action.TheVariants.{Ret}
+use Rattle.pi_base.specs.{declared.phase.Phase.TheVariants.Pei, declared.word.Word.TheVariants.Success}
+use Rattle.act_code.specs.{declared.action.Action.Action, declared.action.Action.TheVariants.Ret}
 use Rattle.mod_catalog.specs.declared.catalogue.Catalog.{Catalog}
-use Rattle.store_model.specs.declared.store_handle.Sweep.{Sweep}
-use Rattle.store_model.specs.StoreState.{StoreState}
-use Rattle.store_model.specs.Service.Descriptor.{guid_at}
+use Rattle.store_model.specs.{declared.store_handle.Sweep.Sweep, StoreState.StoreState, Service.Descriptor.guid_at}
 use Rattle.boot_model.specs.EventGuids.{case_placed, case_taken, placed, placed_guids, taken_guid, taken_place}
-use Rattle.boot_model.specs.EvaluationBound.{is_called}
-use Rattle.boot_model.specs.MachineFacts.{IsSound}
+use Rattle.boot_model.specs.{EvaluationBound.is_called, MachineFacts.IsSound, PeiMachine.Frame, PeiMachine.PeiMachine}
 use Rattle.boot_model.specs.PeiAction.{Effect, PeiOwn, Reply, effect, own_effect}
-use Rattle.boot_model.specs.PeiMachine.{Frame, PeiMachine}
 use Rattle.boot_model.specs.PeiStep.{Acts, acted, after_effect}
 use Rattle.boot_model.specs.PeiStep as Machine
 use Rattle.boot_model.specs.declared.line.Line.{Line}
 use Rattle.boot_model.specs.declared.phase_end.PeiEnd.TheVariants as E
-use Rattle.phase_parts.specs.Acted.{HasLeft}
-use Rattle.phase_parts.specs.Alike.{AreAlike, as_effect}
+use Rattle.phase_parts.specs.{Acted.HasLeft, Alike.AreAlike, Alike.as_effect, Found.action_at, Found.found_block}
 use Rattle.phase_parts.specs.Deed.{Deed, Wrote, Logged, Skipped, Returned, frames_after, lines_of}
-use Rattle.phase_parts.specs.Found.{action_at, found_block}
-use Rattle.phase_parts.specs.Spent.{HasSpent, IsSpent}
-use Rattle.phase_parts.specs.Took.{HasDone}
-use Rattle.phase_parts.specs.declared.fuel.Fuel.{Fuel}
-use Rattle.pei_core.specs.declared.core_state.Core.{Core}
-use Rattle.pei_core.specs.Parts.{TakesOwn, action_goal}
-use Rattle.pei_core.specs.SecondStarts.{IsAgain}
-use Rattle.pei_core.specs.declared.event.Again.TheVariants.{Nobody}
-use Rattle.pei_core.specs.Standing.{IsCoreFor, IsCoreOf}
-use Rattle.pei_core.specs.Started.{RunsStarted}
-use Rattle.pei_core.proofs.PeimStates.{same_states}
-use Rattle.pei_core.proofs.SecondStarts.{nobody}
+use Rattle.phase_parts.specs.{Spent.HasSpent, Spent.IsSpent, Took.HasDone, declared.fuel.Fuel.Fuel}
+use Rattle.pei_core.specs.{declared.core_state.Core.Core, Parts.TakesOwn, Parts.action_goal, SecondStarts.IsAgain}
+use Rattle.pei_core.specs.{declared.event.Again.TheVariants.Nobody, Standing.IsCoreFor, Standing.IsCoreOf, Started.RunsStarted}
+use Rattle.pei_core.proofs.{PeimStates.same_states, SecondStarts.nobody}
 
 -- the machine in which an action more was counted
 abbrev pub counted : PeiMachine → PeiMachine

@@ -1,27 +1,18 @@
 -- The core behind the start of a module.
-use Rattle.std.proofs.Common.{◌≡◌, ℕ, ◌<◌, ◌+◌, ◌-◌, ◌^◌, Bool, true, false, cond, List, [], ◌∷◌, ◌++◌, length, Option, Some, None, refl, sym, ap, ◌∙◌, subst, arith}
-use Rattle.std.specs.Prelude.{is_some, min, option_map, unwrap_or, IsTrue}
-use Rattle.std.proofs.lemmas.List.{length-set}
+use Rattle.std.proofs.Common.{◌≡◌, ℕ, ◌<◌, ◌+◌, ◌-◌, ◌^◌, Bool, true, false, cond, List, [], ◌∷◌, ◌++◌, length, Option, Some, None, refl, sym, ap, ◌∙◌, subst, arith, is_some, min, option_map, unwrap_or, IsTrue, length-set}
 use Rattle.pi_base.specs.declared.phase.Phase.TheVariants.{Pei}
 use Rattle.act_code.specs.declared.action.Action.{Action}
-use Rattle.mod_catalog.specs.declared.catalogue.Catalog.{Catalog}
-use Rattle.mod_catalog.specs.declared.catalogue.Part.{Part}
-use Rattle.mod_catalog.specs.Parts.{has_number, part_at}
+use Rattle.mod_catalog.specs.{declared.catalogue.Catalog.Catalog, declared.catalogue.Part.Part, Parts.has_number, Parts.part_at}
 use Rattle.mod_catalog.specs.WellFormed.{part_of}
 use Rattle.boot_model.proofs.ListFacts.{within}
-use Rattle.boot_model.specs.declared.licence.Licence.{Licence}
-use Rattle.boot_model.specs.declared.line.Line.{Line}
-use Rattle.boot_model.specs.declared.peim_state.PeimState.{PeimState}
+use Rattle.boot_model.specs.{declared.licence.Licence.Licence, declared.line.Line.Line, declared.peim_state.PeimState.PeimState}
 use Rattle.boot_model.specs.declared.peim_state.PeimState.TheVariants.{NotDispatched, Dispatched, RegisteredForShadow, Done}
-use Rattle.boot_model.specs.Eligible.{licence_at}
-use Rattle.boot_model.specs.PeiMachine.{PeiMachine}
+use Rattle.boot_model.specs.{Eligible.licence_at, PeiMachine.PeiMachine}
 use Rattle.boot_model.specs.PeimState.{IsPeimState, awaits_start, state_at}
 use Rattle.boot_model.specs.PeiStep.{start_line, start_lines, started, started_by, started_part}
 use Rattle.phase_parts.specs.Found.{has_block}
-use Rattle.pei_core.specs.declared.core_state.Core.{Core}
-use Rattle.pei_core.specs.Cores.{state_behind, with_started}
+use Rattle.pei_core.specs.{declared.core_state.Core.Core, Cores.state_behind, Cores.with_started, Standing.IsCoreFor, Standing.IsCoreOf}
 use Rattle.boot_trace.specs.StartLines.{started_lines}
-use Rattle.pei_core.specs.Standing.{IsCoreFor, IsCoreOf}
 use Rattle.pei_core.proofs.PeimStates.{first_states, second_states}
 
 -- one start more

@@ -1,19 +1,11 @@
 -- The core after a call was answered.
 use Rattle.std.proofs.Common.{◌≡◌, ℕ, List, [], ◌∷◌, ◌++◌, length, drop, ◌+◌, ◌-◌, arith, refl, sym, ap, ◌∙◌}
 use Rattle.mod_catalog.specs.declared.catalogue.Catalog.{Catalog}
-use Rattle.store_model.specs.StoreState.{StoreState}
-use Rattle.store_model.specs.Service.Descriptor.{offsets}
-use Rattle.boot_model.specs.declared.line.Line.{Line}
+use Rattle.store_model.specs.{StoreState.StoreState, Service.Descriptor.offsets}
+use Rattle.boot_model.specs.{declared.line.Line.Line, PeiMachine.Frame, PeiMachine.PeiMachine, PeiStep.report_lines, Reporting.reports}
 use Rattle.boot_model.specs.declared.line.Line.TheVariants as L
-use Rattle.boot_model.specs.PeiMachine.{Frame, PeiMachine}
-use Rattle.boot_model.specs.PeiStep.{report_lines}
-use Rattle.boot_model.specs.Reporting.{reports}
-use Rattle.phase_parts.specs.Frames.{answered}
-use Rattle.phase_parts.specs.Writes.{written}
-use Rattle.pei_core.specs.declared.taken.Reply.{Reply}
-use Rattle.pei_core.specs.declared.core_state.Core.{Core}
-use Rattle.pei_core.specs.CoreCall.{last_volumes}
-use Rattle.pei_core.specs.Parts.{reply_goal}
+use Rattle.phase_parts.specs.{Frames.answered, Writes.written}
+use Rattle.pei_core.specs.{declared.taken.Reply.Reply, declared.core_state.Core.Core, CoreCall.last_volumes, Parts.reply_goal}
 use Rattle.pei_core.specs.Standing.{IsCoreOf}
 use Rattle.pei_core.proofs.PeimStates.{same_states}
 

@@ -1,23 +1,16 @@
 -- Which case of a step applies, and what the step's answer then says.
-use Rattle.std.proofs.Common.{◌≡◌, ℕ, Bool, true, false, cond, ◌&&◌, List, [], ◌∷◌, length, Option, Some, None, refl, sym, ap, ◌∙◌, subst, is_some, not, Ok}
-use Rattle.std.specs.Option.{option_map}
+use Rattle.std.proofs.Common.{◌≡◌, ℕ, Bool, true, false, cond, ◌&&◌, List, [], ◌∷◌, length, Option, Some, None, refl, sym, ap, ◌∙◌, subst, is_some, not, Ok, option_map}
 use Rattle.mod_catalog.specs.declared.catalogue.Catalog.{Catalog}
-use Rattle.store_model.specs.declared.store_handle.Firing.{Firing}
-use Rattle.store_model.specs.declared.store_handle.Sweep.{Sweep}
-use Rattle.store_model.specs.StoreState.{StoreState, Range}
-use Rattle.store_model.specs.Migration.{migration, migrated_to}
-use Rattle.store_model.specs.Service.Queue.{queue_pop}
+use Rattle.store_model.specs.{declared.store_handle.Firing.Firing, declared.store_handle.Sweep.Sweep}
+use Rattle.store_model.specs.{StoreState.StoreState, StoreState.Range, Migration.migration, Migration.migrated_to, Service.Queue.queue_pop}
 use Rattle.store_model.specs.Service.Reading.{memory_due}
-use Rattle.boot_model.specs.declared.phase_end.PeiEnd.{PeiEnd}
-use Rattle.boot_model.specs.EventGuids.{case_placed, case_taken}
+use Rattle.boot_model.specs.{declared.phase_end.PeiEnd.PeiEnd, EventGuids.case_placed, EventGuids.case_taken}
 use Rattle.boot_model.specs.PeiMachine.{Frame, PeiMachine}
 use Rattle.boot_model.specs.PeiStep.{PeiCase, Fires, Acts, Moves, Pops, case_of, first_that_applies, acts, starts, in_case, pei_step}
-use Rattle.pei_core.specs.declared.event.Event.{Event}
-use Rattle.pei_core.specs.declared.event.Stepped.TheVariants.{Went, Ended}
+use Rattle.pei_core.specs.{declared.event.Event.Event, declared.event.Stepped.TheVariants.Went, declared.event.Stepped.TheVariants.Ended}
 use Rattle.pei_core.specs.Parts.{FiresNext, Goal, LedTo}
-use Rattle.pei_core.specs.SecondStarts.{IsAgain}
+use Rattle.pei_core.specs.{SecondStarts.IsAgain, CoreCall.PrintedPart}
 use Rattle.pei_core.specs.Steps.{HasStayed, HasStepped, IsCut, IsIdle, StepsTo}
-use Rattle.pei_core.specs.CoreCall.{PrintedPart}
 use Rattle.boot_trace.specs.Printing.{Texts}
 
 -- the first that applies, by what the store and the frames give

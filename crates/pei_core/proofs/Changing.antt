@@ -1,27 +1,16 @@
 -- The GUIDs that an action changed, by its reply: none where it was refused or is no call that changes any, and those of its descriptors where it succeeded.
-use Rattle.std.proofs.Common.{◌≡◌, ℕ, Bool, true, false, cond, List, [], ◌∷◌, map, refl, ap, sym, subst, ◌∙◌, Option, Some, None, Result, Ok, Err}
-use Rattle.std.specs.Option.{option_map, option_to_list}
-use Rattle.std.specs.Prelude.{unwrap_or}
-use Rattle.pi_base.specs.declared.guid.Guid.{Guid}
-use Rattle.pi_base.specs.declared.memory.OutOfMemory.{OutOfMemory}
-use Rattle.pi_base.specs.declared.word.Word.{Word}
+use Rattle.std.proofs.Common.{◌≡◌, ℕ, Bool, true, false, cond, List, [], ◌∷◌, map, refl, ap, sym, subst, ◌∙◌, Option, Some, None, Result, Ok, Err, option_map, option_to_list, unwrap_or}
+use Rattle.pi_base.specs.{declared.guid.Guid.Guid, declared.memory.OutOfMemory.OutOfMemory, declared.word.Word.Word}
 use Rattle.act_code.specs.declared.action.Action.{Action}
 use Rattle.act_code.specs.declared.action.Action.TheVariants as A
-use Rattle.store_model.specs.declared.store_handle.Desc.{Desc}
-use Rattle.store_model.specs.declared.store_handle.Sweep.{Sweep}
-use Rattle.store_model.specs.declared.store_handle.StoreFault.{StoreFault}
+use Rattle.store_model.specs.{declared.store_handle.Desc.Desc, declared.store_handle.Sweep.Sweep}
+use Rattle.store_model.specs.{declared.store_handle.StoreFault.StoreFault, StoreState.StoreState}
 use Rattle.store_model.specs.declared.store_handle.StoreFault.TheVariants as F
-use Rattle.store_model.specs.StoreState.{StoreState}
 use Rattle.store_model.specs.Service.Descriptor.{guid_at, offsets}
-use Rattle.boot_model.specs.declared.line.CallName.{CallName}
-use Rattle.boot_model.specs.EvaluationBound.{is_called}
-use Rattle.boot_model.specs.EventGuids.{placed, taken_place}
-use Rattle.boot_model.specs.PeiAction.{effect}
-use Rattle.boot_model.specs.PeiMachine.{Frame}
+use Rattle.boot_model.specs.{declared.line.CallName.CallName, EvaluationBound.is_called, EventGuids.placed, EventGuids.taken_place}
+use Rattle.boot_model.specs.{PeiAction.effect, PeiMachine.Frame}
 use Rattle.boot_model.specs.Registers.{both, descriptor_in, descriptors_in, is_success}
-use Rattle.pei_core.specs.Guids.{AreChangesOf, no_changes}
-use Rattle.pei_core.specs.declared.guids.Changes.{Changes}
-use Rattle.pei_core.specs.declared.taken.Taken.{Taken}
+use Rattle.pei_core.specs.{Guids.AreChangesOf, Guids.no_changes, declared.guids.Changes.Changes, declared.taken.Taken.Taken}
 use Rattle.pei_core.specs.Taken.{ChangedNone, Does, HasChanged, IsTaken, changes_by, refusal, refused, swept}
 
 -- by whether the call succeeded

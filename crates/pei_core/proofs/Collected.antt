@@ -1,6 +1,5 @@
 -- A descriptor more is found, none is there, or all are found.
-use Rattle.std.proofs.Common.{◌≡◌, List, [], ◌∷◌, ◌++◌, refl, ap, sym, append_assoc, Option, Some, None}
-use Rattle.std.specs.Option.{option_map}
+use Rattle.std.proofs.Common.{◌≡◌, List, [], ◌∷◌, ◌++◌, refl, ap, sym, append_assoc, Option, Some, None, option_map}
 use Rattle.store_model.specs.declared.store_handle.Desc.{Desc}
 use Rattle.boot_model.specs.Registers.{both}
 

@@ -1,15 +1,10 @@
 -- The core after a callback or a dispatch notification has begun.
 use Rattle.std.proofs.Common.{◌≡◌, Bool, true, false, cond, ◌∷◌, Some, refl, ap, ◌∙◌, nat_le, not, length}
 use Rattle.mod_catalog.specs.declared.catalogue.Catalog.{Catalog}
-use Rattle.store_model.specs.declared.store_handle.Firing.{Firing}
-use Rattle.store_model.specs.declared.store_handle.Sweep.{Sweep}
-use Rattle.store_model.specs.StoreState.{StoreState}
-use Rattle.boot_model.specs.declared.phase_end.PeiEnd.TheVariants.{Deep}
-use Rattle.boot_model.specs.PeiMachine.{PeiMachine}
+use Rattle.store_model.specs.{declared.store_handle.Firing.Firing, declared.store_handle.Sweep.Sweep, StoreState.StoreState}
+use Rattle.boot_model.specs.{declared.phase_end.PeiEnd.TheVariants.Deep, PeiMachine.PeiMachine}
 use Rattle.boot_model.specs.PeiStep.{fired, callback_begun, core_swept, notification_frame, popped_to, swept}
-use Rattle.pei_core.specs.declared.core_state.Core.{Core}
-use Rattle.pei_core.specs.Cores.{with_callback, with_notification}
-use Rattle.pei_core.specs.Standing.{IsCoreOf}
+use Rattle.pei_core.specs.{declared.core_state.Core.Core, Cores.with_callback, Cores.with_notification, Standing.IsCoreOf}
 use Rattle.pei_core.proofs.PeimStates.{same_states}
 
 -- whether as many frames stand as may

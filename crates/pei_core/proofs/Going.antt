@@ -1,27 +1,17 @@
 -- What a part of a step leaves, from what its pieces put.
-use Rattle.std.proofs.Common.{◌≡◌, ℕ, Bool, true, List, [], ◌∷◌, ◌++◌, ◌+◌, length, arith, refl, sym, ap, ◌∙◌, subst, append_assoc, Option, None, Result, Ok, Err}
-use Rattle.std.specs.Result.{IsErrAnd}
+use Rattle.std.proofs.Common.{◌≡◌, ℕ, Bool, true, List, [], ◌∷◌, ◌++◌, ◌+◌, length, arith, refl, sym, ap, ◌∙◌, subst, append_assoc, Option, None, Result, Ok, Err, IsErrAnd, append-nil}
 use Rattle.std.specs.Io.KnownBytes.{Appends}
-use Rattle.std.proofs.lemmas.List.{append-nil}
-use Rattle.boot_io.specs.declared.halt.Halt.{Halt}
+use Rattle.boot_io.specs.{declared.halt.Halt.Halt, declared.sink.SinkFault.SinkFault, Sink.AppendsPart}
 use Rattle.boot_io.specs.declared.halt.Halt.TheVariants as H
-use Rattle.boot_io.specs.declared.sink.SinkFault.{SinkFault}
-use Rattle.boot_io.specs.Sink.{AppendsPart}
 use Rattle.boot_io.specs.Sink as Sinks
 use Rattle.boot_io.proofs.PutsLaws.{appends_then, appends_none, part_of_more, part_then}
 use Rattle.mod_catalog.specs.declared.catalogue.Catalog.{Catalog}
-use Rattle.boot_model.specs.declared.line.Line.{Line}
-use Rattle.boot_model.specs.PeiMachine.{PeiMachine}
-use Rattle.boot_model.specs.Text.{line_text, text_of}
+use Rattle.boot_model.specs.{declared.line.Line.Line, PeiMachine.PeiMachine, Text.line_text, Text.text_of, PeiStep.pei_step}
 use Rattle.boot_model.proofs.Texts.{text_of-append}
-use Rattle.pei_core.specs.declared.event.Again.{Again}
-use Rattle.pei_core.specs.declared.event.Event.{Event}
-use Rattle.pei_core.specs.declared.event.Stepped.{Stepped}
+use Rattle.pei_core.specs.{declared.event.Again.Again, declared.event.Event.Event, declared.event.Stepped.Stepped}
 use Rattle.pei_core.specs.Parts.{Goal, LeadsThere, LedTo}
-use Rattle.pei_core.specs.SecondStarts.{IsAgain, event_letting}
+use Rattle.pei_core.specs.{SecondStarts.IsAgain, SecondStarts.event_letting, CoreCall.Printed, CoreCall.PrintedPart}
 use Rattle.pei_core.specs.Steps.{HasStepped, IsIdle, StartedTo, StepsTo}
-use Rattle.boot_model.specs.PeiStep.{pei_step}
-use Rattle.pei_core.specs.CoreCall.{Printed, PrintedPart}
 use Rattle.boot_trace.specs.Printing.{Texts}
 
 abbrev pub texts : Option (List ℕ) → Option (List ℕ) → Texts

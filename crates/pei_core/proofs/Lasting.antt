@@ -1,15 +1,10 @@
 -- Installing leaves descriptors as they are, so their GUIDs are read behind it as before it.
-use Rattle.std.proofs.Common.{◌≡◌, ℕ, Bool, true, false, cond, List, [], ◌∷◌, map, refl, ap, sym, subst, ◌∙◌, Ok, Err}
-use Rattle.std.specs.Option.{option_map}
-use Rattle.std.specs.Prelude.{fold, unwrap_or}
+use Rattle.std.proofs.Common.{◌≡◌, ℕ, Bool, true, false, cond, List, [], ◌∷◌, map, refl, ap, sym, subst, ◌∙◌, Ok, Err, option_map, fold, unwrap_or}
 use Rattle.pi_base.specs.Lists.{Each}
 use Rattle.store_model.specs.declared.state.Body.TheVariants.{Descriptor, Node}
-use Rattle.store_model.specs.declared.store_handle.Desc.{Desc}
-use Rattle.store_model.specs.declared.store_handle.Sweep.{Sweep}
+use Rattle.store_model.specs.{declared.store_handle.Desc.Desc, declared.store_handle.Sweep.Sweep, StateFacts.IsDesc}
 use Rattle.store_model.specs.declared.store_handle.StoreFault.TheVariants as F
-use Rattle.store_model.specs.StateFacts.{IsDesc}
-use Rattle.store_model.specs.StoreState.{StoreState, pool_of}
-use Rattle.store_model.specs.Service.{Service}
+use Rattle.store_model.specs.{StoreState.StoreState, StoreState.pool_of, Service.Service}
 use Rattle.store_model.specs.Service.Descriptor.{descriptor_in, guid_at, no_guid, offsets}
 use Rattle.store_model.specs.Service.Install.{install, install_pairs, install_sweep, installed, reinstall, reinstall_pairs, reinstall_sweep, reinstalled, renamed, with_pending, with_ppi}
 use Rattle.store_laws.specs.Bodies.{BodiesStay, IsGrown}

@@ -1,16 +1,13 @@
 -- What a service makes stands before the end HOB of the state after it, and the heap's base stays.
-use Rattle.std.proofs.Common.{◌≡◌, ◌≤◌, ◌+◌, ◌++◌, [], ◌∷◌, ℕ, Bool, true, false, arith, refl, sym, subst, cond, Option, Some, None, Ok, Err, sum_by}
-use Rattle.std.specs.Prelude.{nat_lt, replicate, ⊤}
+use Rattle.std.proofs.Common.{◌≡◌, ◌≤◌, ◌+◌, ◌++◌, [], ◌∷◌, ℕ, Bool, true, false, arith, refl, sym, subst, cond, Option, Some, None, Ok, Err, sum_by, nat_lt, replicate}
+use Rattle.std.specs.Prelude.{⊤}
 use Rattle.std.proofs.lemmas.List.Sums.{sum_by_push}
 use Rattle.pi_base.specs.declared.guid.Guid.{Guid}
-use Rattle.store_model.specs.declared.store_handle.DescKind.{DescKind}
-use Rattle.store_model.specs.declared.store_handle.GuidFrom.{GuidFrom}
-use Rattle.store_model.specs.declared.store_handle.Pool.{Pool}
+use Rattle.store_model.specs.{declared.store_handle.DescKind.DescKind, declared.store_handle.GuidFrom.GuidFrom}
+use Rattle.store_model.specs.{declared.store_handle.Pool.Pool, declared.state.Body.Body}
 use Rattle.store_model.specs.declared.store_handle.StoreFault.TheVariants as F
 use Rattle.store_model.specs.StoreState.{StoreState, appended, descriptor_len, end_place, free, header_len, hob_len, next_body, pool_of, rounded}
-use Rattle.store_model.specs.declared.state.Body.{Body}
-use Rattle.store_model.specs.declared.state.Body.TheVariants.{Bytes, Descriptor}
-use Rattle.store_model.specs.Service.{Service}
+use Rattle.store_model.specs.{declared.state.Body.TheVariants.Bytes, declared.state.Body.TheVariants.Descriptor, Service.Service}
 use Rattle.store_model.specs.Service.Pool.{pool, most_pool}
 use Rattle.store_model.specs.Service.Descriptor.{desc, desc_of, guid_from}
 

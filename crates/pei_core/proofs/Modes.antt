@@ -2,10 +2,8 @@
 use Rattle.std.proofs.Common.{◌≡◌, ℕ, zero, suc, refl, subst, sym}
 use Rattle.act_code.specs.declared.action.Action.TheVariants as A
 use Rattle.store_model.specs.StoreState.{StoreState}
-use Rattle.boot_model.specs.PeiMachine.{Frame}
-use Rattle.boot_model.specs.PeiAction.{effect}
-use Rattle.pei_core.specs.declared.taken.Taken.{Taken}
-use Rattle.pei_core.specs.Taken.{Does}
+use Rattle.boot_model.specs.{PeiMachine.Frame, PeiAction.effect}
+use Rattle.pei_core.specs.{declared.taken.Taken.Taken, Taken.Does}
 
 pub gets : (s : StoreState) (frame : Frame) (form r : ℕ) (taken : Taken) → form ≡ 0
     → Does (effect s frame (A.BootMode 0 r)) s frame.registers taken s → Does (effect s frame (A.BootMode form r)) s frame.registers taken s

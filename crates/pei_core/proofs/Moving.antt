@@ -1,27 +1,17 @@
 -- The core's own call, behind the move.
 use Rattle.std.proofs.Common.{◌≡◌, ℕ, Bool, List, [], ◌∷◌, ◌++◌, refl, ap, ◌∙◌, subst, Some, None, Ok, Err}
-use Rattle.pi_base.specs.declared.word.Word.{Word}
-use Rattle.pi_base.specs.declared.word.Word.TheVariants.{Success}
-use Rattle.store_model.specs.declared.store_handle.Sweep.{Sweep}
-use Rattle.store_model.specs.declared.store_handle.StoreFault.{StoreFault}
+use Rattle.pi_base.specs.{declared.word.Word.Word, declared.word.Word.TheVariants.Success}
+use Rattle.store_model.specs.{declared.store_handle.Sweep.Sweep, declared.store_handle.StoreFault.StoreFault, StoreState.StoreState}
 use Rattle.store_model.specs.declared.store_handle.StoreFault.TheVariants as F
 use Rattle.store_model.specs.Service.{Service, Answers, fault_status}
-use Rattle.store_model.specs.StoreState.{StoreState}
-use Rattle.boot_model.specs.declared.line.Line.{Line}
+use Rattle.boot_model.specs.{declared.line.Line.Line, PeiAction.status_of, PeiMachine.PeiMachine, PeiMachine.printed}
 use Rattle.boot_model.specs.declared.line.Line.TheVariants as L
-use Rattle.boot_model.specs.PeiAction.{status_of}
-use Rattle.boot_model.specs.PeiMachine.{PeiMachine, printed}
 use Rattle.boot_model.specs.PeiStep.{core_called, moved_to}
-use Rattle.boot_laws.proofs.PeiCases.{Migrated, migrated_is}
-use Rattle.boot_laws.proofs.StoreMoved.{KeepsMoved, core_moved}
-use Rattle.store_model.specs.Migration.{migration}
-use Rattle.store_model.specs.Service.Install.{core_install}
-use Rattle.pei_core.specs.declared.core_state.Core.{Core}
-use Rattle.pei_core.specs.declared.event.Again.TheVariants.{All, Nobody}
-use Rattle.pei_core.specs.SecondStarts.{IsAgain}
-use Rattle.pei_core.specs.Standing.{IsCoreOf}
-use Rattle.pei_core.proofs.PeimStates.{same_states}
-use Rattle.pei_core.proofs.SecondStarts.{all_again, nobody}
+use Rattle.boot_laws.proofs.{PeiCases.Migrated, PeiCases.migrated_is, StoreMoved.KeepsMoved, StoreMoved.core_moved}
+use Rattle.store_model.specs.{Migration.migration, Service.Install.core_install}
+use Rattle.pei_core.specs.{declared.core_state.Core.Core, declared.event.Again.TheVariants.All, declared.event.Again.TheVariants.Nobody}
+use Rattle.pei_core.specs.{SecondStarts.IsAgain, Standing.IsCoreOf}
+use Rattle.pei_core.proofs.{PeimStates.same_states, SecondStarts.all_again, SecondStarts.nobody}
 
 -- the machine behind a call that installed the PPI, and behind one that was refused
 abbrev pub behind : PeiMachine → Sweep → StoreState → PeiMachine

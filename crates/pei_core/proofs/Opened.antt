@@ -1,14 +1,10 @@
 -- The core at the opening.
-use Rattle.std.proofs.Common.{◌≡◌, ℕ, zero, suc, List, [], ◌∷◌, ◌++◌, refl, sym, ap, ◌∙◌, subst, replicate, Some}
-use Rattle.std.specs.Prelude.{filter, not}
-use Rattle.mod_catalog.specs.declared.catalogue.Catalog.{Catalog}
-use Rattle.mod_catalog.specs.Parts.{has_number, family}
+use Rattle.std.proofs.Common.{◌≡◌, ℕ, zero, suc, List, [], ◌∷◌, ◌++◌, refl, sym, ap, ◌∙◌, subst, replicate, Some, filter, not}
+use Rattle.mod_catalog.specs.{declared.catalogue.Catalog.Catalog, Parts.has_number, Parts.family}
 use Rattle.store_model.specs.StoreState.{Board}
-use Rattle.boot_model.specs.declared.peim_state.PeimState.{PeimState}
-use Rattle.boot_model.specs.declared.peim_state.PeimState.TheVariants.{NotDispatched}
-use Rattle.boot_model.specs.PeiRun.{pei_opening}
+use Rattle.boot_model.specs.{declared.peim_state.PeimState.PeimState, declared.peim_state.PeimState.TheVariants.NotDispatched}
+use Rattle.boot_model.specs.{PeiRun.pei_opening, Reporting.newcomers}
 use Rattle.boot_model.specs.PeimState.{ArePeimStates, IsPeimState, state_at}
-use Rattle.boot_model.specs.Reporting.{newcomers}
 
 all_new : (xs : List ℕ) → filter (λ other. not (has_number [] other)) xs ≡ xs
 all_new [] = refl

@@ -4,8 +4,7 @@ use Rattle.pi_base.specs.declared.memory.OutOfMemory.{OutOfMemory}
 use Rattle.act_code.specs.declared.action.Action.{Action}
 use Rattle.boot_model.specs.PeiMachine.{Frame}
 use Rattle.store_model.specs.StoreState.{StoreState}
-use Rattle.pei_core.specs.declared.taken.Taken.{Taken}
-use Rattle.pei_core.specs.Taken.{Acts, Reads}
+use Rattle.pei_core.specs.{declared.taken.Taken.Taken, Taken.Acts, Taken.Reads}
 
 pub acts_of : (memory : Bool) (stood stands : StoreState → Type 0) (action own : Action) (frame : Frame) (result : Result Taken OutOfMemory)
     → action ≡ own → Acts memory stood stands own frame result → Acts memory stood stands action frame result

@@ -1,35 +1,21 @@
 -- What an action of PEI's own, of the top frame, leaves.
-use Rattle.std.proofs.Common.{◌≡◌, ℕ, zero, suc, Bool, true, false, List, [], ◌∷◌, ◌++◌, take, drop, refl, sym, ap, ◌∙◌, subst, Option, Some, None}
-use Rattle.std.proofs.lemmas.List.{append-nil}
-use Rattle.pi_base.specs.Lists.{Each}
-use Rattle.pi_base.specs.declared.word.Word.{Word}
+use Rattle.std.proofs.Common.{◌≡◌, ℕ, zero, suc, Bool, true, false, List, [], ◌∷◌, ◌++◌, take, drop, refl, sym, ap, ◌∙◌, subst, Option, Some, None, append-nil}
+use Rattle.pi_base.specs.{Lists.Each, declared.word.Word.Word}
 use Rattle.act_code.specs.declared.action.Action.{Action}
-use Rattle.mod_catalog.specs.Parts.{has_number}
-use Rattle.mod_catalog.specs.declared.catalogue.Catalog.{Catalog}
-use Rattle.store_model.specs.declared.store_handle.Desc.{Desc}
-use Rattle.store_model.specs.declared.store_handle.DescKind.TheVariants.{Ppi}
-use Rattle.store_model.specs.declared.store_handle.Sweep.{Sweep}
+use Rattle.mod_catalog.specs.{Parts.has_number, declared.catalogue.Catalog.Catalog}
+use Rattle.store_model.specs.{declared.store_handle.Desc.Desc, declared.store_handle.DescKind.TheVariants.Ppi}
+use Rattle.store_model.specs.{declared.store_handle.Sweep.Sweep, declared.state.Body.TheVariants.Descriptor}
 use Rattle.store_model.specs.StateFacts.{IsStoreState, IsDesc, IsEntry}
-use Rattle.store_model.specs.declared.state.Body.TheVariants.{Descriptor}
-use Rattle.store_model.specs.declared.state.DescriptorBody.{DescriptorBody}
-use Rattle.store_model.specs.declared.state.Entry.{Entry}
-use Rattle.store_model.specs.StoreState.{StoreState, body_at}
-use Rattle.store_model.specs.Service.Descriptor.{descriptors, offsets}
+use Rattle.store_model.specs.{declared.state.DescriptorBody.DescriptorBody, declared.state.Entry.Entry}
+use Rattle.store_model.specs.{StoreState.StoreState, StoreState.body_at, Service.Descriptor.descriptors, Service.Descriptor.offsets}
 use Rattle.boot_laws.specs.Stay.{RepliesAreSound, Visits, swept_ppis}
-use Rattle.boot_model.specs.MachineFacts.{HoldRegisters}
+use Rattle.boot_model.specs.{MachineFacts.HoldRegisters, declared.frame.Register.Register, PeiMachine.Frame, PeiMachine.PeiMachine}
 use Rattle.boot_model.specs.PeiAction.{Effect, Wrote, Called, Own, Shadowed, Logged, Skipped, Returned, effect}
-use Rattle.boot_model.specs.declared.frame.Register.{Register}
-use Rattle.boot_model.specs.PeiMachine.{Frame, PeiMachine}
 use Rattle.boot_model.specs.PeiStep.{after_effect, past, shadowed}
 use Rattle.boot_model.specs.declared.line.Line.{Line}
 use Rattle.phase_parts.specs.Frames.{answered, top_of}
-use Rattle.pei_core.specs.Guids.{AreChangesOf}
-use Rattle.pei_core.specs.declared.guids.Changes.{Changes}
-use Rattle.pei_core.specs.Taken.{reply_in}
-use Rattle.pei_core.specs.declared.taken.Reply.{Reply}
-use Rattle.pei_core.specs.declared.core_state.Core.{Core}
-use Rattle.pei_core.specs.Standing.{IsCoreOf}
-use Rattle.pei_core.specs.Started.{HasStarted}
+use Rattle.pei_core.specs.{Guids.AreChangesOf, declared.guids.Changes.Changes, Taken.reply_in, declared.taken.Reply.Reply}
+use Rattle.pei_core.specs.{declared.core_state.Core.Core, Standing.IsCoreOf, Started.HasStarted}
 use Rattle.pei_core.proofs.PeimStates.{same_states}
 
 -- the frame that was found is the top one

@@ -1,14 +1,10 @@
 -- A call for pages of a type that is known, and of some pages, is answered by the service.
-use Rattle.std.proofs.Common.{◌≡◌, ℕ, ◌==◌, ◌&&◌, true, ap}
-use Rattle.std.specs.Prelude.{not, if◌then◌else◌, slice_set}
+use Rattle.std.proofs.Common.{◌≡◌, ℕ, ◌==◌, ◌&&◌, true, ap, not, if◌then◌else◌, slice_set}
 use Rattle.pi_base.specs.declared.word.Word.TheVariants.{InvalidParameter}
-use Rattle.boot_model.specs.PeiMachine.{Frame}
-use Rattle.boot_model.specs.declared.frame.Register.TheVariants.{Number}
+use Rattle.boot_model.specs.{PeiMachine.Frame, declared.frame.Register.TheVariants.Number}
 use Rattle.boot_model.specs.declared.line.CallName.TheVariants as C
 use Rattle.boot_model.specs.declared.line.Extra.TheVariants as X
-use Rattle.store_model.specs.StoreState.{StoreState}
-use Rattle.store_model.specs.Service.{Service}
-use Rattle.store_model.specs.Service.Memory.{pages}
+use Rattle.store_model.specs.{StoreState.StoreState, Service.Service, Service.Memory.pages}
 use Rattle.boot_model.specs.PeiAction.{Effect, Reply, Called, answer_reply, pages_reply, is_memory_type, refusal}
 
 abbrev pub answered : StoreState → Frame → ℕ → Service ℕ → Reply

@@ -1,12 +1,10 @@
 -- The lines of reports so far, and a part of the next one.
-use Rattle.std.proofs.Common.{◌≡◌, ◌<◌, ℕ, zero, suc, List, [], ◌∷◌, ◌++◌, length, sym, ap, refl, subst, take, get_or, flat_map, arith, Option}
-use Rattle.std.specs.Prelude.{slice_index_or}
+use Rattle.std.proofs.Common.{◌≡◌, ◌<◌, ℕ, zero, suc, List, [], ◌∷◌, ◌++◌, length, sym, ap, refl, subst, take, get_or, flat_map, arith, Option, slice_index_or}
 use Rattle.std.specs.Io.KnownBytes.{Appends}
 use Rattle.boot_io.specs.Sink.{AppendsPart}
 use Rattle.boot_io.proofs.PutsLaws.{part_of_lines}
 use Rattle.boot_model.specs.declared.line.Line.TheVariants as L
-use Rattle.boot_model.specs.Text.{line_text, text_of}
-use Rattle.boot_model.specs.PeiStep.{report_lines}
+use Rattle.boot_model.specs.{Text.line_text, Text.text_of, PeiStep.report_lines}
 
 abbrev report_text : ℕ → List ℕ
 report_text volume = line_text (L.Report volume)

@@ -1,9 +1,7 @@
 -- Which parts an event lets start again, by what it leaves of the machine's lists.
 use Rattle.std.proofs.Common.{◌≡◌, ℕ, Bool, true, false, ◌||◌, ◌&&◌, ◌==◌, not, ◌∷◌, [], ◌++◌, refl, sym, ap, ◌∙◌}
 use Rattle.mod_catalog.specs.Parts.{has_number}
-use Rattle.boot_model.specs.Eligible.{may_start_again}
-use Rattle.boot_model.specs.PeiMachine.{PeiMachine}
-use Rattle.boot_model.specs.declared.peim_state.PeimState.TheVariants.{Dispatched}
+use Rattle.boot_model.specs.{Eligible.may_start_again, PeiMachine.PeiMachine, declared.peim_state.PeimState.TheVariants.Dispatched}
 use Rattle.pei_core.specs.declared.event.Again.TheVariants.{Nobody, All}
 use Rattle.pei_core.specs.SecondStarts.{IsAgain, awaits_second, lets_again, registered_again}
 use Rattle.pei_core.proofs.PeimStates.{has_behind, same}

@@ -1,34 +1,21 @@
 -- What a script is told of a service's answer is the reply of the machine.
-use Rattle.std.proofs.Common.{◌≡◌, Bool, ℕ, List, [], ◌+◌, ◌≤◌, refl, ap, sym, subst, ◌∙◌, Option, Some, None, Result, Ok, Err, slice_set}
-use Rattle.std.specs.Option.{option_and_then}
+use Rattle.std.proofs.Common.{◌≡◌, Bool, ℕ, List, [], ◌+◌, ◌≤◌, refl, ap, sym, subst, ◌∙◌, Option, Some, None, Result, Ok, Err, slice_set, option_and_then}
 use Rattle.pi_base.specs.declared.memory.OutOfMemory.{OutOfMemory}
 use Rattle.pi_base.specs.declared.word.Word.TheVariants.{InvalidParameter, NotFound}
-use Rattle.boot_model.specs.PeiMachine.{Frame}
-use Rattle.boot_model.specs.declared.frame.Register.{Register}
-use Rattle.boot_model.specs.declared.line.CallName.{CallName}
+use Rattle.boot_model.specs.{PeiMachine.Frame, declared.frame.Register.Register, declared.line.CallName.CallName, declared.line.Extra.Extra}
 use Rattle.boot_model.specs.declared.line.CallName.TheVariants as C
-use Rattle.boot_model.specs.declared.line.Extra.{Extra}
 use Rattle.boot_model.specs.declared.line.Extra.TheVariants as X
-use Rattle.store_model.specs.declared.store_handle.Desc.{Desc}
-use Rattle.store_model.specs.declared.store_handle.Pool.{Pool}
-use Rattle.store_model.specs.declared.store_handle.Sweep.{Sweep}
-use Rattle.store_model.specs.declared.store_handle.StoreFault.{StoreFault}
+use Rattle.store_model.specs.{declared.store_handle.Desc.Desc, declared.store_handle.Pool.Pool, declared.store_handle.Sweep.Sweep}
+use Rattle.store_model.specs.{declared.store_handle.StoreFault.StoreFault, MemoryReading.bytes_at}
 use Rattle.store_model.specs.declared.store_handle.StoreFault.TheVariants as F
-use Rattle.store_model.specs.MemoryReading.{bytes_at}
-use Rattle.store_model.specs.StoreState.{StoreState, end_place}
-use Rattle.store_model.specs.Service.{Service, Answers}
-use Rattle.store_model.specs.Service.Descriptor.{offsets}
+use Rattle.store_model.specs.{StoreState.StoreState, StoreState.end_place, Service.Service, Service.Answers, Service.Descriptor.offsets}
 use Rattle.store_model.specs.Service.Pool.{store}
 use Rattle.boot_model.specs.PeiAction.{Effect, Reply, Called, answer_reply, call_where, peek_reply, refusal, reply_where, status_of, store_reply}
 use Rattle.boot_model.specs.PeiAction as P
-use Rattle.phase_parts.specs.declared.registers.Writes.{Writes}
+use Rattle.phase_parts.specs.{declared.registers.Writes.Writes, declared.reading.Answer.Answer, Peeked.told_at, Peeked.told_bytes}
 use Rattle.phase_parts.specs.declared.registers.Writes.TheVariants as W
-use Rattle.phase_parts.specs.declared.reading.Answer.{Answer}
-use Rattle.phase_parts.specs.Peeked.{told_at, told_bytes}
 use Rattle.phase_parts.specs.Writes.{written}
-use Rattle.pei_core.specs.Guids.{no_changes}
-use Rattle.pei_core.specs.declared.guids.Changes.{Changes}
-use Rattle.pei_core.specs.declared.taken.Taken.{Taken}
+use Rattle.pei_core.specs.{Guids.no_changes, declared.guids.Changes.Changes, declared.taken.Taken.Taken}
 use Rattle.pei_core.specs.Taken.{Does, IsTaken, refused, swept, told}
 use Rattle.pei_core.specs.Taken as T
 use Rattle.pei_core.proofs.Made.{Stands}

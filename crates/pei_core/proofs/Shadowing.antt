@@ -1,27 +1,18 @@
 -- A module that has started registers for shadow.
-use Rattle.std.proofs.Common.{◌≡◌, ℕ, ◌<◌, Bool, true, false, cond, List, [], ◌∷◌, ◌++◌, length, refl, sym, ap, ◌∙◌, subst, None}
-use Rattle.pi_base.specs.declared.word.Word.{Word}
-use Rattle.pi_base.specs.declared.word.Word.TheVariants.{AlreadyStarted}
-use Rattle.std.proofs.lemmas.List.{length-set}
-use Rattle.mod_catalog.specs.Parts.{has_number}
-use Rattle.mod_catalog.specs.declared.catalogue.Catalog.{Catalog}
-use Rattle.boot_model.specs.declared.line.Line.{Line}
+use Rattle.std.proofs.Common.{◌≡◌, ℕ, ◌<◌, Bool, true, false, cond, List, [], ◌∷◌, ◌++◌, length, refl, sym, ap, ◌∙◌, subst, None, length-set}
+use Rattle.pi_base.specs.{declared.word.Word.Word, declared.word.Word.TheVariants.AlreadyStarted}
+use Rattle.mod_catalog.specs.{Parts.has_number, declared.catalogue.Catalog.Catalog}
+use Rattle.boot_model.specs.{declared.line.Line.Line, declared.peim_state.PeimState.PeimState, PeiStep.past, PeiStep.shadowed}
 use Rattle.boot_model.specs.declared.line.Line.TheVariants as L
 use Rattle.boot_model.specs.declared.line.CallName.TheVariants as C
 use Rattle.boot_model.specs.declared.line.Extra.TheVariants as X
-use Rattle.boot_model.specs.declared.peim_state.PeimState.{PeimState}
 use Rattle.boot_model.specs.declared.peim_state.PeimState.TheVariants.{NotDispatched, Dispatched, RegisteredForShadow, Done}
 use Rattle.boot_model.specs.PeiMachine.{Frame, PeiMachine, printed}
-use Rattle.boot_model.specs.PeiStep.{past, shadowed}
 use Rattle.boot_model.specs.PeimState.{ArePeimStates, IsPeimState, state_at}
 use Rattle.phase_parts.specs.Frames.{answered}
-use Rattle.pei_core.specs.Cores.{register_status, with_registered}
-use Rattle.pei_core.specs.declared.core_state.Core.{Core}
-use Rattle.pei_core.specs.declared.event.Again.{Again}
-use Rattle.pei_core.specs.SecondStarts.{IsAgain, registered_again}
-use Rattle.pei_core.specs.Standing.{IsCoreFor, IsCoreOf}
-use Rattle.pei_core.proofs.PeimStates.{registered_states, same_states}
-use Rattle.pei_core.proofs.SecondStarts.{nobody, one_registers}
+use Rattle.pei_core.specs.{Cores.register_status, Cores.with_registered, declared.core_state.Core.Core, declared.event.Again.Again}
+use Rattle.pei_core.specs.{SecondStarts.IsAgain, SecondStarts.registered_again, Standing.IsCoreFor, Standing.IsCoreOf}
+use Rattle.pei_core.proofs.{PeimStates.registered_states, PeimStates.same_states, SecondStarts.nobody, SecondStarts.one_registers}
 
 -- the list of those that registered, behind it
 abbrev shadows_of : PeimState → List ℕ → ℕ → List ℕ

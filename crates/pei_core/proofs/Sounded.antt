@@ -1,25 +1,16 @@
 -- A step leaves a machine that is sound, and in which only modules that have started run scripts.
-use Rattle.std.proofs.Common.{◌≡◌, ℕ, Bool, true, Option, Some, None, Result, Ok, Err, refl, ap, ◌∙◌}
-use Rattle.std.specs.Prelude.{unwrap_or}
-use Rattle.pi_base.specs.declared.phase.Phase.TheVariants.{Pei}
-use Rattle.pi_base.specs.declared.word.Word.TheVariants.{Success}
+use Rattle.std.proofs.Common.{◌≡◌, ℕ, Bool, true, Option, Some, None, Result, Ok, Err, refl, ap, ◌∙◌, unwrap_or}
+use Rattle.pi_base.specs.{declared.phase.Phase.TheVariants.Pei, declared.word.Word.TheVariants.Success}
 use Rattle.boot_io.specs.declared.halt.Halt.{Halt}
 use Rattle.boot_io.specs.declared.halt.Halt.TheVariants as H
-use Rattle.act_code.specs.declared.action.Action.{Action}
-use Rattle.act_code.specs.declared.action.Action.TheVariants.{Ret}
-use Rattle.act_code.specs.Index.{is_indexed}
-use Rattle.mod_catalog.specs.declared.catalogue.Catalog.{Catalog}
-use Rattle.mod_catalog.specs.WellFormed.{IsWellFormed}
+use Rattle.act_code.specs.{declared.action.Action.Action, declared.action.Action.TheVariants.Ret, Index.is_indexed}
+use Rattle.mod_catalog.specs.{declared.catalogue.Catalog.Catalog, WellFormed.IsWellFormed}
 use Rattle.store_model.specs.StoreState.{StoreState}
-use Rattle.boot_model.specs.MachineFacts.{IsSound}
-use Rattle.boot_model.specs.PeiMachine.{Frame, PeiMachine}
-use Rattle.boot_model.specs.PeiStep.{action_at, pei_step}
+use Rattle.boot_model.specs.{MachineFacts.IsSound, PeiMachine.Frame, PeiMachine.PeiMachine, PeiStep.action_at, PeiStep.pei_step}
 use Rattle.phase_parts.specs.Found.{found_action}
 use Rattle.phase_parts.proofs.Fitting.{found_fits}
-use Rattle.pei_core.specs.declared.event.Stepped.{Stepped}
+use Rattle.pei_core.specs.{declared.event.Stepped.Stepped, declared.pei.Pei.Pei as OfPei, Standing.Has, Standing.StandsFor}
 use Rattle.pei_core.specs.declared.event.Stepped.TheVariants.{Went, Idle, Ended}
-use Rattle.pei_core.specs.declared.pei.Pei.{Pei as OfPei}
-use Rattle.pei_core.specs.Standing.{Has, StandsFor}
 use Rattle.pei_core.specs.Started.{RunsStarted}
 use Rattle.pei_core.specs.Steps.{HasStayed, HasStepped, StepsTo}
 use Rattle.boot_trace.specs.Printing.{Texts}

@@ -1,32 +1,21 @@
 -- No action makes a notification of a module that has not started.
-use Rattle.std.proofs.Common.{◌≡◌, ℕ, ◌+◌, ◌*◌, ◌/◌, ◌<◌, ◌==◌, Bool, true, false, cond, List, [], ◌∷◌, ◌++◌, length, replicate, arith, sym, subst, Option, Some, None, Ok, Err}
+use Rattle.std.proofs.Common.{◌≡◌, ℕ, ◌+◌, ◌*◌, ◌/◌, ◌<◌, ◌==◌, Bool, true, false, cond, List, [], ◌∷◌, ◌++◌, length, replicate, arith, sym, subst, Option, Some, None, Ok, Err, fold, nat_lt}
 use Rattle.std.specs.Bool.{⊤}
-use Rattle.std.specs.Prelude.{fold, nat_lt}
-use Rattle.pi_base.specs.declared.guid.Guid.{Guid}
-use Rattle.pi_base.specs.Lists.{Each}
-use Rattle.act_code.specs.Index.{is_indexed}
-use Rattle.act_code.specs.declared.action.Action.{Action}
-use Rattle.store_model.specs.declared.state.Body.{Body}
+use Rattle.pi_base.specs.{declared.guid.Guid.Guid, Lists.Each}
+use Rattle.act_code.specs.{Index.is_indexed, declared.action.Action.Action}
+use Rattle.store_model.specs.{declared.state.Body.Body, declared.state.HobEntry.HobEntry, declared.store_handle.Desc.Desc}
 use Rattle.store_model.specs.declared.state.Body.TheVariants.{Bytes, Descriptor, Node, Allocation}
-use Rattle.store_model.specs.declared.state.HobEntry.{HobEntry}
-use Rattle.store_model.specs.declared.store_handle.Desc.{Desc}
-use Rattle.store_model.specs.declared.store_handle.DescKind.{DescKind}
+use Rattle.store_model.specs.{declared.store_handle.DescKind.DescKind, declared.store_handle.GuidFrom.GuidFrom}
 use Rattle.store_model.specs.declared.store_handle.DescKind.TheVariants.{Ppi, Callback, Dispatch}
-use Rattle.store_model.specs.declared.store_handle.GuidFrom.{GuidFrom}
-use Rattle.store_model.specs.declared.store_handle.Pool.{Pool}
-use Rattle.store_model.specs.declared.store_handle.StoreFault.{StoreFault}
-use Rattle.store_model.specs.declared.store_handle.Sweep.{Sweep}
+use Rattle.store_model.specs.{declared.store_handle.Pool.Pool, declared.store_handle.StoreFault.StoreFault}
+use Rattle.store_model.specs.{declared.store_handle.Sweep.Sweep, Service.Service, Service.Pool.pool, Service.Pool.written}
 use Rattle.store_model.specs.StoreState.{StoreState, appended, end_place, hob_len, next_body, pool_of, rounded, with_body}
-use Rattle.store_model.specs.Service.{Service}
-use Rattle.store_model.specs.Service.Pool.{pool, written}
 use Rattle.store_model.specs.Service.Descriptor.{desc, desc_of, guid_from, kind_at}
 use Rattle.store_model.specs.Service.Install.{install, reinstall, installed, reinstalled, with_ppi, with_pending, install_pairs, install_sweep, reinstall_pairs, reinstall_sweep, renamed}
 use Rattle.store_model.specs.Service.Notify.{notify, notified, with_note, with_note_of, notify_pairs, notify_sweep}
 use Rattle.store_model.specs.Service.Hob.{create_hob, hob_entry}
 use Rattle.store_model.specs.Service.Memory.{set_memory, pages, pages_taken, page_len, allocation_hob}
-use Rattle.boot_model.specs.declared.frame.Register.{Register}
-use Rattle.boot_model.specs.PeiMachine.{Frame}
-use Rattle.boot_model.specs.Registers.{both}
+use Rattle.boot_model.specs.{declared.frame.Register.Register, PeiMachine.Frame, Registers.both}
 use Rattle.boot_model.specs.PeiAction.{Effect, effect, desc_number, guid_arg, kind_number}
 use Rattle.boot_model.proofs.ListFacts.{each_push}
 use Rattle.boot_laws.specs.EffectForms.{EffectHas, RepliesHave}

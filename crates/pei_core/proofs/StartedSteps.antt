@@ -1,42 +1,26 @@
 -- Only modules that have started run scripts: so it is at the opening, and after each step and each start.
-use Rattle.std.proofs.Common.{◌≡◌, ℕ, zero, suc, ◌+◌, ◌/◌, ◌==◌, Bool, true, false, cond, List, [], ◌∷◌, sym, refl, ap, subst, arith, length, Option, Some, None, Ok, Err, nat_le}
+use Rattle.std.proofs.Common.{◌≡◌, ℕ, zero, suc, ◌+◌, ◌/◌, ◌==◌, Bool, true, false, cond, List, [], ◌∷◌, sym, refl, ap, subst, arith, length, Option, Some, None, Ok, Err, nat_le, slice_get, unwrap_or, option_map, option_and_then}
 use Rattle.std.specs.Bool.{⊤}
-use Rattle.std.specs.Prelude.{slice_get, unwrap_or}
-use Rattle.std.specs.Option.{option_map, option_and_then}
 use Rattle.std.proofs.lemmas.Bool.Decides.{nat_tests}
-use Rattle.pi_base.specs.Lists.{Each}
-use Rattle.pi_base.specs.declared.phase.Phase.TheVariants.{Pei}
-use Rattle.act_code.specs.Index.{is_indexed}
-use Rattle.act_code.specs.declared.action.Action.{Action}
-use Rattle.mod_catalog.specs.declared.catalogue.Catalog.{Catalog}
-use Rattle.mod_catalog.specs.declared.catalogue.Part.{Part}
-use Rattle.mod_catalog.specs.Parts.{has_number, part_at}
-use Rattle.pi_base.specs.declared.known_guid.TheConstants.{MEMORY_PPI}
-use Rattle.store_model.specs.declared.state.Body.{Body}
+use Rattle.pi_base.specs.{Lists.Each, declared.phase.Phase.TheVariants.Pei, declared.known_guid.TheConstants.MEMORY_PPI}
+use Rattle.act_code.specs.{Index.is_indexed, declared.action.Action.Action}
+use Rattle.mod_catalog.specs.{declared.catalogue.Catalog.Catalog, declared.catalogue.Part.Part, Parts.has_number, Parts.part_at}
+use Rattle.store_model.specs.{declared.state.Body.Body, declared.state.DescriptorBody.DescriptorBody, declared.state.Entry.Entry}
 use Rattle.store_model.specs.declared.state.Body.TheVariants.{Bytes, Descriptor, Node, Allocation}
-use Rattle.store_model.specs.declared.state.DescriptorBody.{DescriptorBody}
-use Rattle.store_model.specs.declared.state.Entry.{Entry}
-use Rattle.store_model.specs.declared.state.HobEntry.{HobEntry}
-use Rattle.store_model.specs.declared.state.Pending.{Pending}
-use Rattle.store_model.specs.declared.state.TheConstants.{CORE}
-use Rattle.store_model.specs.declared.store_handle.Desc.{Desc}
-use Rattle.store_model.specs.declared.store_handle.DescKind.{DescKind}
+use Rattle.store_model.specs.{declared.state.HobEntry.HobEntry, declared.state.Pending.Pending, declared.state.TheConstants.CORE}
+use Rattle.store_model.specs.{declared.store_handle.Desc.Desc, declared.store_handle.DescKind.DescKind, declared.store_handle.Firing.Firing}
 use Rattle.store_model.specs.declared.store_handle.DescKind.TheVariants.{Ppi, Callback, Dispatch}
-use Rattle.store_model.specs.declared.store_handle.Firing.{Firing}
-use Rattle.store_model.specs.declared.store_handle.GuidFrom.TheVariants.{Inline}
-use Rattle.store_model.specs.declared.store_handle.Sweep.{Sweep}
+use Rattle.store_model.specs.{declared.store_handle.GuidFrom.TheVariants.Inline, declared.store_handle.Sweep.Sweep, Service.Service}
 use Rattle.store_model.specs.StoreState.{StoreState, Board, Range, body_from, hob_len}
 use Rattle.store_model.specs.StateFacts.{IsStoreState, IsDescriptorAt, IsEntry, IsPending}
 use Rattle.store_model.specs.Migration.{migration, migrated_to, moved_body, moved_hobs, moved_value}
-use Rattle.store_model.specs.Service.{Service}
 use Rattle.store_model.specs.Service.Descriptor.{desc, descriptor_in, is_named, number_at}
 use Rattle.store_model.specs.Service.Install.{install, both_or_full, core_of, core_install}
 use Rattle.store_model.specs.Service.Queue.{queue_pop, popped, zeroed}
 use Rattle.store_model.specs.Service.Sweep.{next_match, first_firing, firing_at, firing_of, have_one_guid, places_at, pairs_left}
 use Rattle.boot_model.specs.declared.line.Line.TheVariants as L
-use Rattle.boot_model.specs.declared.phase_end.PeiEnd.TheVariants.{Spent, Deep}
+use Rattle.boot_model.specs.{declared.phase_end.PeiEnd.TheVariants.Spent, declared.phase_end.PeiEnd.TheVariants.Deep, PeiRun.pei_opening}
 use Rattle.boot_model.specs.PeiMachine.{PeiMachine, Frame, printed}
-use Rattle.boot_model.specs.PeiRun.{pei_opening}
 use Rattle.boot_model.specs.PeiAction.{Effect, Wrote, Called, Own, Shadowed, Logged, Skipped, Returned, effect}
 use Rattle.boot_model.specs.PeiChoice.{next_peim}
 use Rattle.boot_model.specs.PeiStep.{PeiCase, Fires, Acts, Moves, Pops, Starts, Stops, case_of, in_case, pei_step, callback_begun, open_sweep, action_at, after_effect, core_called, started as started_at, started_part, start_frames, swept}

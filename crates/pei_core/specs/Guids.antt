@@ -3,11 +3,9 @@
 use Rattle.std.specs.Prelude.{◌≡◌, List, [], ◌∷◌, map, Some, None}
 use Rattle.pi_base.specs.declared.guid.Guid.{Guid}
 use Rattle.act_code.specs.declared.action.Action.{Action}
-use Rattle.store_model.specs.declared.store_handle.Desc.{Desc}
-use Rattle.store_model.specs.StoreState.{StoreState}
+use Rattle.store_model.specs.{declared.store_handle.Desc.Desc, StoreState.StoreState}
 use Rattle.store_model.specs.Service.Descriptor.{guid_at, offsets}
-use Rattle.boot_model.specs.EventGuids.{placed_guids, taken_guid}
-use Rattle.boot_model.specs.PeiMachine.{Frame}
+use Rattle.boot_model.specs.{EventGuids.placed_guids, EventGuids.taken_guid, PeiMachine.Frame}
 use Rattle.pei_core.specs.declared.guids.Changes.{Changes}
 
 -- none was changed

@@ -1,40 +1,22 @@
 -- What a part of a step leaves: where its event leads, with the lines that were put and the GUIDs that were changed, or why there is none.
 -- Own.
-use Rattle.std.specs.Prelude.{◌≡◌, ℕ, ◌+◌, ◌<◌, Bool, true, List, [], ◌∷◌, length, Option, None, Result, Ok, Err, ⊤}
-use Rattle.std.specs.Option.{option_and_then}
+use Rattle.std.specs.Prelude.{◌≡◌, ℕ, ◌+◌, ◌<◌, Bool, true, List, [], ◌∷◌, length, Option, None, Result, Ok, Err, ⊤, option_and_then}
 use Rattle.boot_io.specs.declared.halt.Halt.{Halt}
 use Rattle.boot_io.specs.declared.halt.Halt.TheVariants as H
-use Rattle.pi_base.specs.Lists.{Each}
-use Rattle.pi_base.specs.declared.guid.Guid.{Guid}
-use Rattle.pi_base.specs.declared.phase.Phase.TheVariants.{Pei}
+use Rattle.pi_base.specs.{Lists.Each, declared.guid.Guid.Guid, declared.phase.Phase.TheVariants.Pei}
 use Rattle.mod_catalog.specs.declared.catalogue.Catalog.{Catalog}
-use Rattle.store_model.specs.declared.store_handle.Firing.{Firing}
-use Rattle.store_model.specs.declared.store_handle.Sweep.{Sweep}
-use Rattle.store_model.specs.StoreCall.{IsDue}
-use Rattle.store_model.specs.StoreState.{StoreState}
-use Rattle.store_model.specs.Service.{Service}
-use Rattle.store_model.specs.Service.Install.{core_install}
-use Rattle.store_model.specs.StateFacts.{IsDesc}
+use Rattle.store_model.specs.{declared.store_handle.Firing.Firing, declared.store_handle.Sweep.Sweep, StoreCall.IsDue}
+use Rattle.store_model.specs.{StoreState.StoreState, Service.Service, Service.Install.core_install, StateFacts.IsDesc}
 use Rattle.store_model.specs.Service.Sweep.{next_match}
-use Rattle.act_code.specs.declared.action.Action.{Action}
-use Rattle.boot_model.specs.EvaluationBound.{core_guids}
-use Rattle.boot_model.specs.EventGuids.{placed_guids, taken_guid}
-use Rattle.boot_model.specs.PeiAction.{effect}
+use Rattle.act_code.specs.{declared.action.Action.Action, declared.block.TheConstants.MOST_ACTIONS}
+use Rattle.boot_model.specs.{EvaluationBound.core_guids, EventGuids.placed_guids, EventGuids.taken_guid, PeiAction.effect}
 use Rattle.boot_model.specs.PeiMachine.{PeiMachine, Frame}
 use Rattle.boot_model.specs.PeiStep.{after_call, after_effect, core_called, open_sweep, shadowed}
 use Rattle.boot_model.specs.declared.line.Line.TheVariants as L
-use Rattle.phase_parts.specs.Deed.{deed}
-use Rattle.phase_parts.specs.Needs.{IsScriptAction}
-use Rattle.act_code.specs.declared.block.TheConstants.{MOST_ACTIONS}
-use Rattle.pei_core.specs.Taken.{reply_in}
-use Rattle.pei_core.specs.declared.taken.Reply.{Reply}
-use Rattle.pei_core.specs.declared.event.Event.{Event}
-use Rattle.pei_core.specs.declared.event.Stepped.{Stepped}
-use Rattle.pei_core.specs.declared.pei.Pei.{Pei as OfPei}
-use Rattle.pei_core.specs.SecondStarts.{IsAgain}
+use Rattle.phase_parts.specs.{Deed.deed, Needs.IsScriptAction}
+use Rattle.pei_core.specs.{Taken.reply_in, declared.taken.Reply.Reply, declared.event.Event.Event, declared.event.Stepped.Stepped}
+use Rattle.pei_core.specs.{declared.pei.Pei.Pei as OfPei, SecondStarts.IsAgain, Started.HasStarted, CoreCall.CoreCall, CoreCall.PrintedPart}
 use Rattle.pei_core.specs.Standing.{Has, IsCoreOf, IsFor, StandsFor}
-use Rattle.pei_core.specs.Started.{HasStarted}
-use Rattle.pei_core.specs.CoreCall.{CoreCall, PrintedPart}
 use Rattle.pei_core.specs.Steps.{HasStepped, StepsTo}
 use Rattle.boot_trace.specs.Printing.{Texts}
 

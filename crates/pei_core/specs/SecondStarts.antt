@@ -2,14 +2,10 @@
 -- PI 1.8, volume 1, `RegisterForShadow()`; how an event is told is own.
 use Rattle.std.specs.Prelude.{◌≡◌, ℕ, Bool, true, false, ◌&&◌, ◌||◌, ◌==◌, not}
 use Rattle.mod_catalog.specs.Parts.{has_number}
-use Rattle.boot_model.specs.Eligible.{may_start_again}
-use Rattle.boot_model.specs.PeiMachine.{PeiMachine}
-use Rattle.boot_model.specs.declared.peim_state.PeimState.{PeimState}
+use Rattle.boot_model.specs.{Eligible.may_start_again, PeiMachine.PeiMachine, declared.peim_state.PeimState.PeimState}
 use Rattle.boot_model.specs.declared.peim_state.PeimState.TheVariants.{NotDispatched, Dispatched, RegisteredForShadow, Done}
-use Rattle.pei_core.specs.Guids.{no_changes}
-use Rattle.pei_core.specs.declared.event.Again.{Again}
+use Rattle.pei_core.specs.{Guids.no_changes, declared.event.Again.Again, declared.event.Event.Event}
 use Rattle.pei_core.specs.declared.event.Again.TheVariants.{Nobody, One, All}
-use Rattle.pei_core.specs.declared.event.Event.{Event}
 
 -- whether a part registered for shadow and has not started again
 abbrev pub awaits_second : PeiMachine → ℕ → Bool

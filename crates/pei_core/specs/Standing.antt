@@ -3,14 +3,9 @@
 use Rattle.std.specs.Prelude.{◌≡◌, ℕ, length, Option, None, ◌+◌, ◌-◌, ◌^◌, min}
 use Rattle.mod_catalog.specs.declared.catalogue.Catalog.{Catalog}
 use Rattle.store_model.specs.StoreState.{Board, StoreState, empty_store}
-use Rattle.boot_model.specs.MachineFacts.{IsSound}
-use Rattle.boot_model.specs.PeiMachine.{PeiMachine}
-use Rattle.boot_model.specs.PeiRun.{pei_opening}
-use Rattle.boot_model.specs.PeimState.{ArePeimStates}
+use Rattle.boot_model.specs.{MachineFacts.IsSound, PeiMachine.PeiMachine, PeiRun.pei_opening, PeimState.ArePeimStates}
 use Rattle.phase_parts.specs.Known.{AreKnown}
-use Rattle.pei_core.specs.Started.{RunsStarted}
-use Rattle.pei_core.specs.declared.core_state.Core.{Core}
-use Rattle.pei_core.specs.declared.pei.Pei.{Pei}
+use Rattle.pei_core.specs.{Started.RunsStarted, declared.core_state.Core.Core, declared.pei.Pei.Pei}
 
 -- the fields
 pub record IsCoreOf (core : Core) (m : PeiMachine) : Type 0 where

@@ -4,13 +4,10 @@
 use Rattle.std.specs.Prelude.{◌≡◌, ℕ, ◌/◌, true, List, ⊤}
 use Rattle.pi_base.specs.Lists.{Each}
 use Rattle.mod_catalog.specs.Parts.{has_number}
-use Rattle.store_model.specs.declared.state.Body.{Body}
+use Rattle.store_model.specs.{declared.state.Body.Body, declared.state.HobEntry.HobEntry, declared.store_handle.DescKind.DescKind}
 use Rattle.store_model.specs.declared.state.Body.TheVariants.{Bytes, Descriptor, Node, Allocation}
-use Rattle.store_model.specs.declared.state.HobEntry.{HobEntry}
-use Rattle.store_model.specs.declared.store_handle.DescKind.{DescKind}
 use Rattle.store_model.specs.declared.store_handle.DescKind.TheVariants.{Ppi, Callback, Dispatch}
-use Rattle.boot_model.specs.declared.frame.TheConstants.{BLOCKS}
-use Rattle.boot_model.specs.PeiMachine.{PeiMachine, Frame}
+use Rattle.boot_model.specs.{declared.frame.TheConstants.BLOCKS, PeiMachine.PeiMachine, PeiMachine.Frame}
 
 -- a module is among those that have started
 abbrev pub HasStarted : List ℕ → ℕ → Type 0

@@ -1,30 +1,18 @@
 -- What a step of the core answers and leaves, and what a start does.
 -- Own.
-use Rattle.std.specs.Prelude.{◌≡◌, ℕ, Bool, true, [], Some, None, Result, Ok, Err, length, ◌+◌, ⊤}
+use Rattle.std.specs.Prelude.{◌≡◌, ℕ, Bool, true, [], Some, None, Result, Ok, Err, length, ◌+◌, ⊤, option_and_then}
 use Rattle.std.specs.Io.KnownBytes.{Appends}
-use Rattle.std.specs.Option.{option_and_then}
-use Rattle.boot_io.specs.declared.halt.Halt.{Halt}
+use Rattle.boot_io.specs.{declared.halt.Halt.Halt, declared.sink.SinkFault.SinkFault}
 use Rattle.boot_io.specs.declared.halt.Halt.TheVariants as H
-use Rattle.boot_io.specs.declared.sink.SinkFault.{SinkFault}
 use Rattle.pi_base.specs.declared.phase.Phase.TheVariants as Phase
-use Rattle.mod_catalog.specs.declared.catalogue.Catalog.{Catalog}
-use Rattle.mod_catalog.specs.declared.catalogue.Part.{Part}
-use Rattle.mod_catalog.specs.Parts.{part_at}
-use Rattle.store_model.specs.StoreState.{StoreState}
-use Rattle.store_model.specs.Migration.{migration}
-use Rattle.store_model.specs.Service.Queue.{queue_pop}
-use Rattle.store_model.specs.Service.Sweep.{next_match}
-use Rattle.boot_model.specs.declared.licence.Licence.{Licence}
-use Rattle.boot_model.specs.declared.phase_end.PeiEnd.{PeiEnd}
+use Rattle.mod_catalog.specs.{declared.catalogue.Catalog.Catalog, declared.catalogue.Part.Part, Parts.part_at}
+use Rattle.store_model.specs.{StoreState.StoreState, Migration.migration, Service.Queue.queue_pop, Service.Sweep.next_match}
+use Rattle.boot_model.specs.{declared.licence.Licence.Licence, declared.phase_end.PeiEnd.PeiEnd, Eligible.licence_at}
 use Rattle.boot_model.specs.declared.phase_end.PeiEnd.TheVariants as E
-use Rattle.boot_model.specs.Eligible.{licence_at}
-use Rattle.boot_model.specs.EventGuids.{pei_placed, pei_taken}
-use Rattle.boot_model.specs.PeiMachine.{PeiMachine}
+use Rattle.boot_model.specs.{EventGuids.pei_placed, EventGuids.pei_taken, PeiMachine.PeiMachine}
 use Rattle.boot_model.specs.PeiStep.{open_sweep, pei_step, started}
-use Rattle.pei_core.specs.declared.event.Event.{Event}
-use Rattle.pei_core.specs.declared.event.Stepped.{Stepped}
+use Rattle.pei_core.specs.{declared.event.Event.Event, declared.event.Stepped.Stepped, SecondStarts.IsAgain}
 use Rattle.pei_core.specs.declared.event.Stepped.TheVariants.{Went, Idle, Ended}
-use Rattle.pei_core.specs.SecondStarts.{IsAgain}
 use Rattle.pei_core.specs.Standing.{IsFor, StandsFor}
 use Rattle.pei_core.specs.CoreCall.{CoreCall, Printed, PrintedPart}
 use Rattle.boot_trace.specs.Printing.{Texts}

@@ -1,30 +1,18 @@
 -- What a call that takes an action of PEI's own answers: what the action does by the definition, with the state after it. Want of memory leaves the state as it was.
 -- Own.
 use Rattle.std.specs.Prelude.{◌≡◌, Bool, true, List, [], None, Some, Option, Result, Ok, Err, ⊤}
-use Rattle.pi_base.specs.declared.word.Word.{Word}
-use Rattle.pi_base.specs.declared.word.Word.TheVariants.{Success}
-use Rattle.pi_base.specs.declared.memory.OutOfMemory.{OutOfMemory}
+use Rattle.pi_base.specs.{declared.word.Word.Word, declared.word.Word.TheVariants.Success, declared.memory.OutOfMemory.OutOfMemory}
 use Rattle.act_code.specs.declared.action.Action.{Action}
-use Rattle.store_model.specs.declared.store_handle.Desc.{Desc}
-use Rattle.store_model.specs.declared.store_handle.Sweep.{Sweep}
-use Rattle.store_model.specs.declared.store_handle.StoreFault.{StoreFault}
-use Rattle.store_model.specs.StoreState.{StoreState}
+use Rattle.store_model.specs.{declared.store_handle.Desc.Desc, declared.store_handle.Sweep.Sweep}
+use Rattle.store_model.specs.{declared.store_handle.StoreFault.StoreFault, StoreState.StoreState, Service.Descriptor.offsets}
 use Rattle.store_model.specs.Service.{And, AfterEach, OfEach, fault_status}
-use Rattle.store_model.specs.Service.Descriptor.{offsets}
-use Rattle.boot_model.specs.declared.frame.Register.{Register}
-use Rattle.boot_model.specs.declared.line.CallName.{CallName}
-use Rattle.boot_model.specs.declared.line.Extra.{Extra}
-use Rattle.boot_model.specs.declared.line.Extra.TheVariants.{Nothing}
-use Rattle.boot_model.specs.MachineFacts.{HoldRegisters}
-use Rattle.boot_model.specs.PeiMachine.{Frame}
+use Rattle.boot_model.specs.{declared.frame.Register.Register, declared.line.CallName.CallName, declared.line.Extra.Extra}
+use Rattle.boot_model.specs.{declared.line.Extra.TheVariants.Nothing, MachineFacts.HoldRegisters, PeiMachine.Frame}
 use Rattle.boot_model.specs.PeiAction.{Effect, Wrote, Called, Own, Shadowed, effect}
 use Rattle.boot_model.specs.PeiAction as Machine
-use Rattle.phase_parts.specs.declared.registers.Writes.{Writes}
+use Rattle.phase_parts.specs.{declared.registers.Writes.Writes, Writes.written}
 use Rattle.phase_parts.specs.declared.registers.Writes.TheVariants as W
-use Rattle.phase_parts.specs.Writes.{written}
-use Rattle.pei_core.specs.Guids.{AreChangesOf, no_changes}
-use Rattle.pei_core.specs.declared.guids.Changes.{Changes}
-use Rattle.pei_core.specs.declared.taken.Reply.{Reply}
+use Rattle.pei_core.specs.{Guids.AreChangesOf, Guids.no_changes, declared.guids.Changes.Changes, declared.taken.Reply.Reply}
 use Rattle.pei_core.specs.declared.taken.Taken.{Taken}
 use Rattle.pei_core.specs.declared.taken.Taken.TheVariants as T
 

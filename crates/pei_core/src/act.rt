@@ -2,16 +2,12 @@
 ghost use Rattle.std.specs.Prelude.{◌<◌, ℕ, length};
 ghost use Rattle.boot_io.specs.Halted.{HaltsAfter};
 ghost use Rattle.boot_model.specs.PeiMachine.{PeiMachine};
-ghost use Rattle.mod_catalog.specs.WellFormed.{IsWellFormed};
-ghost use Rattle.mod_catalog.specs.declared.catalogue.Catalog.{Catalog as OfCatalog};
+ghost use Rattle.mod_catalog.specs.{WellFormed.IsWellFormed, declared.catalogue.Catalog.Catalog as OfCatalog};
 ghost use Rattle.pi_base.specs.Lists.{Each};
-ghost use Rattle.store_model.specs.StateFacts.{IsDesc};
-ghost use Rattle.store_model.specs.Service.{Present};
-ghost use Rattle.phase_parts.specs.Known.{AreKnown};
-ghost use Rattle.phase_parts.specs.Needs.{IsWithin};
+ghost use Rattle.store_model.specs.{StateFacts.IsDesc, Service.Present, StoreCall.Anything};
+ghost use Rattle.phase_parts.specs.{Known.AreKnown, Needs.IsWithin};
 ghost use Rattle.pei_core.specs.Parts.{AnswersCall, RegistersForShadow, RunsScript, StepsIn, TakesAction, TakesOwn};
 ghost use Rattle.pei_core.specs.Standing.{IsFor, KeepsFor, StandsFor, last_start};
-ghost use Rattle.store_model.specs.StoreCall.{Anything};
 
 use crate::action::take_own;
 use crate::event::{Again, Event, Stepped};

@@ -3,8 +3,7 @@ ghost use Rattle.std.specs.Prelude.{◌≡◌, None};
 ghost use Rattle.pi_base.specs.declared.phase.Phase.TheVariants.{Pei as InPei};
 ghost use Rattle.store_model.specs.Service.{Present};
 ghost use Rattle.boot_model.specs.MachineFacts.{HoldRegisters, IsModuleNumber};
-ghost use Rattle.phase_parts.specs.Deed.{deed};
-ghost use Rattle.phase_parts.specs.Needs.{IsScriptAction};
+ghost use Rattle.phase_parts.specs.{Deed.deed, Needs.IsScriptAction};
 ghost use Rattle.pei_core.specs.Taken.{Acts, Changed};
 
 use crate::address::write_address;

@@ -2,8 +2,7 @@
 ghost use Rattle.std.specs.Prelude.{◌≡◌, ◌+◌, ◌≤◌, Ok};
 ghost use Rattle.act_code.specs.declared.action.Action.TheVariants as A;
 ghost use Rattle.boot_plan.specs.declared.limits.TheConstants.{MOST_END};
-ghost use Rattle.store_model.specs.StoreState.{end_place};
-ghost use Rattle.store_model.specs.Service.{Present, OfEach};
+ghost use Rattle.store_model.specs.{StoreState.end_place, Service.Present, Service.OfEach};
 ghost use Rattle.boot_model.specs.MachineFacts.{HoldRegisters};
 ghost use Rattle.pei_core.specs.Taken.{ChangedNone, Reads};
 

@@ -1,7 +1,6 @@
 //! What a step of the machine did.
 ghost use Rattle.std.specs.Prelude.{◌≡◌};
-ghost use Rattle.pei_core.specs.SecondStarts.{event_letting, registered_again};
-ghost use Rattle.pei_core.specs.declared.event.Again.TheVariants.{Nobody};
+ghost use Rattle.pei_core.specs.{SecondStarts.event_letting, SecondStarts.registered_again, declared.event.Again.TheVariants.Nobody};
 
 use crate::guids::Changes;
 use boot_model::{PeiEnd, PeimState};

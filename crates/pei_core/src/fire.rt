@@ -1,12 +1,10 @@
 // The open sweep, and the callbacks that it fires.
 ghost use Rattle.std.specs.Prelude.{◌≡◌, Some, None, length, nat_le, not, if◌then◌else◌};
 ghost use Rattle.boot_io.specs.Halted.{HaltsAfter};
-ghost use Rattle.boot_model.specs.PeiMachine.{PeiMachine};
+ghost use Rattle.boot_model.specs.{PeiMachine.PeiMachine, declared.frame.TheConstants.MOST_FRAMES};
 ghost use Rattle.boot_model.specs.PeiStep as P;
-ghost use Rattle.boot_model.specs.declared.frame.TheConstants.{MOST_FRAMES};
 ghost use Rattle.store_model.specs.Service.Sweep.{next_match};
-ghost use Rattle.pei_core.specs.Cores.{with_callback};
-ghost use Rattle.pei_core.specs.Parts.{FiresNext, StepsIn};
+ghost use Rattle.pei_core.specs.{Cores.with_callback, Parts.FiresNext, Parts.StepsIn};
 ghost use Rattle.pei_core.specs.Standing.{IsCoreOf, KeepsFor, StandsFor, last_start};
 
 use crate::core_state::Core;

@@ -1,8 +1,7 @@
 //! The GUIDs of the PPIs that an action changed.
 ghost use Rattle.std.specs.Prelude.{◌≡◌, ◌≤◌, length, map, Some, None};
 ghost use Rattle.pi_base.specs.Lists.{Each};
-ghost use Rattle.store_model.specs.StateFacts.{IsDesc};
-ghost use Rattle.store_model.specs.Service.{Present, OfEach};
+ghost use Rattle.store_model.specs.{StateFacts.IsDesc, Service.Present, Service.OfEach};
 ghost use Rattle.store_model.specs.Service.Descriptor.{guid_at, offsets};
 ghost use Rattle.pei_core.specs.Guids.{ArePut, AreReplaced, no_changes, one_installed};
 

@@ -2,12 +2,9 @@
 ghost use Rattle.std.specs.Prelude.{◌≡◌, ◌<◌, ◌≤◌, ◌==◌, ◌&&◌, not, IsTrue, Ok};
 ghost use Rattle.act_code.specs.declared.action.Action.TheVariants as A;
 ghost use Rattle.boot_model.specs.PeiAction as P;
-ghost use Rattle.boot_model.specs.Registers.{both};
+ghost use Rattle.boot_model.specs.{Registers.both, MachineFacts.HoldRegisters, PeiMachine.Frame};
 ghost use Rattle.boot_model.specs.Registers as R;
-ghost use Rattle.store_model.specs.Service.{Present};
-ghost use Rattle.store_model.specs.StoreCall.{Anything};
-ghost use Rattle.boot_model.specs.MachineFacts.{HoldRegisters};
-ghost use Rattle.boot_model.specs.PeiMachine.{Frame};
+ghost use Rattle.store_model.specs.{Service.Present, StoreCall.Anything};
 ghost use Rattle.pei_core.specs.Taken.{Acts, ActsAlways, ChangedNone, Reads};
 
 use crate::taken::Taken;

@@ -1,8 +1,7 @@
 // The move to permanent memory.
 ghost use Rattle.boot_io.specs.Halted.{HaltsAfter};
 ghost use Rattle.mod_catalog.specs.declared.catalogue.Catalog.{Catalog as OfCatalog};
-ghost use Rattle.store_model.specs.Service.{Present};
-ghost use Rattle.store_model.specs.StoreCall.{Anything, IsDue};
+ghost use Rattle.store_model.specs.{Service.Present, StoreCall.Anything, StoreCall.IsDue};
 ghost use Rattle.pei_core.specs.Parts.{InstallsMemory, MovesMemory, StepsIn};
 ghost use Rattle.pei_core.specs.Standing.{KeepsFor, last_start};
 

@@ -2,11 +2,9 @@
 ghost use Rattle.std.specs.Prelude.{◌≡◌, ◌<◌, IfSome};
 ghost use Rattle.act_code.specs.declared.action.Action.TheVariants as A;
 ghost use Rattle.boot_model.specs.PeiAction as P;
-ghost use Rattle.store_model.specs.StateFacts.{IsNumberOf};
-ghost use Rattle.store_model.specs.Service.{Present};
+ghost use Rattle.store_model.specs.{StateFacts.IsNumberOf, Service.Present};
 ghost use Rattle.boot_model.specs.MachineFacts.{HoldRegisters, IsModuleNumber};
-ghost use Rattle.pei_core.specs.Needs.{IsArgument};
-ghost use Rattle.pei_core.specs.Taken.{Acts, ChangedNone};
+ghost use Rattle.pei_core.specs.{Needs.IsArgument, Taken.Acts, Taken.ChangedNone};
 
 use crate::address::address;
 use crate::taken::Taken;

@@ -1,7 +1,6 @@
 // The action that registers notifications.
 ghost use Rattle.act_code.specs.declared.action.Action.TheVariants as A;
-ghost use Rattle.store_model.specs.Service.{Present};
-ghost use Rattle.store_model.specs.StoreCall.{AreFew};
+ghost use Rattle.store_model.specs.{Service.Present, StoreCall.AreFew};
 ghost use Rattle.boot_model.specs.MachineFacts.{HoldRegisters};
 ghost use Rattle.pei_core.specs.Taken.{Acts, ChangedNone};
 

@@ -1,10 +1,7 @@
 //! The core over a store.
 ghost use Rattle.std.specs.Prelude.{◌≡◌, ◌≤◌, ◌+◌, ◌-◌, ◌^◌, min, ℕ, Some, None, IfOk, IsTrue, length, is_some, option_map, true};
-ghost use Rattle.boot_io.specs.Halted.{HaltsAfter};
-ghost use Rattle.boot_io.specs.Sink.{SinkFaultsAfter};
-ghost use Rattle.mod_catalog.specs.Parts.{part_at};
-ghost use Rattle.mod_catalog.specs.WellFormed.{IsWellFormed};
-ghost use Rattle.mod_catalog.specs.declared.catalogue.Catalog.{Catalog as OfCatalog};
+ghost use Rattle.boot_io.specs.{Halted.HaltsAfter, Sink.SinkFaultsAfter};
+ghost use Rattle.mod_catalog.specs.{Parts.part_at, WellFormed.IsWellFormed, declared.catalogue.Catalog.Catalog as OfCatalog};
 ghost use Rattle.pi_base.specs.declared.phase.Phase.TheVariants.{Pei as InPei};
 ghost use Rattle.boot_model.specs.PeiMachine.{PeiMachine};
 ghost use Rattle.boot_model.specs.PeimState.{ArePeimStates, awaits_start, peim_state};

@@ -1,10 +1,8 @@
 // Actions on pools, and reading memory.
 ghost use Rattle.std.specs.Prelude.{◌≤◌, Ok};
 ghost use Rattle.act_code.specs.declared.action.Action.TheVariants as A;
-ghost use Rattle.store_model.specs.Service.{Present};
-ghost use Rattle.store_model.specs.StoreCall.{Anything};
-ghost use Rattle.boot_model.specs.MachineFacts.{HoldRegisters};
-ghost use Rattle.boot_model.specs.PeiMachine.{Frame};
+ghost use Rattle.store_model.specs.{Service.Present, StoreCall.Anything};
+ghost use Rattle.boot_model.specs.{MachineFacts.HoldRegisters, PeiMachine.Frame};
 ghost use Rattle.pei_core.specs.Taken.{Acts, ActsAlways, ChangedNone, Reads};
 
 use crate::address::address;

@@ -1,10 +1,8 @@
 // Actions on PPIs.
 ghost use Rattle.std.specs.Prelude.{Ok};
 ghost use Rattle.act_code.specs.declared.action.Action.TheVariants as A;
-ghost use Rattle.store_model.specs.Service.{Present};
-ghost use Rattle.store_model.specs.StoreCall.{Anything, AreFew};
-ghost use Rattle.boot_model.specs.MachineFacts.{HoldRegisters};
-ghost use Rattle.boot_model.specs.PeiMachine.{Frame};
+ghost use Rattle.store_model.specs.{Service.Present, StoreCall.Anything, StoreCall.AreFew};
+ghost use Rattle.boot_model.specs.{MachineFacts.HoldRegisters, PeiMachine.Frame};
 ghost use Rattle.pei_core.specs.Taken.{Acts, Changed, ChangedNone, Reads};
 
 use crate::descriptors::{descriptors_in, two_descriptors};

@@ -2,8 +2,7 @@
 ghost use Rattle.std.specs.Prelude.{◌≡◌, []};
 ghost use Rattle.boot_io.specs.Halted.{HaltsAfter};
 ghost use Rattle.boot_model.specs.PeiMachine.{PeiMachine};
-ghost use Rattle.pei_core.specs.Cores.{with_notification};
-ghost use Rattle.pei_core.specs.Parts.{PopsPair, StepsIn};
+ghost use Rattle.pei_core.specs.{Cores.with_notification, Parts.PopsPair, Parts.StepsIn};
 ghost use Rattle.pei_core.specs.Standing.{KeepsFor, StandsFor, last_start};
 
 use crate::core_state::Core;

@@ -2,11 +2,9 @@
 ghost use Rattle.std.specs.Prelude.{◌≡◌, ◌≤◌, ◌+◌, length};
 ghost use Rattle.mod_catalog.specs.WellFormed.{IsWellFormed};
 ghost use Rattle.store_model.specs.Service.{Present, OfEach};
-ghost use Rattle.phase_parts.specs.Known.{AreKnown};
-ghost use Rattle.phase_parts.specs.Reported.{AreDescs, IsWithReports};
+ghost use Rattle.phase_parts.specs.{Known.AreKnown, Reported.AreDescs, Reported.IsWithReports};
 ghost use Rattle.pei_core.specs.CoreCall.{last_volumes};
-ghost use Rattle.boot_model.specs.Text.{text_of};
-ghost use Rattle.boot_model.specs.PeiStep.{report_lines};
+ghost use Rattle.boot_model.specs.{Text.text_of, PeiStep.report_lines};
 ghost use Rattle.boot_io.specs.Sink.{Puts, SinkFaultsAfter};
 
 use boot_io::{Sink, SinkFault};

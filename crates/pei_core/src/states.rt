@@ -1,7 +1,6 @@
 // How far each module has come.
 ghost use Rattle.std.specs.Prelude.{◌≡◌, ◌<◌, length, IfOk, replicate};
-ghost use Rattle.boot_model.specs.PeimState.{state_at};
-ghost use Rattle.boot_model.specs.declared.peim_state.PeimState.TheVariants.{NotDispatched};
+ghost use Rattle.boot_model.specs.{PeimState.state_at, declared.peim_state.PeimState.TheVariants.NotDispatched};
 ghost use Rattle.pei_core.specs.Cores as C;
 
 use crate::core_state::Core;

@@ -1,10 +1,8 @@
 -- The parts of the order so far that await their second start, and one more.
 use Rattle.std.proofs.Common.{◌≡◌, ◌<◌, ◌+◌, ℕ, Bool, true, false, ◌||◌, ◌&&◌, ◌==◌, List, [], ◌∷◌, get_or, take, length, arith, refl, sym, ap, ◌∙◌}
-use Rattle.std.proofs.lemmas.Bool.Decides.{nat_tests}
-use Rattle.std.proofs.lemmas.List.{take_more}
+use Rattle.std.proofs.{lemmas.Bool.Decides.nat_tests, lemmas.List.take_more}
 use Rattle.mod_catalog.specs.Parts.{has_number}
-use Rattle.boot_model.specs.PeimState.{state_at}
-use Rattle.boot_model.specs.declared.peim_state.PeimState.{PeimState}
+use Rattle.boot_model.specs.{PeimState.state_at, declared.peim_state.PeimState.PeimState}
 use Rattle.pei_dispatch.specs.View.{awaits_again, awaits_at}
 use Rattle.pei_dispatch.proofs.Numbers.{has_append}
 

@@ -1,27 +1,14 @@
 -- An index is told of one GUID more; and what the queue shows behind all that an event changed.
-use Rattle.std.proofs.Common.{◌≡◌, ℕ, zero, suc, ◌+◌, ◌≤◌, ◌<◌, get_or, take, Bool, true, false, ◌||◌, ◌&&◌, cond, List, [], ◌∷◌, ◌++◌, length, Option, Some, None, arith, refl, ap, sym, subst, ◌∙◌, inl, inr, append_assoc}
-use Rattle.std.specs.Prelude.{◌⊎◌, filter, sum_by, slice_get, unwrap_or, IfSome}
-use Rattle.std.specs.Option.{option_to_list}
-use Rattle.std.proofs.lemmas.List.{append-nil}
-use Rattle.std.proofs.lemmas.List.Sums.{sum_by_push}
-use Rattle.std.proofs.lemmas.Slice.Eq.{bytes_eq-Decides}
-use Rattle.pi_base.specs.declared.guid.Guid.{Guid}
-use Rattle.pi_base.specs.declared.phase.Phase.{Phase}
-use Rattle.pi_base.specs.Guids.{same_guid}
-use Rattle.pi_base.specs.Lists.{Each}
-use Rattle.pi_base.specs.GuidMap.{value_of}
-use Rattle.mod_catalog.specs.declared.catalogue.Catalog.{Catalog}
-use Rattle.mod_catalog.specs.Parts.{has_number}
+use Rattle.std.proofs.Common.{◌≡◌, ℕ, zero, suc, ◌+◌, ◌≤◌, ◌<◌, get_or, take, Bool, true, false, ◌||◌, ◌&&◌, cond, List, [], ◌∷◌, ◌++◌, length, Option, Some, None, arith, refl, ap, sym, subst, ◌∙◌, inl, inr, append_assoc, ◌⊎◌, filter, sum_by, slice_get, unwrap_or, IfSome, option_to_list, append-nil}
+use Rattle.std.proofs.{lemmas.List.Sums.sum_by_push, lemmas.Slice.Eq.bytes_eq-Decides}
+use Rattle.pi_base.specs.{declared.guid.Guid.Guid, declared.phase.Phase.Phase, Guids.same_guid, Lists.Each, GuidMap.value_of}
+use Rattle.mod_catalog.specs.{declared.catalogue.Catalog.Catalog, Parts.has_number}
 use Rattle.boot_model.specs.EvaluationBound.{each_once, part_pushes, pei_asked}
 use Rattle.boot_model.specs.PeiMachine.{PeiMachine}
 use Rattle.boot_laws.specs.ChangedGuids.{is_among}
-use Rattle.wait_index.specs.declared.index.WaitIndex.{WaitIndex}
-use Rattle.wait_index.specs.declared.standing.Standing.{Standing}
+use Rattle.wait_index.specs.{declared.index.WaitIndex.WaitIndex, declared.standing.Standing.Standing, Places.standing_of, Places.unknown}
 use Rattle.wait_index.specs.Index.{IsIndex, IsKnown, IsSet, order_in, has_in, owed, asked}
-use Rattle.wait_index.specs.Places.{standing_of, unknown}
-use Rattle.pei_dispatch.specs.declared.queue.PeiQueue.{PeiQueue}
-use Rattle.pei_dispatch.specs.Noted.{AreKnown, IsNoted}
-use Rattle.pei_dispatch.specs.Queue.{OwesFor, Shows}
+use Rattle.pei_dispatch.specs.{declared.queue.PeiQueue.PeiQueue, Noted.AreKnown, Noted.IsNoted, Queue.OwesFor, Queue.Shows}
 use Rattle.pei_dispatch.specs.View.{View, IsEventOf, event_guids, with_guids}
 use Rattle.pei_dispatch.proofs.GuidLists.{firsts_more, among_append}
 

@@ -1,6 +1,5 @@
 -- Where a part stands in the order.
-use Rattle.std.proofs.Common.{◌≡◌, ℕ, zero, suc, ◌+◌, ◌<◌, length, Bool, true, false, ◌||◌, cond, List, [], ◌∷◌, Some, arith, refl, ap, sym, ◌∙◌, inl, inr}
-use Rattle.std.specs.Prelude.{◌==◌, slice_get}
+use Rattle.std.proofs.Common.{◌≡◌, ℕ, zero, suc, ◌+◌, ◌<◌, length, Bool, true, false, ◌||◌, cond, List, [], ◌∷◌, Some, arith, refl, ap, sym, ◌∙◌, inl, inr, ◌==◌, slice_get}
 use Rattle.std.proofs.lemmas.Bool.Decides.{eqb_tells}
 use Rattle.boot_model.specs.PeiChoice.{cursor_behind}
 use Rattle.mod_catalog.specs.Parts.{has_number}

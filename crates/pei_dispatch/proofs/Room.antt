@@ -1,11 +1,8 @@
 -- One volume more in the PEI order, and that there is room for it: volumes that differ have no more parts than there are modules.
-use Rattle.std.proofs.Common.{◌≡◌, ℕ, ◌≤◌, List, [], ◌∷◌, ◌++◌, length, sym, ap, ◌∙◌, arith, length-append, append_assoc}
-use Rattle.std.proofs.lemmas.List.{append-nil}
-use Rattle.std.specs.Prelude.{flat_map}
+use Rattle.std.proofs.Common.{◌≡◌, ℕ, ◌≤◌, List, [], ◌∷◌, ◌++◌, length, sym, ap, ◌∙◌, arith, length-append, append_assoc, append-nil, flat_map}
 use Rattle.mod_catalog.specs.declared.catalogue.Catalog.{Catalog}
 use Rattle.boot_laws.specs.PeiOrder.{OrderIsOfModules}
-use Rattle.boot_model.specs.Licence.{AllDiffer}
-use Rattle.boot_model.specs.PeiChoice.{volume_order, pei_order}
+use Rattle.boot_model.specs.{Licence.AllDiffer, PeiChoice.volume_order, PeiChoice.pei_order}
 
 pub order_more : (f : ℕ → List ℕ) (xs : List ℕ) (x : ℕ) → flat_map f (xs ++ x ∷ []) ≡ flat_map f xs ++ f x
 order_more f [] x = append-nil (f x)

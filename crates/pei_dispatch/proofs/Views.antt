@@ -1,25 +1,15 @@
 -- What the queue shows of the machine, behind each of its calls.
-use Rattle.std.proofs.Common.{◌≡◌, ℕ, Bool, true, false, ◌||◌, ◌&&◌, List, [], ◌∷◌, ◌++◌, Some, refl, ap, sym, subst, ◌∙◌, inl, inr, append_assoc}
-use Rattle.std.specs.Prelude.{◌==◌, ◌⊎◌, not, slice_get}
+use Rattle.std.proofs.Common.{◌≡◌, ℕ, Bool, true, false, ◌||◌, ◌&&◌, List, [], ◌∷◌, ◌++◌, Some, refl, ap, sym, subst, ◌∙◌, inl, inr, append_assoc, ◌==◌, ◌⊎◌, not, slice_get}
 use Rattle.std.proofs.lemmas.Bool.Decides.{eqb_tells}
-use Rattle.pi_base.specs.declared.guid.Guid.{Guid}
-use Rattle.pi_base.specs.declared.phase.Phase.{Phase}
-use Rattle.pi_base.specs.GuidMap.{value_of}
-use Rattle.mod_catalog.specs.declared.catalogue.Catalog.{Catalog}
-use Rattle.mod_catalog.specs.Parts.{has_number, part_at}
+use Rattle.pi_base.specs.{declared.guid.Guid.Guid, declared.phase.Phase.Phase, GuidMap.value_of}
+use Rattle.mod_catalog.specs.{declared.catalogue.Catalog.Catalog, Parts.has_number, Parts.part_at}
 use Rattle.boot_laws.specs.PeiOrder.{OrderIsOfModules}
-use Rattle.boot_model.specs.Licence.{AllDiffer}
-use Rattle.boot_model.specs.PeiChoice.{pei_order, volume_order}
-use Rattle.boot_model.specs.PeiMachine.{PeiMachine}
-use Rattle.wait_index.specs.declared.index.WaitIndex.{WaitIndex}
-use Rattle.wait_index.specs.declared.installed.Installed.{Installed}
-use Rattle.wait_index.specs.declared.standing.Standing.{Standing}
+use Rattle.boot_model.specs.{Licence.AllDiffer, PeiChoice.pei_order, PeiChoice.volume_order, PeiMachine.PeiMachine}
+use Rattle.wait_index.specs.{declared.index.WaitIndex.WaitIndex, declared.installed.Installed.Installed}
+use Rattle.wait_index.specs.{declared.standing.Standing.Standing, Dispatch.StandsForPei, Installed.is_there, Places.standing_of}
 use Rattle.wait_index.specs.Change as C
 use Rattle.wait_index.specs.Discovery.{HaveCome, IsNew, opens}
-use Rattle.wait_index.specs.Dispatch.{StandsForPei}
 use Rattle.wait_index.specs.Index.{IsIndex, IsSame, Changes, order_in}
-use Rattle.wait_index.specs.Installed.{is_there}
-use Rattle.wait_index.specs.Places.{standing_of}
 use Rattle.pei_dispatch.specs.declared.queue.PeiQueue.{PeiQueue}
 use Rattle.pei_dispatch.specs.Queue.{Shows, IsInOrder, AreNew, HasStarted}
 use Rattle.pei_dispatch.specs.View.{View, view_of, is_number, parts_of, with_again, with_start, with_volumes}

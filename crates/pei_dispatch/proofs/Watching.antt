@@ -1,22 +1,16 @@
 -- What is known of a run that was watched.
-use Rattle.std.proofs.Common.{◌≡◌, ℕ, Bool, List, Option, Ok, Err, sym, ap, ◌∙◌, subst}
+use Rattle.std.proofs.Common.{◌≡◌, ℕ, Bool, List, Option, Ok, Err, sym, ap, ◌∙◌, subst, Result}
 use Rattle.boot_io.specs.declared.halt.Halt.{Halt}
 use Rattle.mod_catalog.specs.declared.catalogue.Catalog.{Catalog}
 use Rattle.store_model.specs.StoreState.{StoreState}
-use Rattle.boot_model.specs.declared.phase_end.PeiEnd.{PeiEnd}
-use Rattle.boot_model.specs.PeiMachine.{PeiMachine}
+use Rattle.boot_model.specs.{declared.phase_end.PeiEnd.PeiEnd, PeiMachine.PeiMachine, PeiStep.started}
 use Rattle.boot_laws.specs.declared.choice.Reached.{Reached}
 use Rattle.boot_laws.specs.declared.choice.Reached.TheVariants as R
-use Rattle.pei_dispatch.specs.declared.answer.Step.{Step}
+use Rattle.pei_dispatch.specs.{declared.answer.Step.Step, declared.queue.PeiQueue.PeiQueue}
 use Rattle.pei_dispatch.specs.declared.answer.Turn.TheVariants as T
-use Rattle.pei_dispatch.specs.declared.queue.PeiQueue.{PeiQueue}
-use Rattle.pei_core.specs.declared.pei.Pei.{Pei}
-use Rattle.pei_core.specs.CoreCall.{CoreCall}
-use Rattle.pei_dispatch.specs.Choices.{RunsBy, TurnsBy}
+use Rattle.pei_core.specs.{declared.pei.Pei.Pei, CoreCall.CoreCall}
+use Rattle.pei_dispatch.specs.Choices.{RunsBy, TurnsBy, IsTaken}
 use Rattle.pei_dispatch.specs.declared.answer.Step.TheVariants.{Acted, Started}
-use Rattle.boot_model.specs.PeiStep.{started}
-use Rattle.std.proofs.Common.{Result}
-use Rattle.pei_dispatch.specs.Choices.{IsTaken}
 use Rattle.pei_dispatch.specs.Watched.{KnowsOf, WasStep}
 use Rattle.pei_dispatch.proofs.ChosenWays.{IsOnWay, comes_on, way_barred, way_over, way_reached}
 

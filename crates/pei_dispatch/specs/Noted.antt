@@ -1,8 +1,7 @@
 -- An index is told which GUIDs are installed, one after the other.
 -- Own.
 use Rattle.std.specs.Prelude.{◌≡◌, ℕ, ◌+◌, ◌≤◌, Bool, true, false, List, ◌++◌, sum_by, Some}
-use Rattle.pi_base.specs.declared.guid.Guid.{Guid}
-use Rattle.pi_base.specs.GuidMap.{value_of}
+use Rattle.pi_base.specs.{declared.guid.Guid.Guid, GuidMap.value_of}
 use Rattle.mod_catalog.specs.declared.catalogue.Catalog.{Catalog}
 use Rattle.boot_model.specs.EvaluationBound.{each_once}
 use Rattle.boot_laws.specs.ChangedGuids.{is_among}

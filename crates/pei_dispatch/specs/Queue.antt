@@ -1,16 +1,10 @@
 -- The parts of PEI as they are kept, in the index of those that wait, and the cursor.
 -- Own.
 use Rattle.std.specs.Prelude.{◌≡◌, ℕ, ◌+◌, ◌≤◌, Bool, true, not, ◌&&◌, List, ◌++◌, sum_by, Some}
-use Rattle.pi_base.specs.declared.guid.Guid.{Guid}
-use Rattle.pi_base.specs.declared.phase.Phase.TheVariants.{Pei}
-use Rattle.pi_base.specs.GuidMap.{value_of}
-use Rattle.mod_catalog.specs.declared.catalogue.Catalog.{Catalog}
-use Rattle.mod_catalog.specs.Parts.{has_number}
-use Rattle.boot_model.specs.EvaluationBound.{each_once, pei_asked}
-use Rattle.boot_model.specs.Licence.{AllDiffer}
-use Rattle.boot_model.specs.PeiChoice.{pei_order}
-use Rattle.boot_model.specs.PeiMachine.{PeiMachine}
-use Rattle.boot_model.specs.declared.peim_state.PeimState.{PeimState}
+use Rattle.pi_base.specs.{declared.guid.Guid.Guid, declared.phase.Phase.TheVariants.Pei, GuidMap.value_of}
+use Rattle.mod_catalog.specs.{declared.catalogue.Catalog.Catalog, Parts.has_number}
+use Rattle.boot_model.specs.{EvaluationBound.each_once, EvaluationBound.pei_asked, Licence.AllDiffer, PeiChoice.pei_order}
+use Rattle.boot_model.specs.{PeiMachine.PeiMachine, declared.peim_state.PeimState.PeimState}
 use Rattle.wait_index.specs.Index.{IsIndex, order_in, waits_in, is_open_in, again_in, has_in, owed}
 use Rattle.pei_dispatch.specs.declared.queue.PeiQueue.{PeiQueue}
 use Rattle.pei_dispatch.specs.View.{View, awaits_again, first_view, view_of, parts_of}

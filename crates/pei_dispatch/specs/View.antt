@@ -1,16 +1,10 @@
 -- What has to be known of a machine of PEI so that its next PEIM can be told: the volumes that were reported, the parts that have started and those that may start again, and the GUIDs of the installed PPIs.
 -- PI 1.8, volume 1, "PEI Dispatcher"; the record is own.
-use Rattle.std.specs.Prelude.{◌≡◌, ℕ, Bool, true, false, ◌||◌, ◌&&◌, ◌==◌, not, List, [], ◌++◌, Option, IfSome}
-use Rattle.std.specs.Option.{option_to_list}
-use Rattle.pi_base.specs.declared.guid.Guid.{Guid}
-use Rattle.pi_base.specs.Lists.{Each}
-use Rattle.mod_catalog.specs.declared.catalogue.Catalog.{Catalog}
-use Rattle.mod_catalog.specs.Parts.{has_number}
+use Rattle.std.specs.Prelude.{◌≡◌, ℕ, Bool, true, false, ◌||◌, ◌&&◌, ◌==◌, not, List, [], ◌++◌, Option, IfSome, option_to_list}
+use Rattle.pi_base.specs.{declared.guid.Guid.Guid, Lists.Each}
+use Rattle.mod_catalog.specs.{declared.catalogue.Catalog.Catalog, Parts.has_number}
 use Rattle.store_model.specs.Service.Install.{has_ppi}
-use Rattle.boot_model.specs.Eligible.{may_start_again}
-use Rattle.boot_model.specs.PeiChoice.{pei_order}
-use Rattle.boot_model.specs.PeiMachine.{PeiMachine}
-use Rattle.boot_model.specs.PeimState.{state_at}
+use Rattle.boot_model.specs.{Eligible.may_start_again, PeiChoice.pei_order, PeiMachine.PeiMachine, PeimState.state_at}
 use Rattle.boot_model.specs.declared.peim_state.PeimState.{PeimState}
 use Rattle.boot_model.specs.declared.peim_state.PeimState.TheVariants.{NotDispatched, Dispatched, RegisteredForShadow, Done}
 use Rattle.boot_laws.specs.ChangedGuids.{is_among}

@@ -4,17 +4,11 @@ use Rattle.std.specs.Prelude.{◌≡◌, ℕ, Bool, List, [], ◌∷◌, Option,
 use Rattle.boot_io.specs.declared.halt.Halt.{Halt}
 use Rattle.mod_catalog.specs.declared.catalogue.Catalog.{Catalog}
 use Rattle.store_model.specs.StoreState.{Board, StoreState}
-use Rattle.boot_model.specs.declared.phase_end.PeiEnd.{PeiEnd}
-use Rattle.boot_model.specs.PeiMachine.{PeiMachine}
-use Rattle.boot_model.specs.PeiRun.{pei_opening}
-use Rattle.boot_model.specs.PeiStep.{started}
+use Rattle.boot_model.specs.{declared.phase_end.PeiEnd.PeiEnd, PeiMachine.PeiMachine, PeiRun.pei_opening, PeiStep.started}
 use Rattle.boot_laws.specs.declared.choice.Reached.{Reached}
 use Rattle.boot_laws.specs.declared.choice.Reached.TheVariants as R
-use Rattle.pei_core.specs.Standing.{IsFor, StandsFor}
-use Rattle.pei_core.specs.Steps.{IsEvent, IsIdle}
-use Rattle.pei_core.specs.CoreCall.{CoreCall}
-use Rattle.pei_dispatch.specs.declared.answer.Step.{Step}
-use Rattle.pei_dispatch.specs.declared.answer.Step.TheVariants.{Acted, Started}
+use Rattle.pei_core.specs.{Standing.IsFor, Standing.StandsFor, Steps.IsEvent, Steps.IsIdle, CoreCall.CoreCall}
+use Rattle.pei_dispatch.specs.{declared.answer.Step.Step, declared.answer.Step.TheVariants.Acted, declared.answer.Step.TheVariants.Started}
 use Rattle.pei_dispatch.specs.Choices.{IsOwnStep, LetsPeims, NamesPeims, RunsBy}
 
 -- what a step was, whoever chose

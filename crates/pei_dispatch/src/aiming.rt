@@ -2,8 +2,7 @@
 ghost use Rattle.std.specs.Prelude.{◌≡◌, ◌≤◌, length};
 ghost use Rattle.mod_catalog.specs.declared.catalogue.Catalog.{Catalog as OfCatalog};
 ghost use Rattle.pei_dispatch.specs.Queue.{Shows, owed_by, parts_in};
-ghost use Rattle.pei_dispatch.specs.View.{View};
-ghost use Rattle.pei_dispatch.specs.Choices.{IsPlaceFor};
+ghost use Rattle.pei_dispatch.specs.{View.View, Choices.IsPlaceFor};
 
 use crate::PeiQueue;
 

@@ -1,8 +1,6 @@
 // Which GUIDs are installed changes.
-ghost use Rattle.std.specs.Prelude.{◌≡◌, [], List, Bool, IfSome, true};
-ghost use Rattle.std.specs.Option.{option_to_list};
-ghost use Rattle.pi_base.specs.Lists.{Each};
-ghost use Rattle.pi_base.specs.declared.guid.Guid.{Guid as OfGuid};
+ghost use Rattle.std.specs.Prelude.{◌≡◌, [], List, Bool, IfSome, true, option_to_list};
+ghost use Rattle.pi_base.specs.{Lists.Each, declared.guid.Guid.Guid as OfGuid};
 ghost use Rattle.mod_catalog.specs.declared.catalogue.Catalog.{Catalog as OfCatalog};
 ghost use Rattle.store_model.specs.Service.Install.{has_ppi};
 ghost use Rattle.boot_model.specs.PeiMachine.{PeiMachine};

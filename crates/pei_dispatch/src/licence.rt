@@ -1,8 +1,6 @@
 //! By which licence a PEIM starts.
 ghost use Rattle.std.specs.Prelude.{◌≡◌, if◌then◌else◌};
-ghost use Rattle.boot_model.specs.Eligible.{licence_by};
-ghost use Rattle.boot_model.specs.PeimState.{has_started};
-ghost use Rattle.boot_model.specs.declared.licence.Licence.TheVariants.{Shadow};
+ghost use Rattle.boot_model.specs.{Eligible.licence_by, PeimState.has_started, declared.licence.Licence.TheVariants.Shadow};
 
 use boot_model::{Licence, PeimState};
 use mod_catalog::{Part, PartExpr};

@@ -1,8 +1,6 @@
 //! The parts of PEI that wait, and the next PEIM.
 ghost use Rattle.std.specs.Prelude.{◌≡◌, ◌≤◌, ◌+◌, ◌∷◌, [], true, false, Some, IfOk, length, slice_get};
-ghost use Rattle.mod_catalog.specs.declared.catalogue.Catalog.{Catalog as OfCatalog};
-ghost use Rattle.mod_catalog.specs.Parts.{has_number};
-ghost use Rattle.mod_catalog.specs.WellFormed.{IsWellFormed};
+ghost use Rattle.mod_catalog.specs.{declared.catalogue.Catalog.Catalog as OfCatalog, Parts.has_number, WellFormed.IsWellFormed};
 ghost use Rattle.boot_model.specs.PeiChoice.{cursor_behind, next_peim, pei_order, volume_order};
 ghost use Rattle.boot_model.specs.PeiMachine.{PeiMachine};
 ghost use Rattle.pei_dispatch.specs.Queue.{AreNew, HasStarted, HasStartedBy, HaveStarted, IsInOrder, IsNewQueue, IsQueueOf, Shows, ShowsBehind, owed_by, parts_in};

@@ -4,11 +4,8 @@ ghost use Rattle.boot_io.specs.Halted.{HaltsAfter};
 ghost use Rattle.boot_model.specs.PeiRun.{pei_opening};
 ghost use Rattle.mod_catalog.specs.WellFormed.{IsWellFormed};
 ghost use Rattle.store_model.specs.StoreState.{Board};
-ghost use Rattle.pei_dispatch.specs.Queue.{IsNewQueue};
+ghost use Rattle.pei_dispatch.specs.{Queue.IsNewQueue, Choices.EvaluatesFewByChoice, Ends.IsWantOfStore, Watched.RunsWatched};
 ghost use Rattle.pei_core.specs.Standing.{StandsFor, IsFor};
-ghost use Rattle.pei_dispatch.specs.Choices.{EvaluatesFewByChoice};
-ghost use Rattle.pei_dispatch.specs.Ends.{IsWantOfStore};
-ghost use Rattle.pei_dispatch.specs.Watched.{RunsWatched};
 
 use crate::answer::Turn;
 use crate::run::bound;

@@ -1,22 +1,16 @@
 -- A descriptor's GUID is there, and what is read is what the state says.
-use Rattle.std.proofs.Common.{◌≡◌, ◌⊎◌, ◌≤◌, ◌<◌, ◌+◌, ◌-◌, ◌^◌, ℕ, Bool, true, false, cond, List, [], ◌∷◌, length, take, drop, Option, Some, None, ap, sym, refl, ◌∙◌, arith, subst}
-use Rattle.std.specs.Prelude.{is_some, option_map, unwrap_or}
+use Rattle.std.proofs.Common.{◌≡◌, ◌⊎◌, ◌≤◌, ◌<◌, ◌+◌, ◌-◌, ◌^◌, ℕ, Bool, true, false, cond, List, [], ◌∷◌, length, take, drop, Option, Some, None, ap, sym, refl, ◌∙◌, arith, subst, is_some, option_map, unwrap_or}
 use Rattle.std.proofs.lemmas.Bool.Decides.{nat_tests}
 use Rattle.pi_base.specs.Guids as G
 use Rattle.phys_mem.specs.Region.{is_inside}
-use Rattle.store_model.specs.declared.state.Body.{Body}
-use Rattle.store_model.specs.declared.state.Body.TheVariants.{Descriptor}
-use Rattle.store_model.specs.declared.state.DescriptorBody.{DescriptorBody}
-use Rattle.store_model.specs.declared.store_handle.DescKind.TheVariants.{Dispatch}
+use Rattle.store_model.specs.{declared.state.Body.Body, declared.state.Body.TheVariants.Descriptor}
+use Rattle.store_model.specs.{declared.state.DescriptorBody.DescriptorBody, declared.store_handle.DescKind.TheVariants.Dispatch}
 use Rattle.store_model.specs.StoreState.{StoreState, body_at, descriptor_len}
-use Rattle.store_model.specs.StateFacts.{IsGuidOf, IsStoreState}
-use Rattle.store_model.specs.HeapImage.{guid_address, heap_image}
+use Rattle.store_model.specs.{StateFacts.IsGuidOf, StateFacts.IsStoreState, HeapImage.guid_address, HeapImage.heap_image}
 use Rattle.store_model.specs.MemoryReading.{rom_bytes}
 use Rattle.store_model.specs.Service.Descriptor.{descriptor_in, guid_at, kind_at, no_guid, number_at}
-use Rattle.store_laws.proofs.Fits.{body_is_of}
-use Rattle.store_laws.specs.Bodies.{BodiesAreInside}
-use Rattle.store_laws.specs.Descriptors.{guid_read}
-use Rattle.store_laws.proofs.Facts.{has_room, heaps_are_low}
+use Rattle.store_laws.proofs.{Fits.body_is_of, Facts.has_room, Facts.heaps_are_low}
+use Rattle.store_laws.specs.{Bodies.BodiesAreInside, Descriptors.guid_read}
 use Rattle.pei_heap.specs.DescRead.{HasGuidAt}
 
 has_by : (s : StoreState) (place : ℕ) (d : DescriptorBody) (stands : Option ℕ) → d.stands ≡ stands → place + descriptor_len stands ≤ s.len → IsGuidOf s.board d stands → HasGuidAt s (guid_address s.base place stands)

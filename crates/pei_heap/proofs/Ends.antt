@@ -1,18 +1,12 @@
 -- The ends of the lists with an entry more.
-use Rattle.std.proofs.Common.{◌≡◌, ◌+◌, ◌<◌, ◌^◌, ℕ, suc, List, [], ◌∷◌, ◌++◌, length, ap, sym, refl, ◌∙◌, arith, length-append}
-use Rattle.std.specs.Prelude.{map}
-use Rattle.store_model.specs.declared.state.Entry.{Entry}
-use Rattle.store_model.specs.declared.store_handle.EntryList.{EntryList}
+use Rattle.std.proofs.Common.{◌≡◌, ◌+◌, ◌<◌, ◌^◌, ℕ, suc, List, [], ◌∷◌, ◌++◌, length, ap, sym, refl, ◌∙◌, arith, length-append, map}
+use Rattle.store_model.specs.{declared.state.Entry.Entry, declared.store_handle.EntryList.EntryList}
 use Rattle.store_model.specs.declared.store_handle.EntryList.TheVariants.{Ppis, Callbacks, Dispatches, Pendings}
-use Rattle.store_model.specs.StoreState.{StoreState, next_body}
-use Rattle.store_model.specs.StateFacts.{IsStoreState}
-use Rattle.store_model.specs.Service.Reading.{entry_told}
+use Rattle.store_model.specs.{StoreState.StoreState, StoreState.next_body, StateFacts.IsStoreState, Service.Reading.entry_told}
 use Rattle.store_laws.specs.Behind.{EntriesAreTold}
 use Rattle.store_laws.specs.Heads.{FirstIsPushed, ItemsArePushed, LastIsPushed, last_address}
 use Rattle.store_laws.specs.Items.{Item, first_address, items}
-use Rattle.pei_heap.specs.declared.links.entry.NewEntry.{NewEntry}
-use Rattle.pei_heap.specs.declared.links.heads.Heads.{Heads}
-use Rattle.pei_heap.specs.Linked.{AreEnds, AreHeads}
+use Rattle.pei_heap.specs.{declared.links.entry.NewEntry.NewEntry, declared.links.heads.Heads.Heads, Linked.AreEnds, Linked.AreHeads}
 use Rattle.pei_heap.specs.NewEntry.{first_of, second_of, with_entry, with_last_node}
 
 -- the item of the entry

@@ -1,23 +1,15 @@
 -- What an entry that is made names lies in the heap, and the state with it keeps the facts.
-use Rattle.std.proofs.Common.{◌≡◌, ◌≢◌, ◌≤◌, ◌<◌, ◌+◌, ◌^◌, ℕ, Option, ap, arith, subst, ◌∙◌}
-use Rattle.std.specs.Prelude.{option_map, unwrap_or}
-use Rattle.store_model.specs.declared.state.Body.{Body}
-use Rattle.store_model.specs.declared.state.Body.TheVariants.{Descriptor}
-use Rattle.store_model.specs.declared.state.DescriptorBody.{DescriptorBody}
-use Rattle.store_model.specs.declared.store_handle.DescKind.{DescKind}
+use Rattle.std.proofs.Common.{◌≡◌, ◌≢◌, ◌≤◌, ◌<◌, ◌+◌, ◌^◌, ℕ, Option, ap, arith, subst, ◌∙◌, option_map, unwrap_or}
+use Rattle.store_model.specs.{declared.state.Body.Body, declared.state.Body.TheVariants.Descriptor}
+use Rattle.store_model.specs.{declared.state.DescriptorBody.DescriptorBody, declared.store_handle.DescKind.DescKind}
 use Rattle.store_model.specs.declared.store_handle.DescKind.TheVariants.{Ppi, Callback, Dispatch}
-use Rattle.store_model.specs.declared.store_handle.EntryList.{EntryList}
+use Rattle.store_model.specs.{declared.store_handle.EntryList.EntryList, StoreState.StoreState}
 use Rattle.store_model.specs.declared.store_handle.EntryList.TheVariants.{Ppis, Callbacks, Dispatches, Pendings}
-use Rattle.store_model.specs.StoreState.{StoreState}
 use Rattle.store_model.specs.StateFacts.{IsDescriptorAt, IsStoreState}
-use Rattle.store_model.specs.Service.Descriptor.{descriptor_in, kind_at}
-use Rattle.store_model.specs.Service.Notify.{with_note_of}
-use Rattle.store_laws.specs.Bodies.{BodiesAreInside}
-use Rattle.store_laws.specs.Keeping.{IsWord}
-use Rattle.store_laws.specs.Steps.{StepsKeepFacts}
+use Rattle.store_model.specs.{Service.Descriptor.descriptor_in, Service.Descriptor.kind_at, Service.Notify.with_note_of}
+use Rattle.store_laws.specs.{Bodies.BodiesAreInside, Keeping.IsWord, Steps.StepsKeepFacts}
 use Rattle.store_laws.proofs.Facts.{has_room, heaps_are_low}
-use Rattle.pei_heap.specs.declared.links.entry.NewEntry.{NewEntry}
-use Rattle.pei_heap.specs.NewEntry.{IsReady, with_entry}
+use Rattle.pei_heap.specs.{declared.links.entry.NewEntry.NewEntry, NewEntry.IsReady, NewEntry.with_entry}
 
 low : (s : StoreState) (kind : DescKind) (place : ℕ) → BodiesAreInside → IsStoreState s → IsDescriptorAt s kind place → s.base + place < 2 ^ 64
 low s kind place law h d =

@@ -1,9 +1,6 @@
 -- Sixteen bytes are the same where both their numbers of eight bytes are.
-use Rattle.std.proofs.Common.{◌≡◌, ◌==◌, ◌∙◌, ◌+◌, ◌≤◌, ℕ, List, ◌++◌, length, take, drop, ap, ap₂, sym, arith, length-drop, Decides}
-use Rattle.std.specs.Prelude.{bytes_eq}
-use Rattle.std.proofs.lemmas.Bool.Decides.{Decides-eqb, same_from_decides}
-use Rattle.std.proofs.lemmas.List.{take-append-drop, take_all}
-use Rattle.std.proofs.lemmas.Slice.Eq.{bytes_eq-Decides}
+use Rattle.std.proofs.Common.{◌≡◌, ◌==◌, ◌∙◌, ◌+◌, ◌≤◌, ℕ, List, ◌++◌, length, take, drop, ap, ap₂, sym, arith, length-drop, Decides, bytes_eq, take-append-drop, take_all}
+use Rattle.std.proofs.{lemmas.Bool.Decides.Decides-eqb, lemmas.Bool.Decides.same_from_decides, lemmas.Slice.Eq.bytes_eq-Decides}
 use Rattle.pi_base.specs.Field.{AreBytes, SpellsWhatItReads, little_bytes, little_number}
 use Rattle.pi_base.proofs.FieldLaws.{AreBytes-drop}
 

@@ -1,24 +1,13 @@
 -- Whether a PPI is installed, by the bytes alone.
-use Rattle.std.proofs.Common.{◌≡◌, ◌-◌, ℕ, Bool, List, [], ◌∷◌, length, take, drop, Option, ap, sym, refl, ◌∙◌, arith}
-use Rattle.std.specs.Prelude.{map, unwrap_or}
+use Rattle.std.proofs.Common.{◌≡◌, ◌-◌, ℕ, Bool, List, [], ◌∷◌, length, take, drop, Option, ap, sym, refl, ◌∙◌, arith, map, unwrap_or}
 use Rattle.std.specs.List.{list_any}
 use Rattle.pi_base.specs.Guids.{same_guid}
-use Rattle.phys_mem.specs.Regions.{rom_region}
-use Rattle.phys_mem.specs.Region.{Region}
-use Rattle.phys_mem.specs.declared.memory.PhysMem.{PhysMem}
-use Rattle.phys_mem.specs.declared.rom.Rom.{Rom}
-use Rattle.store_model.specs.StoreState.{StoreState}
-use Rattle.store_model.specs.HeapImage.{heap_image}
-use Rattle.store_laws.specs.Accessors.{HasIsTold}
-use Rattle.store_laws.specs.Mapped.{HeapsAreRead, layout_of}
-use Rattle.store_laws.specs.Told.{Told, list_told}
+use Rattle.phys_mem.specs.{Regions.rom_region, Region.Region, declared.memory.PhysMem.PhysMem, declared.rom.Rom.Rom}
+use Rattle.store_model.specs.{StoreState.StoreState, HeapImage.heap_image}
+use Rattle.store_laws.specs.{Accessors.HasIsTold, Mapped.HeapsAreRead, Mapped.layout_of, Told.Told, Told.list_told}
 use Rattle.store_laws.proofs.Facts.{images_fill}
-use Rattle.pei_heap.specs.declared.heap.Heap.{Heap}
-use Rattle.pei_heap.specs.declared.links.heads.Heads.{Heads}
-use Rattle.pei_heap.specs.Has.{LinksHave, heap_bytes}
-use Rattle.pei_heap.specs.Linked.{IsLinked}
-use Rattle.pei_heap.proofs.Descriptors.{take_length}
-use Rattle.pei_heap.proofs.Volumes.{roms_by}
+use Rattle.pei_heap.specs.{declared.heap.Heap.Heap, declared.links.heads.Heads.Heads, Has.LinksHave, Has.heap_bytes, Linked.IsLinked}
+use Rattle.pei_heap.proofs.{Descriptors.take_length, Volumes.roms_by}
 
 same_rom : (a b : Rom) → rom_region a ≡ rom_region b → a ≡ b
 same_rom a b e =

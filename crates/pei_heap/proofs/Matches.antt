@@ -1,22 +1,13 @@
 -- The first pair of a sweep that fires.
-use Rattle.std.proofs.Common.{◌≡◌, ◌≤◌, ◌<◌, ◌+◌, ◌-◌, ◌++◌, ℕ, zero, suc, Bool, true, false, cond, List, [], ◌∷◌, length, drop, Option, Some, None, ap, sym, refl, ◌∙◌, arith, nat_le}
-use Rattle.std.specs.Prelude.{map, flat_map, slice_get, is_some}
+use Rattle.std.proofs.Common.{◌≡◌, ◌≤◌, ◌<◌, ◌+◌, ◌-◌, ◌++◌, ℕ, zero, suc, Bool, true, false, cond, List, [], ◌∷◌, length, drop, Option, Some, None, ap, sym, refl, ◌∙◌, arith, nat_le, map, flat_map, slice_get, is_some}
 use Rattle.std.proofs.lemmas.Bool.Decides.{nat_tests}
-use Rattle.pi_base.specs.declared.guid.Guid.{Guid}
-use Rattle.pi_base.specs.Guids.{same_guid}
-use Rattle.pi_base.specs.Lists.{numbers}
-use Rattle.store_model.specs.declared.state.Entry.{Entry}
-use Rattle.store_model.specs.declared.store_handle.Firing.{Firing}
-use Rattle.store_model.specs.declared.store_handle.Sweep.{Sweep}
-use Rattle.store_model.specs.StoreState.{StoreState}
-use Rattle.store_model.specs.Service.Descriptor.{guid_at, number_at}
+use Rattle.pi_base.specs.{declared.guid.Guid.Guid, Guids.same_guid, Lists.numbers}
+use Rattle.store_model.specs.{declared.state.Entry.Entry, declared.store_handle.Firing.Firing, declared.store_handle.Sweep.Sweep}
+use Rattle.store_model.specs.{StoreState.StoreState, Service.Descriptor.guid_at, Service.Descriptor.number_at}
 use Rattle.store_model.specs.Service.Sweep.{first_firing, firing_at, firing_of, next_match, pairs_left, pairs_with}
-use Rattle.store_laws.specs.Sweeps.{SweepsGoOn, standing}
+use Rattle.store_laws.specs.{Sweeps.SweepsGoOn, Sweeps.standing, Heads.last_address, Items.Item, Items.first_address}
 use Rattle.store_laws.proofs.Sweeps.{fires_at, found_here, misses}
-use Rattle.store_laws.specs.Heads.{last_address}
-use Rattle.store_laws.specs.Items.{Item, first_address}
-use Rattle.pei_heap.specs.declared.links.sweep.Match.{Match}
-use Rattle.pei_heap.specs.Matching.{IsMatchAt, IsRow}
+use Rattle.pei_heap.specs.{declared.links.sweep.Match.Match, Matching.IsMatchAt, Matching.IsRow}
 
 -- no callback is left
 pub no_row : (sweep : Sweep) (from ppi : ℕ) → sweep.note_to ≤ from → pairs_with sweep from ppi ≡ []

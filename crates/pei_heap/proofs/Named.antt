@@ -1,31 +1,16 @@
 -- The first PPI that names a descriptor, and memory where it names another.
-use Rattle.std.proofs.Common.{◌≡◌, ◌≤◌, ◌+◌, ◌==◌, ◌||◌, ℕ, zero, suc, Bool, true, false, cond, List, [], ◌∷◌, length, drop, ap, sym, refl, ◌∙◌, arith, subst}
-use Rattle.std.specs.Prelude.{map}
+use Rattle.std.proofs.Common.{◌≡◌, ◌≤◌, ◌+◌, ◌==◌, ◌||◌, ℕ, zero, suc, Bool, true, false, cond, List, [], ◌∷◌, length, drop, ap, sym, refl, ◌∙◌, arith, subst, map}
 use Rattle.std.specs.List.{list_any}
 use Rattle.pi_base.specs.Field.{little_bytes}
-use Rattle.phys_mem.specs.Region.{replaced}
-use Rattle.phys_mem.specs.declared.memory.PhysMem.{PhysMem}
-use Rattle.store_model.specs.declared.state.Entry.{Entry}
-use Rattle.store_model.specs.declared.store_handle.Desc.{Desc}
-use Rattle.store_model.specs.declared.store_handle.DescKind.TheVariants.{Ppi}
-use Rattle.store_model.specs.declared.store_handle.EntryList.TheVariants.{Ppis}
-use Rattle.store_model.specs.StoreState.{StoreState}
-use Rattle.store_model.specs.StateFacts.{IsDescOf, IsStoreState}
-use Rattle.store_model.specs.HeapImage.{heap_image}
-use Rattle.store_model.specs.Service.Descriptor.{descriptors}
+use Rattle.phys_mem.specs.{Region.replaced, declared.memory.PhysMem.PhysMem}
+use Rattle.store_model.specs.{declared.state.Entry.Entry, declared.store_handle.Desc.Desc, declared.store_handle.DescKind.TheVariants.Ppi}
+use Rattle.store_model.specs.{declared.store_handle.EntryList.TheVariants.Ppis, StoreState.StoreState}
+use Rattle.store_model.specs.{StateFacts.IsDescOf, StateFacts.IsStoreState, HeapImage.heap_image, Service.Descriptor.descriptors}
 use Rattle.store_model.specs.Service.Install.{place_of, renamed}
-use Rattle.store_laws.specs.Steps.{StepsKeepFacts}
-use Rattle.store_laws.specs.Chain.{NodesAreInside}
-use Rattle.store_laws.specs.Changes.{PpisAreRenamed}
-use Rattle.store_laws.specs.Heads.{EndsAreKept, PlacesAreKept}
-use Rattle.store_laws.specs.Items.{item_of, items}
-use Rattle.store_laws.specs.Mapped.{layout_of}
-use Rattle.pei_heap.specs.declared.heap.Heap.{Heap}
-use Rattle.pei_heap.specs.HeapMemory.{Holds}
-use Rattle.pei_heap.specs.declared.links.heads.Heads.{Heads}
-use Rattle.pei_heap.specs.declared.links.renaming.PpiFound.{PpiFound}
-use Rattle.pei_heap.specs.Linked.{IsLinked}
-use Rattle.pei_heap.specs.Replaced.{IsFirstNamed, with_renamed}
+use Rattle.store_laws.specs.{Steps.StepsKeepFacts, Chain.NodesAreInside, Changes.PpisAreRenamed, Heads.EndsAreKept, Heads.PlacesAreKept}
+use Rattle.store_laws.specs.{Items.item_of, Items.items, Mapped.layout_of}
+use Rattle.pei_heap.specs.{declared.heap.Heap.Heap, HeapMemory.Holds, declared.links.heads.Heads.Heads}
+use Rattle.pei_heap.specs.{declared.links.renaming.PpiFound.PpiFound, Linked.IsLinked, Replaced.IsFirstNamed, Replaced.with_renamed}
 
 pub installed_is : (place : ℕ) (xs : List Entry) → list_any (λ (x : Entry). x.descriptor == place) xs ≡ list_any (λ named. named == place) (descriptors xs)
 installed_is place [] = refl

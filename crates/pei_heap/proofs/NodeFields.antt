@@ -1,22 +1,16 @@
 -- The fields of the node in a place of a list.
-use Rattle.std.proofs.Common.{◌≡◌, ◌≤◌, ◌<◌, ◌+◌, ◌-◌, ◌^◌, ℕ, zero, suc, List, [], ◌∷◌, length, drop, Option, Some, None, ap, refl, ◌∙◌, arith}
-use Rattle.std.specs.Prelude.{map, option_map, slice_get}
+use Rattle.std.proofs.Common.{◌≡◌, ◌≤◌, ◌<◌, ◌+◌, ◌-◌, ◌^◌, ℕ, zero, suc, List, [], ◌∷◌, length, drop, Option, Some, None, ap, refl, ◌∙◌, arith, map, option_map, slice_get}
 use Rattle.pi_base.specs.Lists.{Each}
-use Rattle.store_model.specs.declared.state.Entry.{Entry}
-use Rattle.store_model.specs.declared.state.Pending.{Pending}
-use Rattle.store_model.specs.declared.store_handle.DescKind.{DescKind}
+use Rattle.store_model.specs.{declared.state.Entry.Entry, declared.state.Pending.Pending, declared.store_handle.DescKind.DescKind}
 use Rattle.store_model.specs.declared.store_handle.DescKind.TheVariants.{Ppi, Callback, Dispatch}
-use Rattle.store_model.specs.declared.store_handle.EntryList.{EntryList}
+use Rattle.store_model.specs.{declared.store_handle.EntryList.EntryList, StoreState.StoreState, HeapImage.heap_image}
 use Rattle.store_model.specs.declared.store_handle.EntryList.TheVariants.{Ppis, Callbacks, Dispatches, Pendings}
-use Rattle.store_model.specs.StoreState.{StoreState}
 use Rattle.store_model.specs.StateFacts.{IsEntry, IsPending, IsStoreState}
-use Rattle.store_model.specs.HeapImage.{heap_image}
 use Rattle.store_laws.specs.Chain.{DescriptorIsRead, IsHeaded, NodesAreInside, NumberIsRead, SecondIsRead}
 use Rattle.store_laws.specs.Items.{Item, item_of, items, queued_item}
 use Rattle.store_laws.specs.Word.{word_in}
 use Rattle.store_laws.proofs.Facts.{heaps_are_low, images_fill}
-use Rattle.pei_heap.specs.declared.links.node.Node.{Node}
-use Rattle.pei_heap.specs.Node.{node_of}
+use Rattle.pei_heap.specs.{declared.links.node.Node.Node, Node.node_of}
 
 -- the item in a place, and those behind it
 pub behind : {A : Type 0} (xs : List A) (i : ℕ) (x : A) → slice_get xs i ≡ Some x → (rest : List A) × (drop i xs ≡ x ∷ rest)

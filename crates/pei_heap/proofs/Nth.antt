@@ -1,14 +1,9 @@
 -- The node in a place of a list, by a walk.
-use Rattle.std.proofs.Common.{◌≡◌, ◌≢◌, ℕ, zero, suc, ◌+◌, ◌-◌, ◌≤◌, List, [], ◌∷◌, length, drop, arith, ap, refl, sym, ◌∙◌, Some, None}
-use Rattle.std.specs.Prelude.{option_map, slice_get}
-use Rattle.store_model.specs.StoreState.{StoreState}
-use Rattle.store_model.specs.HeapImage.{heap_image}
-use Rattle.store_model.specs.declared.store_handle.EntryList.{EntryList}
+use Rattle.std.proofs.Common.{◌≡◌, ◌≢◌, ℕ, zero, suc, ◌+◌, ◌-◌, ◌≤◌, List, [], ◌∷◌, length, drop, arith, ap, refl, sym, ◌∙◌, Some, None, option_map, slice_get}
+use Rattle.store_model.specs.{StoreState.StoreState, HeapImage.heap_image, declared.store_handle.EntryList.EntryList}
 use Rattle.store_laws.specs.Items.{Item, items, first_address}
-use Rattle.store_laws.specs.Chain.{IsHeaded, NextIsRead}
-use Rattle.store_laws.specs.Word.{word_in}
-use Rattle.store_laws.proofs.Nodes.{node_place, drop_next}
-use Rattle.store_laws.proofs.Facts.{images_fill, has_room}
+use Rattle.store_laws.specs.{Chain.IsHeaded, Chain.NextIsRead, Word.word_in}
+use Rattle.store_laws.proofs.{Nodes.node_place, Nodes.drop_next, Facts.images_fill, Facts.has_room}
 
 pub get_next : {A : Type 0} (xs : List A) (i : ℕ) (x : A) (rest : List A) → drop i xs ≡ x ∷ rest → slice_get xs i ≡ Some x
 get_next [] zero x rest e = cc

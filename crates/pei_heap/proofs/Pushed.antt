@@ -1,26 +1,16 @@
 -- Memory behind the writes of an entry that is made.
 use Rattle.std.proofs.Common.{◌≡◌, ◌≢◌, ◌≤◌, ◌+◌, ℕ, List, Some, ap, sym, ◌∙◌, arith, subst}
-use Rattle.phys_mem.specs.Region.{replaced}
-use Rattle.phys_mem.specs.declared.memory.PhysMem.{PhysMem}
-use Rattle.store_model.specs.declared.store_handle.EntryList.{EntryList}
+use Rattle.phys_mem.specs.{Region.replaced, declared.memory.PhysMem.PhysMem}
+use Rattle.store_model.specs.{declared.store_handle.EntryList.EntryList, StoreState.StoreState, StoreState.next_body}
 use Rattle.store_model.specs.declared.store_handle.EntryList.TheVariants.{Ppis, Callbacks, Dispatches, Pendings}
-use Rattle.store_model.specs.StoreState.{StoreState, next_body}
-use Rattle.store_model.specs.StateFacts.{IsStoreState}
-use Rattle.store_model.specs.HeapImage.{heap_image, links_bytes}
-use Rattle.store_model.specs.Service.Install.{with_node}
-use Rattle.store_laws.specs.Keeping.{IsWord}
-use Rattle.store_laws.specs.Steps.{StepsKeepFacts}
+use Rattle.store_model.specs.{StateFacts.IsStoreState, HeapImage.heap_image, HeapImage.links_bytes, Service.Install.with_node}
+use Rattle.store_laws.specs.{Keeping.IsWord, Steps.StepsKeepFacts, Items.items, Items.links_before, Mapped.layout_of}
 use Rattle.store_laws.specs.Heads.{LastIsInside, LastIsNamed, last_address, named_at}
-use Rattle.store_laws.specs.Items.{items, links_before}
 use Rattle.store_laws.specs.Linking.{CallbacksAreLinked, DispatchesAreLinked, HasNodeRoom, PairsAreLinked, PpisAreLinked, with_last}
-use Rattle.store_laws.specs.Mapped.{layout_of}
 use Rattle.store_laws.proofs.Facts.{has_room}
-use Rattle.pei_heap.specs.declared.heap.Heap.{Heap}
-use Rattle.pei_heap.specs.HeapMemory.{Holds, IsHeapOf}
-use Rattle.pei_heap.specs.declared.links.entry.NewEntry.{NewEntry}
+use Rattle.pei_heap.specs.{declared.heap.Heap.Heap, HeapMemory.Holds, HeapMemory.IsHeapOf, declared.links.entry.NewEntry.NewEntry}
 use Rattle.pei_heap.specs.NewEntry.{IsReady, second_of, with_entry}
-use Rattle.pei_heap.proofs.Ends.{new_item}
-use Rattle.pei_heap.proofs.Entries.{still_state}
+use Rattle.pei_heap.proofs.{Ends.new_item, Entries.still_state}
 
 -- the laws of all four lists
 pub record AreLinked : Type 0 where

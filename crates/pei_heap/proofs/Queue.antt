@@ -1,35 +1,17 @@
 -- The first queued pair.
-use Rattle.std.proofs.Common.{◌≡◌, ◌≤◌, ◌<◌, ◌+◌, ◌^◌, ℕ, List, [], ◌∷◌, Some, None, ap, sym, refl, ◌∙◌, arith, subst}
-use Rattle.std.specs.Prelude.{◌==◌, if◌then◌else◌, IfSome, map, option_map, replicate, slice_get}
-use Rattle.pi_base.specs.Lists.{Each}
-use Rattle.phys_mem.specs.Region.{replaced}
-use Rattle.phys_mem.specs.declared.memory.PhysMem.{PhysMem}
-use Rattle.store_model.specs.declared.store_handle.EntryList.TheVariants.{Pendings}
-use Rattle.store_model.specs.declared.store_handle.DescKind.{DescKind}
-use Rattle.store_model.specs.declared.store_handle.Firing.{Firing}
-use Rattle.store_model.specs.declared.state.Pending.{Pending}
-use Rattle.store_model.specs.StoreState.{StoreState}
+use Rattle.std.proofs.Common.{◌≡◌, ◌≤◌, ◌<◌, ◌+◌, ◌^◌, ℕ, List, [], ◌∷◌, Some, None, ap, sym, refl, ◌∙◌, arith, subst, ◌==◌, if◌then◌else◌, IfSome, map, option_map, replicate, slice_get}
+use Rattle.pi_base.specs.{Lists.Each, declared.guid.Guid.Guid}
+use Rattle.phys_mem.specs.{Region.replaced, declared.memory.PhysMem.PhysMem}
+use Rattle.store_model.specs.{declared.store_handle.EntryList.TheVariants.Pendings, declared.store_handle.DescKind.DescKind}
+use Rattle.store_model.specs.{declared.store_handle.Firing.Firing, declared.state.Pending.Pending, StoreState.StoreState}
 use Rattle.store_model.specs.StateFacts.{IsDesc, IsDescriptorAt, IsPending, IsStoreState}
-use Rattle.store_model.specs.HeapImage.{heap_image}
-use Rattle.store_model.specs.Service.Queue.{popped, queue_pop}
-use Rattle.store_model.specs.Service.Sweep.{firing_of}
-use Rattle.store_laws.specs.Keeping.{KeepFacts}
-use Rattle.store_laws.specs.Changes.{PairsArePopped, without_first}
-use Rattle.store_laws.specs.Chain.{IsHeaded, NodesAreInside}
-use Rattle.pi_base.specs.declared.guid.Guid.{Guid}
-use Rattle.store_laws.specs.Named.{NamedAreThere}
+use Rattle.store_model.specs.{HeapImage.heap_image, Service.Queue.popped, Service.Queue.queue_pop, Service.Sweep.firing_of}
+use Rattle.store_laws.specs.{Keeping.KeepFacts, Changes.PairsArePopped, Changes.without_first, Chain.IsHeaded, Chain.NodesAreInside}
+use Rattle.store_laws.specs.{Named.NamedAreThere, Heads.FirstIsPopped, Heads.LastIsPopped, Mapped.layout_of, Word.word_in}
 use Rattle.store_model.specs.Service.Descriptor.{guid_at, number_at}
-use Rattle.store_laws.specs.Heads.{FirstIsPopped, LastIsPopped}
 use Rattle.store_laws.specs.Items.{first_address, items, queued_item}
-use Rattle.store_laws.specs.Mapped.{layout_of}
-use Rattle.store_laws.specs.Word.{word_in}
-use Rattle.pei_heap.specs.declared.heap.Heap.{Heap}
-use Rattle.pei_heap.specs.HeapMemory.{Holds}
-use Rattle.pei_heap.specs.declared.links.heads.Heads.{Heads}
-use Rattle.pei_heap.specs.declared.links.node.Node.{Node}
-use Rattle.pei_heap.specs.Linked.{IsLinked}
-use Rattle.pei_heap.specs.Node.{node_of}
-use Rattle.pei_heap.specs.Popped.{with_next_pair}
+use Rattle.pei_heap.specs.{declared.heap.Heap.Heap, HeapMemory.Holds, declared.links.heads.Heads.Heads, declared.links.node.Node.Node}
+use Rattle.pei_heap.specs.{Linked.IsLinked, Node.node_of, Popped.with_next_pair}
 
 -- a pair that is found in the first place
 pub record IsFirst (s : StoreState) (pair : Node) : Type 0 where

@@ -1,32 +1,21 @@
 -- Pairs that are queued one after another, by those that are left.
-use Rattle.std.proofs.Common.{◌≡◌, ◌≢◌, ◌≤◌, ◌+◌, ◌-◌, ◌*◌, ◌++◌, ◌&&◌, ℕ, suc, Bool, true, false, cond, List, [], ◌∷◌, length, drop, Option, ap, sym, refl, ◌∙◌, arith, subst, length-append}
-use Rattle.std.specs.Prelude.{map, filter, fold, not, option_map, unwrap_or, if◌then◌else◌}
+use Rattle.std.proofs.Common.{◌≡◌, ◌≢◌, ◌≤◌, ◌+◌, ◌-◌, ◌*◌, ◌++◌, ◌&&◌, ℕ, suc, Bool, true, false, cond, List, [], ◌∷◌, length, drop, Option, ap, sym, refl, ◌∙◌, arith, subst, length-append, map, filter, fold, not, option_map, unwrap_or, if◌then◌else◌}
 use Rattle.std.proofs.lemmas.List.Sums.{fold-append, sum_by_push}
 use Rattle.phys_mem.specs.declared.memory.PhysMem.{PhysMem}
-use Rattle.pi_base.specs.declared.guid.Guid.{Guid}
-use Rattle.pi_base.specs.Guids.{same_guid}
-use Rattle.pi_base.specs.Lists.{Each}
-use Rattle.store_model.specs.declared.state.Body.{Body}
-use Rattle.store_model.specs.declared.state.Body.TheVariants.{Descriptor, Node}
-use Rattle.store_model.specs.declared.state.DescriptorBody.{DescriptorBody}
-use Rattle.store_model.specs.declared.state.Entry.{Entry}
-use Rattle.store_model.specs.declared.store_handle.Desc.{Desc}
-use Rattle.store_model.specs.declared.store_handle.DescKind.{DescKind}
+use Rattle.pi_base.specs.{declared.guid.Guid.Guid, Guids.same_guid, Lists.Each}
+use Rattle.store_model.specs.{declared.state.Body.Body, declared.state.Body.TheVariants.Descriptor, declared.state.Body.TheVariants.Node}
+use Rattle.store_model.specs.{declared.state.DescriptorBody.DescriptorBody, declared.state.Entry.Entry, declared.store_handle.Desc.Desc}
+use Rattle.store_model.specs.{declared.store_handle.DescKind.DescKind, declared.store_handle.EntryList.EntryList}
 use Rattle.store_model.specs.declared.store_handle.DescKind.TheVariants.{Ppi, Callback, Dispatch}
-use Rattle.store_model.specs.declared.store_handle.EntryList.{EntryList}
 use Rattle.store_model.specs.declared.store_handle.EntryList.TheVariants.{Ppis, Callbacks, Dispatches, Pendings}
 use Rattle.store_model.specs.StoreState.{StoreState, end_place, free, hob_len, page_bytes, pool_of}
 use Rattle.store_model.specs.StateFacts.{IsDesc, IsDescriptorAt, IsEntry, IsStoreState}
 use Rattle.store_model.specs.Service.Descriptor.{descriptor_in, descriptors, guid_at, is_callback, kind_at, no_guid, offsets}
 use Rattle.store_model.specs.Service.Install.{install_pairs, node_need, pairs_of, with_pending, with_ppi, row_of}
 use Rattle.store_model.specs.Service.Notify.{new_dispatches, notify_pairs, with_note, with_note_of}
-use Rattle.store_laws.specs.Bodies.{IsGrown}
+use Rattle.store_laws.specs.{Bodies.IsGrown, Items.first_address, Items.item_of}
 use Rattle.store_laws.proofs.Steps.{grown_node}
-use Rattle.store_laws.specs.Items.{first_address, item_of}
-use Rattle.pei_heap.specs.declared.heap.Heap.{Heap}
-use Rattle.pei_heap.specs.declared.links.heads.Heads.{Heads}
-use Rattle.pei_heap.specs.Linked.{IsLinked}
-use Rattle.pei_heap.specs.Pairs.{PairsStay, queued}
+use Rattle.pei_heap.specs.{declared.heap.Heap.Heap, declared.links.heads.Heads.Heads, Linked.IsLinked, Pairs.PairsStay, Pairs.queued}
 use Rattle.pei_heap.specs.Walk.{StandsAt}
 
 -- what queueing keeps of a state

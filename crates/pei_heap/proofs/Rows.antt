@@ -1,28 +1,18 @@
 -- The next pair of a row, and of the rows of several PPIs.
-use Rattle.std.proofs.Common.{◌≡◌, ◌≢◌, ◌≤◌, ◌+◌, ◌*◌, ◌++◌, ◌&&◌, ℕ, zero, suc, Bool, true, false, List, [], ◌∷◌, length, drop, ap, sym, refl, ◌∙◌, arith, length-append}
-use Rattle.std.specs.Prelude.{map, not, ◌||◌, if◌then◌else◌}
+use Rattle.std.proofs.Common.{◌≡◌, ◌≢◌, ◌≤◌, ◌+◌, ◌*◌, ◌++◌, ◌&&◌, ℕ, zero, suc, Bool, true, false, List, [], ◌∷◌, length, drop, ap, sym, refl, ◌∙◌, arith, length-append, map, not, ◌||◌, if◌then◌else◌}
 use Rattle.std.specs.List.{list_any}
 use Rattle.phys_mem.specs.declared.memory.PhysMem.{PhysMem}
-use Rattle.pi_base.specs.declared.guid.Guid.{Guid}
-use Rattle.pi_base.specs.Guids.{same_guid}
-use Rattle.pi_base.specs.Lists.{Each}
-use Rattle.store_model.specs.declared.state.Entry.{Entry}
-use Rattle.store_model.specs.declared.store_handle.Desc.{Desc}
-use Rattle.store_model.specs.declared.store_handle.DescKind.{DescKind}
+use Rattle.pi_base.specs.{declared.guid.Guid.Guid, Guids.same_guid, Lists.Each}
+use Rattle.store_model.specs.{declared.state.Entry.Entry, declared.store_handle.Desc.Desc, declared.store_handle.DescKind.DescKind}
 use Rattle.store_model.specs.declared.store_handle.DescKind.TheVariants.{Ppi, Callback, Dispatch}
 use Rattle.store_model.specs.declared.store_handle.EntryList.TheVariants.{Ppis, Callbacks, Dispatches, Pendings}
-use Rattle.store_model.specs.StoreState.{StoreState, free}
+use Rattle.store_model.specs.{StoreState.StoreState, StoreState.free, Service.Notify.new_dispatches}
 use Rattle.store_model.specs.StateFacts.{IsDesc, IsDescriptorAt, IsEntry, IsStoreState}
 use Rattle.store_model.specs.Service.Descriptor.{descriptors, guid_at, is_callback, is_ppi, kind_at, offsets}
 use Rattle.store_model.specs.Service.Install.{node_need, pairs_of, row_of}
-use Rattle.store_model.specs.Service.Notify.{new_dispatches}
-use Rattle.store_laws.specs.Bodies.{IsGrown}
-use Rattle.store_laws.specs.Items.{first_address, item_of}
+use Rattle.store_laws.specs.{Bodies.IsGrown, Items.first_address, Items.item_of}
 use Rattle.store_laws.proofs.Lists.{each_behind}
-use Rattle.pei_heap.specs.declared.heap.Heap.{Heap}
-use Rattle.pei_heap.specs.declared.links.heads.Heads.{Heads}
-use Rattle.pei_heap.specs.declared.links.walk.Met.{Met}
-use Rattle.pei_heap.specs.NewEntry.{IsReady}
+use Rattle.pei_heap.specs.{declared.heap.Heap.Heap, declared.links.heads.Heads.Heads, declared.links.walk.Met.Met, NewEntry.IsReady}
 use Rattle.pei_heap.specs.Walk.{IsMetAt, StandsAt}
 use Rattle.pei_heap.proofs.Queueing.{HasDesc, IsLeft, Queued, at_stays, desc_stays, guid_stays, kind_stays, named_descs, new_descs, new_more, new_stays, pair_if, row_more, row_stays}
 use Rattle.pei_heap.proofs.Descriptors.{kind_of_state}

@@ -1,33 +1,19 @@
 -- What is told of an entry that is met.
-use Rattle.std.proofs.Common.{◌≡◌, ◌≤◌, ◌<◌, ◌+◌, ◌^◌, ◌==◌, ◌||◌, ℕ, zero, suc, Bool, true, false, cond, List, [], ◌∷◌, length, drop, Option, Some, None, ap, sym, refl, ◌∙◌, arith}
-use Rattle.std.specs.Prelude.{map, option_map, slice_get}
+use Rattle.std.proofs.Common.{◌≡◌, ◌≤◌, ◌<◌, ◌+◌, ◌^◌, ◌==◌, ◌||◌, ℕ, zero, suc, Bool, true, false, cond, List, [], ◌∷◌, length, drop, Option, Some, None, ap, sym, refl, ◌∙◌, arith, map, option_map, slice_get}
 use Rattle.std.specs.List.{list_any}
 use Rattle.std.proofs.lemmas.Bool.Decides.{nat_tests}
 use Rattle.pi_base.specs.declared.guid.Guid.{Guid}
-use Rattle.store_model.specs.declared.state.Entry.{Entry}
-use Rattle.store_model.specs.declared.state.Pending.{Pending}
-use Rattle.store_model.specs.declared.store_handle.Desc.{Desc}
-use Rattle.store_model.specs.declared.store_handle.DescKind.{DescKind}
+use Rattle.store_model.specs.{declared.state.Entry.Entry, declared.state.Pending.Pending, declared.store_handle.Desc.Desc}
+use Rattle.store_model.specs.{declared.store_handle.DescKind.DescKind, declared.store_handle.EntryList.EntryList}
 use Rattle.store_model.specs.declared.store_handle.DescKind.TheVariants.{Ppi, Callback, Dispatch}
-use Rattle.store_model.specs.declared.store_handle.EntryList.{EntryList}
 use Rattle.store_model.specs.declared.store_handle.EntryList.TheVariants.{Ppis, Callbacks, Dispatches, Pendings}
-use Rattle.store_model.specs.declared.store_handle.EntryTold.{EntryTold}
-use Rattle.store_model.specs.StoreState.{StoreState}
-use Rattle.store_model.specs.StateFacts.{IsStoreState}
-use Rattle.store_model.specs.StoreCall.{IsNodeIn}
-use Rattle.store_model.specs.HeapImage.{heap_image}
-use Rattle.store_model.specs.Service.Descriptor.{guid_at, number_at}
+use Rattle.store_model.specs.{declared.store_handle.EntryTold.EntryTold, StoreState.StoreState, StateFacts.IsStoreState, StoreCall.IsNodeIn}
+use Rattle.store_model.specs.{HeapImage.heap_image, Service.Descriptor.guid_at, Service.Descriptor.number_at}
 use Rattle.store_model.specs.Service.Reading.{behind_node, entry_told, note_at, nth_ppi, pending_at, pending_told, ppi_at, ppis_of, told_behind, told_of}
-use Rattle.store_laws.specs.Named.{NamedAreThere}
-use Rattle.store_laws.specs.Chain.{NextIsRead, NodesAreInside}
+use Rattle.store_laws.specs.{Named.NamedAreThere, Chain.NextIsRead, Chain.NodesAreInside, Word.word_in}
 use Rattle.store_laws.specs.Items.{Item, first_address, item_of, items, queued_item}
-use Rattle.store_laws.specs.Word.{word_in}
-use Rattle.store_laws.proofs.Facts.{images_fill}
-use Rattle.store_laws.proofs.Nodes.{drop_next}
-use Rattle.pei_heap.specs.declared.links.descriptor.DescRead.{DescRead}
-use Rattle.pei_heap.specs.declared.links.node.Node.{Node}
-use Rattle.pei_heap.specs.DescRead.{IsReadAt}
-use Rattle.pei_heap.specs.Node.{node_of}
+use Rattle.store_laws.proofs.{Facts.images_fill, Nodes.drop_next}
+use Rattle.pei_heap.specs.{declared.links.descriptor.DescRead.DescRead, declared.links.node.Node.Node, DescRead.IsReadAt, Node.node_of}
 use Rattle.pei_heap.specs.Walk.{HasEntries, IsBehind, IsNoteHead, StandsAt, address_from, entries_in}
 use Rattle.pei_heap.proofs.Nth.{get_next, get_past}
 

@@ -1,13 +1,10 @@
 -- Memory whose heap is known has the volumes of the board.
-use Rattle.std.proofs.Common.{◌≡◌, ◌≤◌, ◌+◌, ◌-◌, ℕ, Bool, true, false, cond, List, [], ◌∷◌, ◌++◌, length, take, drop, Option, Some, None, ap, sym, refl, ◌∙◌, arith, length-take, length-drop}
-use Rattle.std.specs.Prelude.{map, option_map}
-use Rattle.std.specs.Option.{option_to_list, option_or}
+use Rattle.std.proofs.Common.{◌≡◌, ◌≤◌, ◌+◌, ◌-◌, ℕ, Bool, true, false, cond, List, [], ◌∷◌, ◌++◌, length, take, drop, Option, Some, None, ap, sym, refl, ◌∙◌, arith, length-take, length-drop, map, option_map, option_to_list}
+use Rattle.std.specs.Option.{option_or}
 use Rattle.std.proofs.lemmas.Bool.Decides.{nat_tests}
 use Rattle.phys_mem.specs.Region.{Region, is_inside, part_of}
 use Rattle.phys_mem.specs.Regions.{bytes_at, ram_region, regions, rom_region, rom_regions}
-use Rattle.phys_mem.specs.declared.bank.Bank.{Bank}
-use Rattle.phys_mem.specs.declared.memory.PhysMem.{PhysMem}
-use Rattle.phys_mem.specs.declared.rom.Rom.{Rom}
+use Rattle.phys_mem.specs.{declared.bank.Bank.Bank, declared.memory.PhysMem.PhysMem, declared.rom.Rom.Rom}
 use Rattle.store_model.specs.MemoryReading.{rom_bytes}
 use Rattle.store_laws.specs.Mapped.{HasHeap, Layout, regions_by}
 use Rattle.store_laws.proofs.Peeking.{roms_same}

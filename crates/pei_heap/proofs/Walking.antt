@@ -1,23 +1,15 @@
 -- The entry whose node stands at an address.
-use Rattle.std.proofs.Common.{◌≡◌, ◌≢◌, ◌≤◌, ◌+◌, ◌-◌, ℕ, zero, suc, List, [], ◌∷◌, drop, Some, None, ap, sym, refl, ◌∙◌, arith, subst}
-use Rattle.std.specs.Prelude.{map, option_map, slice_get}
-use Rattle.store_model.specs.declared.state.Entry.{Entry}
-use Rattle.store_model.specs.declared.store_handle.DescKind.{DescKind}
-use Rattle.store_model.specs.declared.store_handle.EntryList.{EntryList}
+use Rattle.std.proofs.Common.{◌≡◌, ◌≢◌, ◌≤◌, ◌+◌, ◌-◌, ℕ, zero, suc, List, [], ◌∷◌, drop, Some, None, ap, sym, refl, ◌∙◌, arith, subst, map, option_map, slice_get}
+use Rattle.store_model.specs.{declared.state.Entry.Entry, declared.store_handle.DescKind.DescKind}
+use Rattle.store_model.specs.{declared.store_handle.EntryList.EntryList, StoreState.StoreState, StateFacts.IsDesc, StateFacts.IsStoreState}
 use Rattle.store_model.specs.declared.store_handle.EntryList.TheVariants.{Ppis, Callbacks, Dispatches, Pendings}
-use Rattle.store_model.specs.StoreState.{StoreState}
-use Rattle.store_model.specs.StateFacts.{IsDesc, IsStoreState}
 use Rattle.store_model.specs.HeapImage.{heap_image}
-use Rattle.store_laws.specs.Named.{IsNamed, NamedAreThere}
+use Rattle.store_laws.specs.{Named.IsNamed, Named.NamedAreThere, Word.word_in}
 use Rattle.store_laws.specs.Chain.{IsHeaded, NextIsRead, NodesAreInside}
 use Rattle.store_laws.specs.Items.{Item, first_address, item_of, items}
-use Rattle.store_laws.specs.Word.{word_in}
 use Rattle.store_laws.proofs.Nodes.{drop_next, node_place}
 use Rattle.phys_mem.specs.declared.memory.PhysMem.{PhysMem}
-use Rattle.pei_heap.specs.declared.heap.Heap.{Heap}
-use Rattle.pei_heap.specs.HeapMemory.{IsHeapOf}
-use Rattle.pei_heap.specs.declared.links.node.Node.{Node}
-use Rattle.pei_heap.specs.Node.{node_of}
+use Rattle.pei_heap.specs.{declared.heap.Heap.Heap, HeapMemory.IsHeapOf, declared.links.node.Node.Node, Node.node_of}
 use Rattle.pei_heap.specs.Walk.{HasEntries, IsMetAt, StandsAt, address_from, entries_in, kind_in}
 use Rattle.pei_heap.proofs.Nth.{get_next, next}
 

@@ -1,8 +1,7 @@
 -- What a descriptor in the heap says.
 -- PI 1.8, volume 1, `EFI_PEI_PPI_DESCRIPTOR` and `EFI_PEI_NOTIFY_DESCRIPTOR`.
 use Rattle.std.specs.Prelude.{◌≡◌, ◌⊎◌, ℕ, ◌+◌, ◌≤◌, true, is_some}
-use Rattle.store_model.specs.StoreState.{StoreState}
-use Rattle.store_model.specs.MemoryReading.{rom_bytes}
+use Rattle.store_model.specs.{StoreState.StoreState, MemoryReading.rom_bytes}
 use Rattle.store_model.specs.Service.Descriptor.{guid_at, kind_at, number_at}
 use Rattle.pei_heap.specs.declared.links.descriptor.DescRead.{DescRead}
 

@@ -2,16 +2,11 @@
 -- Own.
 use Rattle.std.specs.Prelude.{◌≡◌, ℕ, Bool, List, [], unwrap_or}
 use Rattle.std.specs.List.{list_any}
-use Rattle.pi_base.specs.declared.guid.Guid.{Guid}
-use Rattle.pi_base.specs.Guids.{same_guid}
-use Rattle.phys_mem.specs.Regions.{bytes_at, regions}
-use Rattle.phys_mem.specs.declared.memory.PhysMem.{PhysMem}
-use Rattle.store_model.specs.StoreState.{StoreState}
-use Rattle.store_model.specs.Service.Install.{has_ppi}
+use Rattle.pi_base.specs.{declared.guid.Guid.Guid, Guids.same_guid}
+use Rattle.phys_mem.specs.{Regions.bytes_at, Regions.regions, declared.memory.PhysMem.PhysMem}
+use Rattle.store_model.specs.{StoreState.StoreState, Service.Install.has_ppi}
 use Rattle.store_laws.specs.Told.{list_told}
-use Rattle.pei_heap.specs.declared.heap.Heap.{Heap}
-use Rattle.pei_heap.specs.declared.links.heads.Heads.{Heads}
-use Rattle.pei_heap.specs.Linked.{IsLinked}
+use Rattle.pei_heap.specs.{declared.heap.Heap.Heap, declared.links.heads.Heads.Heads, Linked.IsLinked}
 
 -- the bytes of the heap in memory
 abbrev pub heap_bytes : Heap → PhysMem → List ℕ

@@ -2,14 +2,10 @@
 -- Own.
 use Rattle.std.specs.Prelude.{◌≡◌, ℕ, length}
 use Rattle.phys_mem.specs.declared.memory.PhysMem.{PhysMem}
-use Rattle.store_model.specs.declared.store_handle.EntryList.{EntryList}
+use Rattle.store_model.specs.{declared.store_handle.EntryList.EntryList, StoreState.StoreState}
 use Rattle.store_model.specs.declared.store_handle.EntryList.TheVariants.{Ppis, Callbacks, Dispatches, Pendings}
-use Rattle.store_model.specs.StoreState.{StoreState}
-use Rattle.store_laws.specs.Heads.{last_address}
-use Rattle.store_laws.specs.Items.{items, first_address}
-use Rattle.pei_heap.specs.declared.heap.Heap.{Heap}
-use Rattle.pei_heap.specs.HeapMemory.{IsHeapOf}
-use Rattle.pei_heap.specs.declared.links.heads.Heads.{Heads}
+use Rattle.store_laws.specs.{Heads.last_address, Items.items, Items.first_address}
+use Rattle.pei_heap.specs.{declared.heap.Heap.Heap, HeapMemory.IsHeapOf, declared.links.heads.Heads.Heads}
 
 -- the first and the last node of a list, by their addresses, or 0
 pub record AreEnds (s : StoreState) (list : EntryList) (head : ℕ) (tail : ℕ) : Type 0 where

@@ -2,15 +2,11 @@
 -- PI 1.8, volume 1, `NotifyPpi()`.
 use Rattle.std.specs.Prelude.{◌≡◌, ℕ, ◌<◌, ◌≤◌, ◌+◌, length, slice_get, Option, Some, None}
 use Rattle.pi_base.specs.declared.guid.Guid.{Guid}
-use Rattle.store_model.specs.declared.state.Entry.{Entry}
-use Rattle.store_model.specs.declared.store_handle.EntryList.TheVariants.{Callbacks}
-use Rattle.store_model.specs.declared.store_handle.Sweep.{Sweep}
-use Rattle.store_model.specs.StoreState.{StoreState}
+use Rattle.store_model.specs.{declared.state.Entry.Entry, declared.store_handle.EntryList.TheVariants.Callbacks}
+use Rattle.store_model.specs.{declared.store_handle.Sweep.Sweep, StoreState.StoreState}
 use Rattle.store_model.specs.Service.Descriptor.{guid_at, number_at}
 use Rattle.store_model.specs.Service.Sweep.{first_firing, firing_at, next_match, pairs_with}
-use Rattle.pei_heap.specs.declared.links.sweep.Match.{Match}
-use Rattle.pei_heap.specs.declared.links.sweep.Pair.{Pair}
-use Rattle.pei_heap.specs.Walk.{StandsAt}
+use Rattle.pei_heap.specs.{declared.links.sweep.Match.Match, declared.links.sweep.Pair.Pair, Walk.StandsAt}
 
 -- the callbacks from one place to another, the first of which has its node at an address
 pub record AreCallbacks (s : StoreState) (first : ℕ) (from : ℕ) (to : ℕ) : Type 0 where

@@ -2,14 +2,11 @@
 -- PI 1.8, volume 1, `InstallPpi()` and `NotifyPpi()`; the nodes are own.
 use Rattle.std.specs.Prelude.{ℕ, ◌+◌, ◌≤◌, ◌==◌, if◌then◌else◌}
 use Rattle.store_model.specs.declared.store_handle.DescKind.TheVariants.{Ppi, Callback, Dispatch}
-use Rattle.store_model.specs.declared.store_handle.EntryList.{EntryList}
+use Rattle.store_model.specs.{declared.store_handle.EntryList.EntryList, StoreState.StoreState, StoreState.free, StateFacts.IsDescriptorAt}
 use Rattle.store_model.specs.declared.store_handle.EntryList.TheVariants.{Ppis, Callbacks, Dispatches, Pendings}
-use Rattle.store_model.specs.StoreState.{StoreState, free}
-use Rattle.store_model.specs.StateFacts.{IsDescriptorAt}
 use Rattle.store_model.specs.Service.Install.{node_need, with_ppi, with_pending}
 use Rattle.store_model.specs.Service.Notify.{with_note_of}
-use Rattle.pei_heap.specs.declared.links.entry.NewEntry.{NewEntry}
-use Rattle.pei_heap.specs.declared.links.heads.Heads.{Heads}
+use Rattle.pei_heap.specs.{declared.links.entry.NewEntry.NewEntry, declared.links.heads.Heads.Heads}
 
 -- the state with it
 abbrev pub with_entry : EntryList → NewEntry → StoreState → StoreState

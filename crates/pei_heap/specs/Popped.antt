@@ -2,12 +2,8 @@
 -- PI 1.8, volume 1, `EFI_PEI_PPI_DESCRIPTOR_NOTIFY_DISPATCH`.
 use Rattle.std.specs.Prelude.{◌≡◌, ℕ, ◌==◌, if◌then◌else◌, Option, Some, None}
 use Rattle.phys_mem.specs.declared.memory.PhysMem.{PhysMem}
-use Rattle.store_model.specs.declared.store_handle.Firing.{Firing}
-use Rattle.store_model.specs.StoreState.{StoreState}
-use Rattle.store_model.specs.Service.Queue.{queue_pop}
-use Rattle.pei_heap.specs.declared.heap.Heap.{Heap}
-use Rattle.pei_heap.specs.declared.links.heads.Heads.{Heads}
-use Rattle.pei_heap.specs.Linked.{IsLinked}
+use Rattle.store_model.specs.{declared.store_handle.Firing.Firing, StoreState.StoreState, Service.Queue.queue_pop}
+use Rattle.pei_heap.specs.{declared.heap.Heap.Heap, declared.links.heads.Heads.Heads, Linked.IsLinked}
 
 -- the heads where a next node, or 0, is the first of the queue
 abbrev pub with_next_pair : ℕ → Heads → Heads

@@ -2,13 +2,9 @@
 -- PI 1.8, volume 1, `ReInstallPpi()`.
 use Rattle.std.specs.Prelude.{◌≡◌, ℕ, List, ◌∷◌, ◌<◌, length, drop, true, false, Option, Some, None}
 use Rattle.phys_mem.specs.declared.memory.PhysMem.{PhysMem}
-use Rattle.store_model.specs.declared.state.Entry.{Entry}
-use Rattle.store_model.specs.declared.store_handle.Desc.{Desc}
-use Rattle.store_model.specs.StoreState.{StoreState}
+use Rattle.store_model.specs.{declared.state.Entry.Entry, declared.store_handle.Desc.Desc, StoreState.StoreState}
 use Rattle.store_model.specs.Service.Install.{is_installed, place_of, renamed}
-use Rattle.pei_heap.specs.declared.heap.Heap.{Heap}
-use Rattle.pei_heap.specs.declared.links.heads.Heads.{Heads}
-use Rattle.pei_heap.specs.declared.links.renaming.PpiFound.{PpiFound}
+use Rattle.pei_heap.specs.{declared.heap.Heap.Heap, declared.links.heads.Heads.Heads, declared.links.renaming.PpiFound.PpiFound}
 use Rattle.pei_heap.specs.Linked.{IsLinked}
 
 -- the first PPI that names a descriptor: its place and its node

@@ -1,15 +1,12 @@
 -- The entries of a list of PPIs or notifications, met one after another by their nodes.
 -- Own.
 use Rattle.std.specs.Prelude.{◌≡◌, ℕ, ◌+◌, List, [], ◌∷◌, drop, Option, Some, None, ⊤}
-use Rattle.store_model.specs.declared.state.Entry.{Entry}
-use Rattle.store_model.specs.declared.store_handle.DescKind.{DescKind}
+use Rattle.store_model.specs.{declared.state.Entry.Entry, declared.store_handle.DescKind.DescKind}
 use Rattle.store_model.specs.declared.store_handle.DescKind.TheVariants.{Ppi, Callback, Dispatch}
-use Rattle.store_model.specs.declared.store_handle.EntryList.{EntryList}
+use Rattle.store_model.specs.{declared.store_handle.EntryList.EntryList, StoreState.StoreState}
 use Rattle.store_model.specs.declared.store_handle.EntryList.TheVariants.{Ppis, Callbacks, Dispatches, Pendings}
-use Rattle.store_model.specs.StoreState.{StoreState}
 use Rattle.store_model.specs.Service.Reading.{told_behind, told_of}
-use Rattle.store_laws.specs.Named.{IsNamed}
-use Rattle.store_laws.specs.Items.{items, first_address}
+use Rattle.store_laws.specs.{Named.IsNamed, Items.items, Items.first_address}
 use Rattle.pei_heap.specs.declared.links.walk.Met.{Met}
 
 -- the entries of a list; queued pairs are none

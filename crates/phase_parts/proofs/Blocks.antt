@@ -1,10 +1,8 @@
 -- A script begins where it has a block.
 use Rattle.std.proofs.Common.{◌≡◌, ℕ, true, false, List, [], ◌∷◌}
 use Rattle.act_code.specs.declared.action.Action.{Action}
-use Rattle.boot_model.specs.PeiMachine.{no_registers}
-use Rattle.phase_parts.specs.Found.{has_block}
-use Rattle.phase_parts.specs.Frames.{frame_at, start_frames}
-use Rattle.boot_model.specs.declared.frame.Frame.{Frame}
+use Rattle.boot_model.specs.{PeiMachine.no_registers, declared.frame.Frame.Frame}
+use Rattle.phase_parts.specs.{Found.has_block, Frames.frame_at, Frames.start_frames}
 
 pub begin : {W : Type 0} (number : ℕ) (blocks : List (List Action)) (frames : List (Frame W)) → has_block blocks ≡ true → frames ≡ frame_at number 0 no_registers ∷ [] → frames ≡ start_frames number blocks
 begin number [] frames e h = cc

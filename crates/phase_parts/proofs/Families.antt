@@ -1,8 +1,6 @@
 -- A volume and those nested in it: each once, and each of the catalogue.
-use Rattle.std.proofs.Common.{◌≡◌, ℕ, ◌+◌, ◌<◌, ◌⊎◌, inl, inr, Bool, true, false, cond, List, [], ◌∷◌, ◌++◌, length, Option, Some, None, refl, arith, subst}
-use Rattle.std.specs.Prelude.{◌≢◌, IfSome}
-use Rattle.mod_catalog.specs.declared.catalogue.Catalog.{Catalog}
-use Rattle.mod_catalog.specs.declared.catalogue.VolumeEntry.{VolumeEntry}
+use Rattle.std.proofs.Common.{◌≡◌, ℕ, ◌+◌, ◌<◌, ◌⊎◌, inl, inr, Bool, true, false, cond, List, [], ◌∷◌, ◌++◌, length, Option, Some, None, refl, arith, subst, ◌≢◌, IfSome}
+use Rattle.mod_catalog.specs.{declared.catalogue.Catalog.Catalog, declared.catalogue.VolumeEntry.VolumeEntry}
 use Rattle.pi_base.specs.Lists.{Each}
 use Rattle.mod_catalog.specs.WellFormed.{AreNumbered, IsWellFormed}
 use Rattle.boot_model.specs.Licence.{AllDiffer}

@@ -1,13 +1,9 @@
 -- The action at which a frame stands fits its phase, and stands at a place that a block may have.
-use Rattle.std.proofs.Common.{◌≡◌, ◌<◌, ◌∙◌, List, [], ◌∷◌, length, Option, Some, None, sym, subst, Bor}
-use Rattle.std.specs.Prelude.{IfSome, OnSome, option_copied}
+use Rattle.std.proofs.Common.{◌≡◌, ◌<◌, ◌∙◌, List, [], ◌∷◌, length, Option, Some, None, sym, subst, Bor, IfSome, OnSome, option_copied}
 use Rattle.pi_base.specs.declared.phase.Phase.{Phase}
 use Rattle.act_code.specs.declared.action.Action.{Action}
-use Rattle.mod_catalog.specs.declared.catalogue.Catalog.{Catalog}
-use Rattle.mod_catalog.specs.WellFormed.{IsWellFormed}
-use Rattle.phase_parts.specs.Found.{found_action}
-use Rattle.phase_parts.specs.Frames.{top_of}
-use Rattle.phase_parts.specs.Needs.{IsScriptAction, IsWithin}
+use Rattle.mod_catalog.specs.{declared.catalogue.Catalog.Catalog, WellFormed.IsWellFormed}
+use Rattle.phase_parts.specs.{Found.found_action, Frames.top_of, Needs.IsScriptAction, Needs.IsWithin}
 use Rattle.boot_model.specs.declared.frame.Frame.{Frame}
 use Rattle.boot_model.proofs.ScriptActions.{FitsIn, script_action}
 

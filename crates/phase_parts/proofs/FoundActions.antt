@@ -1,7 +1,5 @@
 -- The block of a part, and the action of a block.
-use Rattle.std.proofs.Common.{ℕ, List, Option}
-use Rattle.std.specs.Prelude.{slice_get}
-use Rattle.std.specs.Option.{option_and_then}
+use Rattle.std.proofs.Common.{ℕ, List, Option, slice_get, option_and_then}
 use Rattle.act_code.specs.declared.action.Action.{Action}
 use Rattle.mod_catalog.specs.declared.catalogue.Part.{Part}
 

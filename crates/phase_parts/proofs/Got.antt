@@ -1,7 +1,5 @@
 -- What is got of a list at a place.
-use Rattle.std.proofs.Common.{◌≡◌, ◌<◌, ◌≤◌, ℕ, List, Option, Some, None, get_or, length, refl, sym, ap, ◌∙◌}
-use Rattle.std.specs.Prelude.{option_copied, slice_get}
-use Rattle.std.specs.Borrow.{Bor}
+use Rattle.std.proofs.Common.{◌≡◌, ◌<◌, ◌≤◌, ℕ, List, Option, Some, None, get_or, length, refl, sym, ap, ◌∙◌, option_copied, slice_get, Bor}
 use Rattle.std.specs.List.{ItemBy}
 use Rattle.std.proofs.lemmas.Option.{slice_get_past, slice_get_read}
 

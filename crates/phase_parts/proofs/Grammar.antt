@@ -1,9 +1,8 @@
 -- What an action of a script's grammar says of its operands.
 use Rattle.std.proofs.Common.{◌≡◌, ℕ, ◌≤◌, true, length, arith, subst, List}
 use Rattle.std.proofs.lemmas.Bool.Decides.{nat_tests}
-use Rattle.act_code.specs.declared.action.Action.{Action}
+use Rattle.act_code.specs.{declared.action.Action.Action, Format.is_within}
 use Rattle.act_code.specs.declared.action.Action.TheVariants as A
-use Rattle.act_code.specs.Format.{is_within}
 use Rattle.pi_base.specs.declared.phase.Phase.{Phase}
 use Rattle.phase_parts.specs.Needs.{IsScriptAction}
 

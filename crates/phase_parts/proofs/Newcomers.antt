@@ -1,7 +1,5 @@
 -- The volumes of a family that are new, put at the end one after the other, are the newcomers.
-use Rattle.std.proofs.Common.{◌≡◌, ℕ, ◌==◌, Bool, true, false, not, cond, List, [], ◌∷◌, ◌++◌, refl, sym, ap, ◌∙◌, append_assoc}
-use Rattle.std.proofs.lemmas.List.{append-nil}
-use Rattle.std.specs.Prelude.{filter}
+use Rattle.std.proofs.Common.{◌≡◌, ℕ, ◌==◌, Bool, true, false, not, cond, List, [], ◌∷◌, ◌++◌, refl, sym, ap, ◌∙◌, append_assoc, append-nil, filter}
 use Rattle.mod_catalog.specs.Parts.{has_number}
 use Rattle.boot_model.specs.Licence.{AllDiffer}
 use Rattle.phase_parts.specs.Known.{with_new}

@@ -1,13 +1,11 @@
 -- What is told of bytes that were read.
-use Rattle.std.proofs.Common.{◌≡◌, ◌++◌, ℕ, List, Some, None, ap, sym, ◌∙◌, arith, take, length}
+use Rattle.std.proofs.Common.{◌≡◌, ◌++◌, ℕ, List, Some, None, ap, sym, ◌∙◌, arith, take, length, append-nil, take_all}
 use Rattle.std.specs.List.{refill}
-use Rattle.std.proofs.lemmas.List.{append-nil, drop_all, take_all}
+use Rattle.std.proofs.lemmas.List.{drop_all}
 use Rattle.pi_base.specs.declared.word.Word.TheVariants.{Success}
-use Rattle.boot_model.specs.declared.frame.Register.{Register}
+use Rattle.boot_model.specs.{declared.frame.Register.Register, Registers.number_in}
 use Rattle.boot_model.specs.declared.line.Extra.TheVariants as X
-use Rattle.boot_model.specs.Registers.{number_in}
-use Rattle.store_model.specs.StoreState.{StoreState}
-use Rattle.store_model.specs.MemoryReading.{bytes_at}
+use Rattle.store_model.specs.{StoreState.StoreState, MemoryReading.bytes_at}
 use Rattle.phase_parts.specs.Peeked.{peeked, told_at, told_bytes}
 
 -- a list that was written over from its begin to its end

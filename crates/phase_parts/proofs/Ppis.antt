@@ -1,15 +1,8 @@
 -- The descriptor at an index, and the volume of which its PPI tells.
-use Rattle.std.proofs.Common.{◌≡◌, ℕ, zero, suc, ◌<◌, true, cond, List, [], ◌∷◌, length, Option, None, slice_index_or, sym, ap, ◌∙◌, arith}
-use Rattle.std.specs.Option.{option_and_then}
-use Rattle.pi_base.specs.declared.guid.Guid.{Guid}
-use Rattle.pi_base.specs.Guids.{same_guid}
-use Rattle.pi_base.specs.Lists.{Each}
+use Rattle.std.proofs.Common.{◌≡◌, ℕ, zero, suc, ◌<◌, true, cond, List, [], ◌∷◌, length, Option, None, slice_index_or, sym, ap, ◌∙◌, arith, option_and_then}
+use Rattle.pi_base.specs.{declared.guid.Guid.Guid, Guids.same_guid, Lists.Each, declared.known_guid.TheConstants.VOLUME_INFO_PPI}
 use Rattle.mod_catalog.specs.declared.catalogue.Catalog.{Catalog}
-use Rattle.pi_base.specs.declared.known_guid.TheConstants.{VOLUME_INFO_PPI}
-use Rattle.store_model.specs.declared.store_handle.Desc.{Desc}
-use Rattle.store_model.specs.StoreState.{StoreState}
-use Rattle.store_model.specs.MemoryReading.{bytes_at}
-use Rattle.store_model.specs.Service.Reading.{descriptor}
+use Rattle.store_model.specs.{declared.store_handle.Desc.Desc, StoreState.StoreState, MemoryReading.bytes_at, Service.Reading.descriptor}
 use Rattle.boot_model.specs.Reporting.{told_at, told_by, volume_info_len}
 
 pub each_index : {A : Type 0} (P : A → Type 0) (xs : List A) (i : ℕ) (default : A) → i < length xs → Each P xs → P (slice_index_or xs i default)

@@ -1,6 +1,5 @@
 -- Where not as many frames stand as may, one more has room, behind a sweep that was kept too.
-use Rattle.std.proofs.Common.{◌≡◌, ◌<◌, ◌≤◌, ◌==◌, ℕ, false, List, [], ◌∷◌, arith, length, refl, subst, sym}
-use Rattle.std.specs.Prelude.{nat_le}
+use Rattle.std.proofs.Common.{◌≡◌, ◌<◌, ◌≤◌, ◌==◌, ℕ, false, List, [], ◌∷◌, arith, length, refl, subst, sym, nat_le}
 use Rattle.std.proofs.lemmas.Bool.Decides.{nat_tests}
 use Rattle.boot_model.specs.declared.frame.Frame.{Frame}
 use Rattle.phase_parts.specs.Frames.{swept}

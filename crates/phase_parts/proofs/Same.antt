@@ -1,11 +1,8 @@
 -- The actions of both phases.
-use Rattle.std.proofs.Common.{◌≡◌, ℕ, ◌+◌, List, Option, Some, None, refl, ap, ◌∙◌}
-use Rattle.std.specs.Prelude.{◌%◌, ◌^◌, option_map}
+use Rattle.std.proofs.Common.{◌≡◌, ℕ, ◌+◌, List, Option, Some, None, refl, ap, ◌∙◌, ◌%◌, ◌^◌, option_map}
 use Rattle.act_code.specs.declared.action.Action.{Action}
 use Rattle.act_code.specs.declared.action.Action.TheVariants as A
-use Rattle.boot_model.specs.declared.frame.Frame.{Frame}
-use Rattle.boot_model.specs.declared.frame.Register.{Register}
-use Rattle.boot_model.specs.Effect.{Effect, effect_by}
+use Rattle.boot_model.specs.{declared.frame.Frame.Frame, declared.frame.Register.Register, Effect.Effect, Effect.effect_by}
 use Rattle.boot_model.specs.Effect as E
 use Rattle.boot_model.specs.Registers.{number_in}
 use Rattle.phase_parts.specs.Alike.{AreAlike, as_effect}

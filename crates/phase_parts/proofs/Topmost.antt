@@ -1,6 +1,5 @@
 -- The top frame, which stands last where they are kept.
-use Rattle.std.proofs.Common.{◌≡◌, ◌+◌, ◌-◌, ◌<◌, ◌≤◌, Some, None, slice_get, List, [], ◌∷◌, ◌++◌, set, get_or, take, length, refl, sym, ap, ◌∙◌, subst, arith, length-append, length-set}
-use Rattle.std.specs.Prelude.{reverse}
+use Rattle.std.proofs.Common.{◌≡◌, ◌+◌, ◌-◌, ◌<◌, ◌≤◌, Some, None, slice_get, List, [], ◌∷◌, ◌++◌, set, get_or, take, length, refl, sym, ap, ◌∙◌, subst, arith, length-append, length-set, reverse}
 use Rattle.std.specs.List.{refill}
 use Rattle.std.proofs.lemmas.List.{reverse-append, reverse-reverse}
 use Rattle.boot_model.specs.declared.frame.Frame.{Frame}

@@ -1,12 +1,7 @@
 -- The parts of a volume, rank by rank up to the last rank, and those without one.
-use Rattle.std.proofs.Common.{◌≡◌, ℕ, zero, suc, ◌+◌, ◌-◌, ◌<◌, ◌≤◌, min, Bool, true, false, ◌&&◌, List, [], ◌∷◌, ◌++◌, length, sym, ap, ◌∙◌, refl, arith, length-append, append_assoc}
-use Rattle.std.specs.Prelude.{flat_map, filter, Option, Some, None, is_some, if◌then◌else◌, slice_get, ◌==◌}
-use Rattle.std.specs.Option.{option_and_then}
-use Rattle.pi_base.specs.declared.phase.Phase.{Phase}
-use Rattle.pi_base.specs.Lists.{numbers}
-use Rattle.mod_catalog.specs.declared.catalogue.Catalog.{Catalog}
-use Rattle.mod_catalog.specs.declared.catalogue.Module.{Module}
-use Rattle.mod_catalog.specs.declared.catalogue.Part.{Part}
+use Rattle.std.proofs.Common.{◌≡◌, ℕ, zero, suc, ◌+◌, ◌-◌, ◌<◌, ◌≤◌, min, Bool, true, false, ◌&&◌, List, [], ◌∷◌, ◌++◌, length, sym, ap, ◌∙◌, refl, arith, length-append, append_assoc, flat_map, filter, Option, Some, None, is_some, if◌then◌else◌, slice_get, ◌==◌, option_and_then}
+use Rattle.pi_base.specs.{declared.phase.Phase.Phase, Lists.numbers}
+use Rattle.mod_catalog.specs.{declared.catalogue.Catalog.Catalog, declared.catalogue.Module.Module, declared.catalogue.Part.Part}
 use Rattle.mod_catalog.specs.Parts.{part_of, parts_from, parts_in, rank_at}
 use Rattle.phase_parts.specs.Parts.{is_ranked_as, is_part_as, wanted_from, wanted_in, ranked_below, ranked_parts, unranked_parts}
 

@@ -1,14 +1,10 @@
 -- One number more of those that become known: there is room for it, since known volumes are no more than the volumes of the catalogue.
-use Rattle.std.proofs.Common.{◌≡◌, ℕ, ◌+◌, ◌<◌, ◌≤◌, Bool, true, false, not, List, [], ◌∷◌, ◌++◌, length, get_or, drop, refl, sym, ap, ◌∙◌, subst, arith}
-use Rattle.std.specs.Prelude.{if◌then◌else◌}
+use Rattle.std.proofs.Common.{◌≡◌, ℕ, ◌+◌, ◌<◌, ◌≤◌, Bool, true, false, not, List, [], ◌∷◌, ◌++◌, length, get_or, drop, refl, sym, ap, ◌∙◌, subst, arith, if◌then◌else◌}
 use Rattle.std.proofs.lemmas.List.{length_push, at_drop_more}
-use Rattle.mod_catalog.specs.declared.limits.TheConstants.{MOST_VOLUMES}
-use Rattle.mod_catalog.specs.declared.catalogue.Catalog.{Catalog}
-use Rattle.mod_catalog.specs.Parts.{has_number}
+use Rattle.mod_catalog.specs.{declared.limits.TheConstants.MOST_VOLUMES, declared.catalogue.Catalog.Catalog, Parts.has_number}
 use Rattle.mod_catalog.specs.WellFormed.{IsWellFormed}
 use Rattle.phase_parts.specs.Known.{AreKnown, with_new}
-use Rattle.boot_model.proofs.ListFacts.{each_push}
-use Rattle.boot_model.proofs.Distinct.{differ_pushed, few_below}
+use Rattle.boot_model.proofs.{ListFacts.each_push, Distinct.differ_pushed, Distinct.few_below}
 
 -- a volume that is new comes to the known ones
 known_if : (catalog : Catalog) (known : List ℕ) (number : ℕ) (b : Bool) → not (has_number known number) ≡ b → AreKnown catalog known → number < length catalog.volumes

@@ -1,8 +1,7 @@
 -- An action on a number prints nothing and leaves the frame.
 use Rattle.std.proofs.Common.{◌≡◌, ℕ, List, [], ◌∷◌, Option, Some, None, refl}
-use Rattle.boot_model.specs.declared.frame.Register.{Register}
+use Rattle.boot_model.specs.{declared.frame.Register.Register, declared.frame.Frame.Frame}
 use Rattle.phase_parts.specs.Deed.{number_written, lines_of, frame_after, frames_after}
-use Rattle.boot_model.specs.declared.frame.Frame.{Frame}
 
 pub prints_nothing : (registers : List Register) (r : ℕ) (n : Option ℕ) → lines_of (number_written registers r n) ≡ []
 prints_nothing registers r None = refl

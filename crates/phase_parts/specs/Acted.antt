@@ -2,17 +2,11 @@
 -- Own.
 use Rattle.std.specs.Prelude.{◌≡◌, ◌<◌, List, [], ◌∷◌, None, length}
 use Rattle.pi_base.specs.declared.phase.Phase.{Phase}
-use Rattle.act_code.specs.declared.action.Action.{Action}
+use Rattle.act_code.specs.{declared.action.Action.Action, declared.block.TheConstants.MOST_ACTIONS}
 use Rattle.mod_catalog.specs.declared.catalogue.Catalog.{Catalog}
-use Rattle.phase_parts.specs.Deed.{deed}
-use Rattle.phase_parts.specs.Found.{action_at}
-use Rattle.phase_parts.specs.Needs.{IsScriptAction}
-use Rattle.act_code.specs.declared.block.TheConstants.{MOST_ACTIONS}
-use Rattle.phase_parts.specs.Spent.{HasSpent, IsSpent}
-use Rattle.phase_parts.specs.Took.{HasDone}
+use Rattle.phase_parts.specs.{Deed.deed, Found.action_at, Needs.IsScriptAction, Spent.HasSpent, Spent.IsSpent, Took.HasDone}
 use Rattle.boot_model.specs.declared.frame.Frame.{Frame}
-use Rattle.phase_parts.specs.declared.fuel.Fuel.{Fuel}
-use Rattle.phase_parts.specs.declared.next.Acted.{Acted}
+use Rattle.phase_parts.specs.{declared.fuel.Fuel.Fuel, declared.next.Acted.Acted}
 use Rattle.phase_parts.specs.declared.next.Acted.TheVariants as A
 
 -- an action of its phase alone stands there, in the script of a module, and nothing was done

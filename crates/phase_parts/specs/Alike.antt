@@ -2,8 +2,7 @@
 -- Own.
 use Rattle.std.specs.Prelude.{◌≡◌, Some, None}
 use Rattle.act_code.specs.declared.action.Action.{Action}
-use Rattle.boot_model.specs.declared.frame.Frame.{Frame}
-use Rattle.boot_model.specs.Effect.{Effect, effect_by}
+use Rattle.boot_model.specs.{declared.frame.Frame.Frame, Effect.Effect, Effect.effect_by}
 use Rattle.boot_model.specs.Effect as E
 use Rattle.phase_parts.specs.Deed.{Deed, Wrote, Logged, Skipped, Returned, deed}
 

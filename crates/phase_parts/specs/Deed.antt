@@ -1,17 +1,13 @@
 -- What an action does that the scripts of both phases have: it writes a register, logs, skips or returns.
 -- Own; the profile of the action scripts.
 use Rattle.std.specs.Prelude.{ℕ, ◌+◌, ◌%◌, ◌^◌, List, [], ◌∷◌, Option, Some, None, option_map, slice_set}
-use Rattle.pi_base.specs.declared.word.Word.{Word}
-use Rattle.pi_base.specs.declared.word.Word.TheVariants.{Success, InvalidParameter}
+use Rattle.pi_base.specs.{declared.word.Word.Word, declared.word.Word.TheVariants.Success, declared.word.Word.TheVariants.InvalidParameter}
 use Rattle.act_code.specs.declared.action.Action.{Action}
 use Rattle.act_code.specs.declared.action.Action.TheVariants as A
-use Rattle.boot_model.specs.declared.frame.Register.{Register}
-use Rattle.boot_model.specs.declared.frame.Register.TheVariants.{Number}
-use Rattle.boot_model.specs.declared.line.Line.{Line}
+use Rattle.boot_model.specs.{declared.frame.Register.Register, declared.frame.Register.TheVariants.Number, declared.line.Line.Line}
 use Rattle.boot_model.specs.declared.line.Line.TheVariants as L
-use Rattle.boot_model.specs.Registers.{number_in, skipped}
+use Rattle.boot_model.specs.{Registers.number_in, Registers.skipped, declared.frame.Frame.Frame}
 use Rattle.phase_parts.specs.Frames.{past}
-use Rattle.boot_model.specs.declared.frame.Frame.{Frame}
 
 pub data Deed : Type 0 where
   Wrote : (registers : List Register) (status : Word) → Deed

@@ -1,13 +1,9 @@
 -- The action at which a frame stands.
 -- Own.
-use Rattle.std.specs.Prelude.{ℕ, Bool, true, false, List, [], ◌∷◌, Option, option_map, slice_get, unwrap_or}
-use Rattle.std.specs.Option.{option_and_then}
-use Rattle.pi_base.specs.declared.phase.Phase.{Phase}
-use Rattle.pi_base.specs.declared.word.Word.TheVariants.{Success}
-use Rattle.act_code.specs.declared.action.Action.{Action}
-use Rattle.act_code.specs.declared.action.Action.TheVariants.{Ret}
-use Rattle.mod_catalog.specs.declared.catalogue.Catalog.{Catalog}
-use Rattle.mod_catalog.specs.Parts.{part_at}
+use Rattle.std.specs.Prelude.{ℕ, Bool, true, false, List, [], ◌∷◌, Option, option_map, slice_get, unwrap_or, option_and_then}
+use Rattle.pi_base.specs.{declared.phase.Phase.Phase, declared.word.Word.TheVariants.Success}
+use Rattle.act_code.specs.{declared.action.Action.Action, declared.action.Action.TheVariants.Ret}
+use Rattle.mod_catalog.specs.{declared.catalogue.Catalog.Catalog, Parts.part_at}
 use Rattle.boot_model.specs.declared.frame.Frame.{Frame}
 
 -- its block, and the action there, where there is one

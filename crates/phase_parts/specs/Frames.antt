@@ -2,8 +2,7 @@
 -- Own.
 use Rattle.std.specs.Prelude.{List, [], ◌∷◌, Option, Some, None}
 use Rattle.pi_base.specs.declared.word.Word.{Word}
-use Rattle.boot_model.specs.declared.frame.Frame.{Frame}
-use Rattle.boot_model.specs.declared.frame.Register.{Register}
+use Rattle.boot_model.specs.{declared.frame.Frame.Frame, declared.frame.Register.Register}
 pub use Rattle.boot_model.specs.Frames.{frame_at, notified, past, start_frames, swept}
 
 -- the frame behind an action, with its registers, its status and what it has still to visit

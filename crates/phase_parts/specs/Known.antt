@@ -1,10 +1,8 @@
 -- The volumes that are known: each once, and each of the catalogue.
 -- Own.
 use Rattle.std.specs.Prelude.{ℕ, ◌<◌, not, if◌then◌else◌, List, [], ◌∷◌, ◌++◌, length}
-use Rattle.mod_catalog.specs.declared.catalogue.Catalog.{Catalog}
+use Rattle.mod_catalog.specs.{declared.catalogue.Catalog.Catalog, Parts.has_number, WellFormed.IsWellFormed}
 use Rattle.pi_base.specs.Lists.{Each}
-use Rattle.mod_catalog.specs.Parts.{has_number}
-use Rattle.mod_catalog.specs.WellFormed.{IsWellFormed}
 use Rattle.boot_model.specs.Licence.{AllDiffer}
 
 -- each is the number of a volume of the catalogue

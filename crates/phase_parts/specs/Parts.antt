@@ -1,11 +1,8 @@
 -- The parts of a phase in a volume as they are put in order: rank by rank, and then those without a rank.
 -- PI 1.8, volume 1, "A Priori File"; that the others come by place is own.
 use Rattle.std.specs.Prelude.{ℕ, ◌+◌, Bool, false, ◌==◌, ◌&&◌, if◌then◌else◌, List, [], ◌∷◌, Option, Some, None, is_none, filter, flat_map}
-use Rattle.pi_base.specs.declared.phase.Phase.{Phase}
-use Rattle.pi_base.specs.Lists.{numbers}
-use Rattle.mod_catalog.specs.declared.catalogue.Catalog.{Catalog}
-use Rattle.mod_catalog.specs.declared.catalogue.Module.{Module}
-use Rattle.mod_catalog.specs.declared.catalogue.Part.{Part}
+use Rattle.pi_base.specs.{declared.phase.Phase.Phase, Lists.numbers}
+use Rattle.mod_catalog.specs.{declared.catalogue.Catalog.Catalog, declared.catalogue.Module.Module, declared.catalogue.Part.Part}
 use Rattle.mod_catalog.specs.Parts.{part_of, parts_in, rank_at}
 use Rattle.boot_model.specs.PeiChoice.{is_rank, ranked}
 

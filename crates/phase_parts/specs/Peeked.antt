@@ -3,11 +3,9 @@
 use Rattle.std.specs.Prelude.{ℕ, List, Option, Some, None}
 use Rattle.pi_base.specs.declared.word.Word.{Word}
 use Rattle.pi_base.specs.declared.word.Word.TheVariants.{Success, InvalidParameter, NotFound}
-use Rattle.boot_model.specs.declared.frame.Register.{Register}
+use Rattle.boot_model.specs.{declared.frame.Register.Register, Registers.number_in}
 use Rattle.boot_model.specs.declared.line.Extra.TheVariants as X
-use Rattle.store_model.specs.StoreState.{StoreState}
-use Rattle.store_model.specs.MemoryReading.{bytes_at}
-use Rattle.boot_model.specs.Registers.{number_in}
+use Rattle.store_model.specs.{StoreState.StoreState, MemoryReading.bytes_at}
 use Rattle.phase_parts.specs.declared.reading.Answer.{Answer}
 
 abbrev pub refusal : Word → Answer

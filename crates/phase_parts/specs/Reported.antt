@@ -1,12 +1,8 @@
 -- What the PPIs of a store report (PI 1.8, volume 1, `EFI_PEI_FIRMWARE_VOLUME_INFO_PPI`), by their descriptors.
-use Rattle.std.specs.Prelude.{◌≡◌, ℕ, List, ◌++◌, Option}
-use Rattle.std.specs.Option.{option_and_then}
+use Rattle.std.specs.Prelude.{◌≡◌, ℕ, List, ◌++◌, Option, option_and_then}
 use Rattle.mod_catalog.specs.declared.catalogue.Catalog.{Catalog}
 use Rattle.pi_base.specs.Lists.{Each}
-use Rattle.store_model.specs.declared.store_handle.Desc.{Desc}
-use Rattle.store_model.specs.StoreState.{StoreState}
-use Rattle.store_model.specs.Service.Descriptor.{offsets}
-use Rattle.store_model.specs.StateFacts.{IsDesc}
+use Rattle.store_model.specs.{declared.store_handle.Desc.Desc, StoreState.StoreState, Service.Descriptor.offsets, StateFacts.IsDesc}
 use Rattle.store_model.specs.MemoryReading.{bytes_at}
 use Rattle.boot_model.specs.Reporting.{told_by, reports, volume_info_len}
 

@@ -2,9 +2,8 @@
 -- Own.
 use Rattle.std.specs.Prelude.{◌≡◌, List, [], ◌∷◌, Some, None}
 use Rattle.act_code.specs.declared.action.Action.{Action}
-use Rattle.boot_model.specs.declared.line.Line.{Line}
+use Rattle.boot_model.specs.{declared.line.Line.Line, declared.frame.Frame.Frame}
 use Rattle.phase_parts.specs.Deed.{Deed, deed, frames_after, lines_of}
-use Rattle.boot_model.specs.declared.frame.Frame.{Frame}
 use Rattle.phase_parts.specs.declared.actions.Taken.{Taken}
 use Rattle.phase_parts.specs.declared.actions.Taken.TheVariants as T
 

@@ -2,9 +2,8 @@
 ghost use Rattle.std.specs.Prelude.{◌≡◌, ◌≤◌, List, ◌∷◌, length, Some};
 ghost use Rattle.pi_base.specs.declared.phase.Phase.{Phase as OfPhase};
 ghost use Rattle.boot_model.specs.Registers as R;
-ghost use Rattle.phase_parts.specs.Needs.{IsScriptAction, IsWithin};
+ghost use Rattle.phase_parts.specs.{Needs.IsScriptAction, Needs.IsWithin, Took.Took};
 ghost use Rattle.phase_parts.specs.Deed.{frame_after, number_added, number_written};
-ghost use Rattle.phase_parts.specs.Took.{Took};
 ghost use Rattle.boot_model.specs.declared.frame.Frame.{Frame as OfFrame};
 
 use crate::registers::Writes;

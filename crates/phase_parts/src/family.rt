@@ -1,7 +1,6 @@
 //! A volume with those nested in it.
 ghost use Rattle.std.specs.Prelude.{◌≡◌};
-ghost use Rattle.mod_catalog.specs.Parts.{family};
-ghost use Rattle.mod_catalog.specs.WellFormed.{IsWellFormed};
+ghost use Rattle.mod_catalog.specs.{Parts.family, WellFormed.IsWellFormed};
 
 use crate::volume_list::VolumeList;
 use mod_catalog::Catalog;

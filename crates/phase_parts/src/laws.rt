@@ -1,7 +1,5 @@
 // A law of actions.
-ghost use Rattle.boot_model.specs.DxeAction.{DxeReply};
-ghost use Rattle.boot_model.specs.declared.driver.ProtocolSweep.{ProtocolSweep};
-ghost use Rattle.boot_model.specs.PeiAction.{PeiOwn, Reply};
+ghost use Rattle.boot_model.specs.{DxeAction.DxeReply, declared.driver.ProtocolSweep.ProtocolSweep, PeiAction.PeiOwn, PeiAction.Reply};
 ghost use Rattle.store_model.specs.declared.store_handle.Sweep.{Sweep};
 ghost use Rattle.phase_parts.specs.Alike.{AreAlike};
 

@@ -1,7 +1,6 @@
 //! Which volume is mapped at an address.
 ghost use Rattle.std.specs.Prelude.{◌≡◌, ◌≤◌, ◌<◌, length, IfSome};
-ghost use Rattle.mod_catalog.specs.declared.limits.TheConstants.{MOST_VOLUMES};
-ghost use Rattle.mod_catalog.specs.Parts.{volume_at};
+ghost use Rattle.mod_catalog.specs.{declared.limits.TheConstants.MOST_VOLUMES, Parts.volume_at};
 
 use mod_catalog::Catalog;
 

@@ -1,9 +1,7 @@
 //! The next action of the top frame.
 ghost use Rattle.std.specs.Prelude.{◌≡◌, ◌<◌, List, ◌∷◌, IfSome, OnSome, length, option_copied};
 ghost use Rattle.mod_catalog.specs.WellFormed.{IsWellFormed};
-ghost use Rattle.phase_parts.specs.Acted.{HasActed};
-ghost use Rattle.phase_parts.specs.Found.{found_action};
-ghost use Rattle.phase_parts.specs.Needs.{IsScriptAction, IsWithin};
+ghost use Rattle.phase_parts.specs.{Acted.HasActed, Found.found_action, Needs.IsScriptAction, Needs.IsWithin};
 ghost use Rattle.boot_model.specs.declared.frame.Frame.{Frame as OfFrame};
 
 use crate::actions::{Taken, take_action};

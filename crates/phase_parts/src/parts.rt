@@ -1,7 +1,6 @@
 //! The parts of volumes, in order.
 ghost use Rattle.std.specs.Prelude.{◌≡◌, ◌≤◌, ◌<◌, ◌++◌, ◌∷◌, [], IsTrue, if◌then◌else◌, length};
-ghost use Rattle.mod_catalog.specs.declared.limits.TheConstants.{MOST_MODULES};
-ghost use Rattle.mod_catalog.specs.Parts.{parts_in, rank_at};
+ghost use Rattle.mod_catalog.specs.{declared.limits.TheConstants.MOST_MODULES, Parts.parts_in, Parts.rank_at};
 ghost use Rattle.boot_model.specs.PeiChoice.{ranked};
 ghost use Rattle.phase_parts.specs.Parts.{wanted_in, unranked_parts};
 

@@ -1,7 +1,6 @@
 //! Reading memory.
 ghost use Rattle.std.specs.Prelude.{◌≤◌, ◌≡◌};
-ghost use Rattle.store_model.specs.Service.{Present, OfEach};
-ghost use Rattle.store_model.specs.StoreCall.{Anything};
+ghost use Rattle.store_model.specs.{Service.Present, Service.OfEach, StoreCall.Anything};
 ghost use Rattle.phase_parts.specs.Peeked.{peeked};
 
 use crate::registers::number_in;

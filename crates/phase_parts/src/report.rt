@@ -1,11 +1,8 @@
 //! The volumes that PPIs report.
 ghost use Rattle.std.specs.Prelude.{◌≡◌, ◌≤◌, ◌<◌, length, IfSome};
-ghost use Rattle.mod_catalog.specs.declared.limits.TheConstants.{MOST_VOLUMES};
+ghost use Rattle.mod_catalog.specs.{declared.limits.TheConstants.MOST_VOLUMES, WellFormed.IsWellFormed};
 ghost use Rattle.boot_model.specs.Reporting as R;
-ghost use Rattle.store_model.specs.StateFacts.{IsDesc};
-ghost use Rattle.store_model.specs.Service.{Present, OfEach};
-ghost use Rattle.store_model.specs.StoreCall.{Anything};
-ghost use Rattle.mod_catalog.specs.WellFormed.{IsWellFormed};
+ghost use Rattle.store_model.specs.{StateFacts.IsDesc, Service.Present, Service.OfEach, StoreCall.Anything};
 ghost use Rattle.phase_parts.specs.Known.{AreKnown};
 ghost use Rattle.phase_parts.specs.Reported.{AreDescs, IsWithReports, volume_of_info};
 

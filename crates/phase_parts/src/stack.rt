@@ -1,10 +1,9 @@
 //! The scripts that run, one on the other.
 ghost use Rattle.std.specs.Prelude.{◌≡◌, ◌<◌, List, [], ◌∷◌, length, nat_le, option_copied};
 ghost use Rattle.boot_model.specs.Registers as R;
-ghost use Rattle.phase_parts.specs.Writes.{written};
+ghost use Rattle.phase_parts.specs.{Writes.written, Needs.IsWithin};
 ghost use Rattle.phase_parts.specs.Frames.{top_of, below_top, past, answered, swept, top_sweep};
 ghost use Rattle.boot_model.specs.declared.frame.Frame.{Frame as OfFrame};
-ghost use Rattle.phase_parts.specs.Needs.{IsWithin};
 
 use crate::frame::{advance, answer};
 use crate::registers::{Writes, number_in};

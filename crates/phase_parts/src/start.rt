@@ -1,7 +1,6 @@
 // The start of a script: a module's, or a notification's.
 ghost use Rattle.std.specs.Prelude.{◌≡◌, [], ◌∷◌, length, nat_le, not, if◌then◌else◌};
-ghost use Rattle.phase_parts.specs.Frames.{start_frames, swept};
-ghost use Rattle.phase_parts.specs.Found.{blocks_of, has_block};
+ghost use Rattle.phase_parts.specs.{Frames.start_frames, Frames.swept, Found.blocks_of, Found.has_block};
 
 use crate::found::part_of;
 use crate::frame::frame_at;

@@ -1,10 +1,7 @@
 //! The volumes that are known, by their numbers.
 ghost use Rattle.std.specs.Prelude.{◌≡◌, ◌<◌, ◌++◌, ◌∷◌, [], length, if◌then◌else◌, IfSome, IsTrue};
-ghost use Rattle.mod_catalog.specs.Parts.{has_number};
-ghost use Rattle.boot_model.specs.Reporting.{newcomers};
-ghost use Rattle.boot_model.specs.Discovery.{discoveries};
-ghost use Rattle.mod_catalog.specs.WellFormed.{IsWellFormed};
-ghost use Rattle.mod_catalog.specs.declared.catalogue.Catalog.{Catalog};
+ghost use Rattle.mod_catalog.specs.{Parts.has_number, WellFormed.IsWellFormed, declared.catalogue.Catalog.Catalog};
+ghost use Rattle.boot_model.specs.{Reporting.newcomers, Discovery.discoveries};
 ghost use Rattle.phase_parts.specs.Known.{AreKnown, MayCome, with_new};
 
 use crate::family::family_of;

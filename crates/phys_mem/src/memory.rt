@@ -1,8 +1,7 @@
 // Physical memory.
-ghost use Rattle.std.specs.Prelude.{◌≡◌, ◌++◌, ◌∷◌, ◌+◌, ◌<◌, ◌&&◌, [], map, option_map, IfOk, true, replicate};
+ghost use Rattle.std.specs.Prelude.{◌≡◌, ◌++◌, ◌∷◌, ◌+◌, ◌<◌, ◌&&◌, [], map, option_map, IfOk, true, replicate, option_to_list};
 ghost use Rattle.phys_mem.specs.Region.{is_inside};
 ghost use Rattle.phys_mem.specs.Regions.{rom_region, ram_region, bytes_at, share, copy_of, Becomes};
-ghost use Rattle.std.specs.Option.{option_to_list};
 
 use crate::bank::{Bank, is_inside, part_of};
 use crate::rom::Rom;

@@ -1,6 +1,5 @@
 -- What holds of each item of a list, of each with those behind it, and of two lists item by item.
-use Rattle.std.proofs.Common.{suc, Bool, true, false, cond, List, [], ◌∷◌, ◌++◌, map, arith, All}
-use Rattle.std.specs.Prelude.{filter, AllPairs}
+use Rattle.std.proofs.Common.{suc, Bool, true, false, cond, List, [], ◌∷◌, ◌++◌, map, arith, All, filter, AllPairs}
 use Rattle.pi_base.specs.Lists.{Each, EachPair, Ordered}
 
 pub each_more : {A : Type 0} (P Q : A → Type 0) (xs : List A) → ((x : A) → P x → Q x) → Each P xs → Each Q xs

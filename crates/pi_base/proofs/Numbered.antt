@@ -1,17 +1,10 @@
 -- A map that is ordered by the numbers of its GUIDs is asked by the GUIDs.
-use Rattle.std.proofs.Common.{◌≡◌, ℕ, ◌<◌, ◌≤◌, ◌^◌, Bool, true, false, List, [], ◌∷◌, length, cond, Option, Some, None, refl, sym, ap, ◌∙◌, arith}
-use Rattle.std.proofs.lemmas.Slice.Eq.{bytes_eq-Decides}
-use Rattle.std.proofs.lemmas.Cmp.{nat_list_eq_equiv, ranked}
-use Rattle.std.proofs.lemmas.List.{append-nil, take_all}
-use Rattle.std.specs.BTreeMap.{insert_entry}
-use Rattle.std.specs.Map.{lookup}
-use Rattle.std.specs.Ordering.{is_eq, nat_cmp, match_ordering}
-use Rattle.std.specs.declared.cmp.Ordering.{Ordering}
+use Rattle.std.proofs.Common.{◌≡◌, ℕ, ◌<◌, ◌≤◌, ◌^◌, Bool, true, false, List, [], ◌∷◌, length, cond, Option, Some, None, refl, sym, ap, ◌∙◌, arith, append-nil, take_all, is_eq, nat_cmp}
+use Rattle.std.proofs.{lemmas.Slice.Eq.bytes_eq-Decides, lemmas.Cmp.nat_list_eq_equiv, lemmas.Cmp.ranked}
+use Rattle.std.specs.{BTreeMap.insert_entry, Map.lookup, Ordering.match_ordering, declared.cmp.Ordering.Ordering}
 use Rattle.std.specs.declared.cmp.Ordering.TheVariants.{Less, Equal, Greater}
-use Rattle.pi_base.specs.declared.guid.Guid.{Guid}
+use Rattle.pi_base.specs.{declared.guid.Guid.Guid, Guids.same_guid, Lists.Each}
 use Rattle.pi_base.specs.Field.{AreBytes, SpellsWhatItReads, little_bytes, little_number}
-use Rattle.pi_base.specs.Guids.{same_guid}
-use Rattle.pi_base.specs.Lists.{Each}
 use Rattle.pi_base.proofs.FieldLaws.{little_number-little_bytes}
 use Rattle.pi_base.specs.GuidMap.{value_of, spelled, entries_of, IsNumbered}
 

@@ -1,12 +1,8 @@
 -- A map that is ordered by its GUIDs' bytes is asked by the same GUIDs.
-use Rattle.std.proofs.Common.{◌≡◌, Bool, List, cond, Some, sym, ◌∙◌}
+use Rattle.std.proofs.Common.{◌≡◌, Bool, List, cond, Some, sym, ◌∙◌, is_eq, nat_cmp}
 use Rattle.std.proofs.lemmas.Map.Text.{is_eq-slice_cmp}
-use Rattle.std.specs.Map.{lookup}
-use Rattle.std.specs.Cmp.Lexicographic.{slice_cmp}
-use Rattle.std.specs.Ordering.{is_eq, nat_cmp}
-use Rattle.pi_base.specs.declared.guid.Guid.{Guid}
-use Rattle.pi_base.specs.Guids.{same_guid}
-use Rattle.pi_base.specs.GuidMap.{value_of}
+use Rattle.std.specs.{Map.lookup, Cmp.Lexicographic.slice_cmp}
+use Rattle.pi_base.specs.{declared.guid.Guid.Guid, Guids.same_guid, GuidMap.value_of}
 
 -- whether two GUIDs are neither before nor behind each other
 abbrev pub is_level : Guid → Guid → Bool

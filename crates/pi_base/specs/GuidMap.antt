@@ -1,9 +1,7 @@
 -- A map from GUIDs, by what it answers for each GUID.
 use Rattle.std.specs.Prelude.{◌≡◌, ℕ, ◌<◌, ◌^◌, List, map, if◌then◌else◌, Option, Some}
 use Rattle.std.specs.Map.{lookup}
-use Rattle.pi_base.specs.Field.{little_bytes}
-use Rattle.pi_base.specs.Guids.{same_guid}
-use Rattle.pi_base.specs.declared.guid.Guid.{Guid}
+use Rattle.pi_base.specs.{Field.little_bytes, Guids.same_guid, declared.guid.Guid.Guid}
 
 -- the value of a GUID
 abbrev pub value_of : {V : Type 0} → List (Guid × V) → Guid → Option V

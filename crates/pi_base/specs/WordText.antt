@@ -1,8 +1,7 @@
 -- Numbers, GUIDs and statuses as words (own).
 use Rattle.std.specs.Prelude.{ℕ, false, List, ◌∷◌, codes}
 use Rattle.std.specs.Fmt.{digits}
-use Rattle.pi_base.specs.declared.guid.Guid.{Guid}
-use Rattle.pi_base.specs.declared.word.Word.{Word}
+use Rattle.pi_base.specs.{declared.guid.Guid.Guid, declared.word.Word.Word}
 use Rattle.pi_base.specs.declared.word.Word.TheVariants.{Success, InvalidParameter, NotFound, OutOfResources, NotAvailableYet, AlreadyStarted, AccessDenied}
 use Rattle.pi_base.specs.GuidText.{hyphenated_text, lower, swap_fields}
 

@@ -1,7 +1,6 @@
 // The statuses that boot services answer.
 ghost use Rattle.std.specs.Prelude.{◌≡◌, ◌<◌, ◌↔◌, IfSome, IsNone};
-ghost use Rattle.pi_base.specs.Word.{word_number};
-ghost use Rattle.pi_base.specs.WordText.{word_text};
+ghost use Rattle.pi_base.specs.{Word.word_number, WordText.word_text};
 
 /// What a boot service or a module answers: the `EFI_STATUS` values that occur here (UEFI's appendix of status codes; `NotAvailableYet` is PI 1.8's, volume 1). In a script a word is written by its number, from 0 in this order (own).
 #[derive(Clone, Copy, PartialEq, Eq)]

@@ -1,7 +1,6 @@
 -- A line of a text is passed.
-use Rattle.std.proofs.Common.{◌≡◌, ◌<◌, ℕ, zero, suc, ◌-◌, Bool, true, List, [], ◌∷◌, Contains, None, length, slice_get, subst, sym, ap, refl, arith, ◌∙◌, eqb}
+use Rattle.std.proofs.Common.{◌≡◌, ◌<◌, ℕ, zero, suc, ◌-◌, Bool, true, List, [], ◌∷◌, Contains, None, length, slice_get, subst, sym, ap, refl, arith, ◌∙◌, eqb, eqb-true}
 use Rattle.std.proofs.lemmas.List.Elements.{Contains-append_right}
-use Rattle.std.proofs.lemmas.Bool.{eqb-true}
 use Rattle.line_words.specs.Line.{lines}
 
 -- a line behind it is one of the text

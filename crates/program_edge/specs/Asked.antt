@@ -1,7 +1,6 @@
 -- What a person asks a program for in one word (own).
 use Rattle.std.specs.Prelude.{◌≡◌, ◌⊎◌, ℕ, List, [], ◌∷◌, codes}
-use Rattle.program_edge.specs.declared.asked.Asked.{Asked}
-use Rattle.program_edge.specs.declared.asked.Asked.TheVariants.{Forms, Version}
+use Rattle.program_edge.specs.{declared.asked.Asked.Asked, declared.asked.Asked.TheVariants.Forms, declared.asked.Asked.TheVariants.Version}
 
 -- a word asks for it
 abbrev pub IsWordFor : List ℕ → Asked → Type 0

@@ -2,13 +2,10 @@
 use Rattle.std.specs.Prelude.{◌≡◌, ◌≢◌, ◌⊎◌, ◌<◌, ◌+◌, ◌%◌, ℕ, List, [], ◌∷◌, Contains, codes, length, slice_index, Some, None}
 use Rattle.pi_base.specs.declared.span.TheConstants.{PAGE_LEN}
 use Rattle.boot_plan.specs.declared.limits.TheConstants.{LEAST_ADDRESS, MOST_END, VOLUME_ALIGNMENT, LEAST_TEMP, MOST_TEMP, LEAST_RAM, MOST_RAM, MOST_FUEL, MOST_PAGES, MOST_NAME}
-use Rattle.line_words.specs.Words.{words}
-use Rattle.line_words.specs.Number.{number_of}
-use Rattle.program_edge.specs.declared.kind.Kind.{Kind}
+use Rattle.line_words.specs.{Words.words, Number.number_of}
+use Rattle.program_edge.specs.{declared.kind.Kind.Kind, declared.rule.Rule.Rule, declared.mistake.Mistake.Mistake}
 use Rattle.program_edge.specs.declared.kind.Kind.TheVariants.{Temp, Ram, Volume, Fuel, Pages}
-use Rattle.program_edge.specs.declared.rule.Rule.{Rule}
 use Rattle.program_edge.specs.declared.rule.Rule.TheVariants as rule
-use Rattle.program_edge.specs.declared.mistake.Mistake.{Mistake}
 
 -- the first word of a line of a kind
 unfoldable pub keyword : Kind → List ℕ

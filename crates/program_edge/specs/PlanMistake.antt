@@ -1,11 +1,8 @@
 -- Mistakes of a plan's text (own): one of a line, or a kind of line that is said to be lacking.
 use Rattle.std.specs.Prelude.{◌≡◌, ◌≢◌, ◌⊎◌, ℕ, zero, suc, List, Contains, Option, Some, None, slice_get, slice_index}
-use Rattle.boot_plan.specs.declared.fault.PlanFault.{PlanFault}
-use Rattle.boot_plan.specs.declared.fault.PlanCause.TheVariants.{Missing}
+use Rattle.boot_plan.specs.{declared.fault.PlanFault.PlanFault, declared.fault.PlanCause.TheVariants.Missing}
 use Rattle.line_words.specs.Line.{lines}
-use Rattle.program_edge.specs.declared.kind.Kind.{Kind}
-use Rattle.program_edge.specs.declared.rule.Rule.TheVariants.{Needed}
-use Rattle.program_edge.specs.declared.mistake.Mistake.{Mistake}
+use Rattle.program_edge.specs.{declared.kind.Kind.Kind, declared.rule.Rule.TheVariants.Needed, declared.mistake.Mistake.Mistake}
 use Rattle.program_edge.specs.Mistake.{IsFirst, IsMistake, keyword}
 
 -- a text has a line

@@ -1,13 +1,9 @@
 -- Starts of modules that have no script (own): they return at once, and nothing of them is run.
 use Rattle.std.specs.Prelude.{ℕ, Bool, false, ◌&&◌, ◌==◌, length, Option, Some, None}
 use Rattle.std.specs.List.{list_any}
-use Rattle.pi_base.specs.declared.guid.Guid.{Guid}
-use Rattle.pi_base.specs.Guids.{same_guid}
-use Rattle.mod_catalog.specs.declared.catalogue.Part.{Part}
-use Rattle.mod_catalog.specs.declared.catalogue.Module.{Module}
-use Rattle.mod_catalog.specs.declared.catalogue.Catalog.{Catalog}
-use Rattle.boot_model.specs.declared.line.Line.{Line}
-use Rattle.boot_model.specs.declared.line.Line.TheVariants.{PeiStart, DxeStart}
+use Rattle.pi_base.specs.{declared.guid.Guid.Guid, Guids.same_guid}
+use Rattle.mod_catalog.specs.{declared.catalogue.Part.Part, declared.catalogue.Module.Module, declared.catalogue.Catalog.Catalog}
+use Rattle.boot_model.specs.{declared.line.Line.Line, declared.line.Line.TheVariants.PeiStart, declared.line.Line.TheVariants.DxeStart}
 
 -- a part is there and has no script, which is one without blocks
 abbrev pub is_scriptless : Option Part → Bool

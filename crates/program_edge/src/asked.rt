@@ -1,8 +1,7 @@
 // What a person asks for beside what a program does.
 ghost use Rattle.std.specs.Prelude.{IfSome, IfNone};
 ghost use Rattle.boot_io.specs.Words.{words_of};
-ghost use Rattle.program_edge.specs.declared.asked.Asked.{Asked as OfAsked};
-ghost use Rattle.program_edge.specs.Asked.{AskFor, IsWordFor};
+ghost use Rattle.program_edge.specs.{declared.asked.Asked.Asked as OfAsked, Asked.AskFor, Asked.IsWordFor};
 
 /// What a person asks for in one word, which is no form of any command.
 #[derive(Clone, Copy)]

@@ -1,7 +1,6 @@
 // The kinds of a plan's lines.
 ghost use Rattle.std.specs.Prelude.{◌≡◌, ◌≢◌, IfSome, IfNone};
-ghost use Rattle.program_edge.specs.Mistake.{keyword, word_count};
-ghost use Rattle.program_edge.specs.declared.kind.Kind.{Kind};
+ghost use Rattle.program_edge.specs.{Mistake.keyword, Mistake.word_count, declared.kind.Kind.Kind};
 
 /// A kind of a plan's lines, by its first word.
 #[derive(Clone, Copy)]

@@ -1,8 +1,7 @@
 // The mistakes of one line: its form, and its numbers.
 ghost use Rattle.std.specs.Prelude.{◌≡◌, ◌≢◌, ◌⊎◌, ◌<◌, ◌∷◌, [], ℕ, List, None, IfSome, false, length, slice_index};
 ghost use Rattle.line_words.specs.Number.{number_of};
-ghost use Rattle.program_edge.specs.Mistake.{IsMistake};
-ghost use Rattle.program_edge.specs.Shape.{HasShape};
+ghost use Rattle.program_edge.specs.{Mistake.IsMistake, Shape.HasShape};
 
 use crate::kind::kind_of;
 use crate::mistake::Mistake;

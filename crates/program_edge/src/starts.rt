@@ -1,6 +1,5 @@
 // The starts of a printed boot, and which of them have no script.
-ghost use Rattle.std.specs.Prelude.{◌≡◌, ◌≤◌};
-ghost use Rattle.std.specs.List.{list_any};
+ghost use Rattle.std.specs.{Prelude.◌≡◌, Prelude.◌≤◌, List.list_any};
 ghost use Rattle.program_edge.specs.Starts.{has_no_script, is_module, is_scriptless, is_silent_driver, is_silent_peim};
 
 use boot_model::Line;

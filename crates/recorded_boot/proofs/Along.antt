@@ -1,25 +1,13 @@
 -- The starts of a boot beside those of an order, one behind the other.
-use Rattle.std.proofs.Common.{◌≡◌, ℕ, zero, suc, ◌+◌, ◌<◌, ◌≤◌, ◌==◌, Bool, true, false, true≢false, ◌&&◌, List, [], ◌∷◌, ◌++◌, length, Option, Some, None, is_none, is_some, refl, sym, ap, ◌∙◌, subst, inl, inr, arith, append_assoc}
-use Rattle.std.specs.Prelude.{slice_get, take, unwrap_or, option_map}
-use Rattle.std.proofs.lemmas.Bool.Decides.{eqb_tells}
-use Rattle.std.proofs.lemmas.Slice.Eq.{bytes_eq-Decides}
-use Rattle.std.proofs.lemmas.Cmp.{nat_list_eq_equiv}
-use Rattle.std.proofs.lemmas.List.{append-nil, length-append}
-use Rattle.pi_base.specs.declared.guid.Guid.{Guid}
-use Rattle.pi_base.specs.declared.phase.Phase.{Phase}
-use Rattle.pi_base.specs.declared.phase.Phase.TheVariants.{Pei, Dxe}
-use Rattle.pi_base.specs.Guids.{same_guid}
-use Rattle.mod_catalog.specs.declared.catalogue.Catalog.{Catalog}
-use Rattle.mod_catalog.specs.declared.catalogue.Module.{Module}
-use Rattle.mod_catalog.specs.Parts.{module_name, module_volume}
-use Rattle.recorded_boot.specs.declared.order.line.AskedStart.{AskedStart}
-use Rattle.recorded_boot.specs.declared.order.line.Start.{Start}
-use Rattle.recorded_boot.specs.declared.order.lines.StartOrder.{StartOrder}
-use Rattle.recorded_boot.specs.Starts.{ComeFirst, module_start}
-use Rattle.recorded_boot.specs.Along.{IsAlong, IsIndex}
-use Rattle.recorded_boot.specs.Finding.{same_start}
+use Rattle.std.proofs.Common.{◌≡◌, ℕ, zero, suc, ◌+◌, ◌<◌, ◌≤◌, ◌==◌, Bool, true, false, true≢false, ◌&&◌, List, [], ◌∷◌, ◌++◌, length, Option, Some, None, is_none, is_some, refl, sym, ap, ◌∙◌, subst, inl, inr, arith, append_assoc, slice_get, take, unwrap_or, option_map, append-nil, length-append}
+use Rattle.std.proofs.{lemmas.Bool.Decides.eqb_tells, lemmas.Slice.Eq.bytes_eq-Decides, lemmas.Cmp.nat_list_eq_equiv}
+use Rattle.pi_base.specs.{declared.guid.Guid.Guid, declared.phase.Phase.Phase}
+use Rattle.pi_base.specs.{declared.phase.Phase.TheVariants.Pei, declared.phase.Phase.TheVariants.Dxe, Guids.same_guid}
+use Rattle.mod_catalog.specs.{declared.catalogue.Catalog.Catalog, declared.catalogue.Module.Module, Parts.module_name, Parts.module_volume}
+use Rattle.recorded_boot.specs.{declared.order.line.AskedStart.AskedStart, declared.order.line.Start.Start}
+use Rattle.recorded_boot.specs.{declared.order.lines.StartOrder.StartOrder, Starts.ComeFirst, Starts.module_start}
+use Rattle.recorded_boot.specs.{Along.IsAlong, Along.IsIndex, Finding.same_start, Named.HasNoTwins, Named.IsNamed}
 use Rattle.recorded_boot.proofs.Modules.{one_module}
-use Rattle.recorded_boot.specs.Named.{HasNoTwins, IsNamed}
 use Rattle.recorded_boot.specs.ByOrder.{IsNumberOf, NamesAsked, NamesNext, NamesStart, is_of, is_start_of, lets_asked, lets_by, same_phase, starts_of}
 
 -- what an order asks for behind these starts: it asks for this one next, behind as many

@@ -1,13 +1,9 @@
 -- A start among those of lines of an order.
-use Rattle.std.proofs.Common.{◌≡◌, ◌==◌, Bool, true, false, true≢false, ◌&&◌, ◌||◌, List, [], ◌∷◌, ◌++◌, refl, sym, ap, ◌∙◌, inl, inr}
-use Rattle.std.specs.Prelude.{◌⊎◌}
+use Rattle.std.proofs.Common.{◌≡◌, ◌==◌, Bool, true, false, true≢false, ◌&&◌, ◌||◌, List, [], ◌∷◌, ◌++◌, refl, sym, ap, ◌∙◌, inl, inr, ◌⊎◌}
 use Rattle.std.proofs.lemmas.Cmp.{nat_list_eq_equiv}
 use Rattle.pi_base.specs.Guids.{same_guid}
-use Rattle.recorded_boot.specs.declared.order.line.AskedStart.{AskedStart}
-use Rattle.recorded_boot.specs.declared.order.line.Start.{Start}
-use Rattle.recorded_boot.specs.Against.{IsAmong}
-use Rattle.recorded_boot.specs.ByOrder.{starts_of}
-use Rattle.recorded_boot.specs.Finding.{is_among_asked, same_start}
+use Rattle.recorded_boot.specs.{declared.order.line.AskedStart.AskedStart, declared.order.line.Start.Start, Against.IsAmong}
+use Rattle.recorded_boot.specs.{ByOrder.starts_of, Finding.is_among_asked, Finding.same_start}
 use Rattle.recorded_boot.proofs.Along.{nat_self, phase_self, same_starts}
 
 same_self : (start : Start) → same_start start start ≡ true

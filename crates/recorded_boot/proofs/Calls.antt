@@ -1,39 +1,27 @@
 -- What the parts of a boot along an order leave, put together.
-use Rattle.std.proofs.Common.{◌≡◌, ℕ, ◌+◌, Bool, arith, List, [], ◌++◌, length, Option, Some, None, Result, Ok, Err, IfOk, refl, sym, ap, ◌∙◌, subst}
-use Rattle.std.proofs.lemmas.List.{append-nil}
+use Rattle.std.proofs.Common.{◌≡◌, ℕ, ◌+◌, Bool, arith, List, [], ◌++◌, length, Option, Some, None, Result, Ok, Err, IfOk, refl, sym, ap, ◌∙◌, subst, append-nil}
 use Rattle.std.specs.Io.KnownBytes.{Appends}
 use Rattle.boot_io.specs.declared.halt.Halt.{Halt}
 use Rattle.boot_io.proofs.PutsLaws.{appends_then}
 use Rattle.mod_catalog.specs.declared.catalogue.Catalog.{Catalog}
-use Rattle.store_model.specs.HandleState.{HandleState, no_handles}
-use Rattle.store_model.specs.StoreState.{StoreState}
-use Rattle.boot_model.specs.declared.line.Line.{Line}
-use Rattle.boot_model.specs.declared.line.RunEnd.{RunEnd}
-use Rattle.boot_model.specs.declared.phase_end.DxeEnd.{DxeEnd}
-use Rattle.boot_model.specs.declared.phase_end.PeiEnd.{PeiEnd}
+use Rattle.store_model.specs.{HandleState.HandleState, HandleState.no_handles, StoreState.StoreState}
+use Rattle.boot_model.specs.{declared.line.Line.Line, declared.line.RunEnd.RunEnd, declared.phase_end.DxeEnd.DxeEnd}
+use Rattle.boot_model.specs.{declared.phase_end.PeiEnd.PeiEnd, BootRun.dxe_result, DxeMachine.DxeMachine, PeiMachine.PeiMachine}
 use Rattle.boot_model.specs.declared.phase_end.PeiEnd.TheVariants.{Handoff, NoMemory, NoIpl, Spent, Deep}
-use Rattle.boot_model.specs.BootRun.{dxe_result}
-use Rattle.boot_model.specs.DxeMachine.{DxeMachine}
-use Rattle.boot_model.specs.PeiMachine.{PeiMachine}
 use Rattle.boot_model.specs.Text.{text_of}
 use Rattle.boot_model.proofs.Texts.{text_of-append}
 use Rattle.boot_trace.specs.Printing.{Texts}
-use Rattle.recorded_boot.specs.declared.order.lines.StartOrder.{StartOrder}
+use Rattle.recorded_boot.specs.{declared.order.lines.StartOrder.StartOrder, declared.follow.following.Followed.Followed, Answer.FollowsTo}
 use Rattle.pei_dispatch.specs.Ends.{pei_starts}
-use Rattle.dxe_dispatch.specs.Queue.{Queue}
+use Rattle.dxe_dispatch.specs.{Queue.Queue, Choices.RunsBy}
 use Rattle.dxe_core.specs.Standing.{DxeCore}
 use Rattle.boot_laws.specs.declared.choice.Reached.{Reached}
 use Rattle.boot_laws.specs.declared.choice.Reached.TheVariants as R
-use Rattle.dxe_dispatch.specs.Choices.{RunsBy}
 use Rattle.boot_core.specs.Closing.{closing}
 use Rattle.boot_core.proofs.ClosingTexts.{closing_is}
-use Rattle.recorded_boot.specs.declared.follow.following.Followed.{Followed}
-use Rattle.recorded_boot.specs.Answer.{FollowsTo}
 use Rattle.recorded_boot.specs.Behind.{FinishesTo, last_text, pei_result}
-use Rattle.recorded_boot.specs.InOrder.{last_lines}
+use Rattle.recorded_boot.specs.{InOrder.last_lines, declared.follow.drivers.Drivers.Drivers, Leaving.ComesTo}
 use Rattle.recorded_boot.specs.Drivers.{HasRun, IsCounted, StandsSo, leaves}
-use Rattle.recorded_boot.specs.declared.follow.drivers.Drivers.{Drivers}
-use Rattle.recorded_boot.specs.Leaving.{ComesTo}
 use Rattle.recorded_boot.proofs.PeiOrder.{IsRun, OrderBoot, PeiBar}
 use Rattle.recorded_boot.proofs.DxeOrder.{DxeBar, Handed, IsDxeRun, came, comes_in_dxe, drivers, lets_driver, opening}
 use Rattle.recorded_boot.proofs.OrderRuns.{aimed_of, dxe_run_of}

@@ -1,35 +1,20 @@
 -- The choice of a PEIM by a text.
-use Rattle.std.proofs.Common.{◌≡◌, ℕ, true, List, [], ◌∷◌, ◌++◌, Option, Some, None, refl, sym, ap, ◌∙◌, subst, inl, inr, length}
-use Rattle.std.specs.Prelude.{◌⊎◌, slice_get}
+use Rattle.std.proofs.Common.{◌≡◌, ℕ, true, List, [], ◌∷◌, ◌++◌, Option, Some, None, refl, sym, ap, ◌∙◌, subst, inl, inr, length, ◌⊎◌, slice_get}
 use Rattle.std.proofs.lemmas.Bool.Decides.{eqb_tells}
-use Rattle.pi_base.specs.declared.guid.Guid.{Guid}
-use Rattle.pi_base.specs.declared.phase.Phase.TheVariants.{Pei}
-use Rattle.mod_catalog.specs.declared.catalogue.Catalog.{Catalog}
-use Rattle.mod_catalog.specs.declared.catalogue.Part.{Part}
-use Rattle.mod_catalog.specs.Parts.{has_number, part_at}
+use Rattle.pi_base.specs.{declared.guid.Guid.Guid, declared.phase.Phase.TheVariants.Pei, declared.word.Word.TheVariants.Success}
+use Rattle.mod_catalog.specs.{declared.catalogue.Catalog.Catalog, declared.catalogue.Part.Part, Parts.has_number, Parts.part_at}
 use Rattle.mod_catalog.specs.WellFormed.{IsWellFormed}
-use Rattle.boot_model.specs.declared.line.Line.{Line}
+use Rattle.boot_model.specs.{declared.line.Line.Line, Eligible.licence_at, FreeRun.AreFreePeiLines, FreeRun.MayStart}
 use Rattle.boot_model.specs.declared.line.Line.TheVariants as L
-use Rattle.pi_base.specs.declared.word.Word.TheVariants.{Success}
-use Rattle.boot_model.specs.Eligible.{licence_at}
-use Rattle.boot_model.specs.FreeRun.{AreFreePeiLines, MayStart}
-use Rattle.boot_model.specs.PeiChoice.{next_peim, pei_order}
-use Rattle.boot_model.specs.PeiMachine.{PeiMachine}
+use Rattle.boot_model.specs.{PeiChoice.next_peim, PeiChoice.pei_order, PeiMachine.PeiMachine, Text.line_text, Text.text_of}
 use Rattle.boot_model.specs.PeiStep.{start_lines, started, started_part}
-use Rattle.boot_model.specs.Text.{line_text, text_of}
-use Rattle.boot_laws.specs.PeiAim.{IsAimable, with_cursor}
-use Rattle.boot_laws.specs.PeiFree.{AreLinesBehind, AreLinesOfStart}
-use Rattle.boot_laws.specs.PeiUnderWay.{IsUnderWay}
-use Rattle.recorded_boot.specs.declared.trace.spelled.Spelled.{Spelled}
-use Rattle.recorded_boot.specs.Putting.{PartsByLine}
+use Rattle.boot_laws.specs.{PeiAim.IsAimable, PeiAim.with_cursor, PeiFree.AreLinesBehind, PeiFree.AreLinesOfStart, PeiUnderWay.IsUnderWay}
+use Rattle.recorded_boot.specs.{declared.trace.spelled.Spelled.Spelled, Putting.PartsByLine, Named.AreGuids, Named.AreNames}
 use Rattle.recorded_boot.specs.Spelled.{IsHeld, IsRight, left}
-use Rattle.recorded_boot.proofs.Telling.{held_left}
+use Rattle.recorded_boot.proofs.{Telling.held_left, Facts.IsPartOfModule, Facts.part_of_module, Lines.begins_with_line, Lines.body}
 use Rattle.trace_reader.proofs.LineBodies.{body_lacks}
-use Rattle.recorded_boot.specs.Named.{AreGuids, AreNames}
 use Rattle.pei_dispatch.specs.Choices.{IsPlaceFor}
 use Rattle.recorded_boot.specs.Starting.{IsAimedAt, NamesNext, StartsNext, start_of}
-use Rattle.recorded_boot.proofs.Facts.{IsPartOfModule, part_of_module}
-use Rattle.recorded_boot.proofs.Lines.{begins_with_line, body}
 
 -- what is printed of a start: its line first
 pub record PrintsStart (catalog : Catalog) (m : PeiMachine) (number : ℕ) : Type 0 where

@@ -1,16 +1,12 @@
 -- The last lines of a boot tell of no start.
 use Rattle.std.proofs.Common.{◌≡◌, ℕ, ◌+◌, List, [], ◌∷◌, ◌++◌, map, length, refl, ap, ◌∙◌}
-use Rattle.store_model.specs.declared.state.HobEntry.{HobEntry}
-use Rattle.store_model.specs.HandleState.{HandleState}
+use Rattle.store_model.specs.{declared.state.HobEntry.HobEntry, HandleState.HandleState}
 use Rattle.store_model.specs.StoreState.{StoreState, handoff_len, hob_len}
-use Rattle.boot_model.specs.declared.line.Line.{Line}
+use Rattle.boot_model.specs.{declared.line.Line.Line, declared.line.RunEnd.RunEnd, BootRun.handle_lines}
 use Rattle.boot_model.specs.declared.line.Line.TheVariants as L
-use Rattle.boot_model.specs.declared.line.RunEnd.{RunEnd}
-use Rattle.boot_model.specs.BootRun.{handle_lines}
 use Rattle.boot_model.specs.Listing.{callback_line, callback_lines, dispatch_line, dispatch_lines, hob_lines, hob_lines_from, pending_line, pending_lines, ppi_line, ppi_lines, store_lines}
 use Rattle.recorded_boot.specs.Starts.{starts}
-use Rattle.recorded_boot.proofs.Fronts.{starts-append}
-use Rattle.recorded_boot.proofs.QuietLines.{quiet_map, quiet_then}
+use Rattle.recorded_boot.proofs.{Fronts.starts-append, QuietLines.quiet_map, QuietLines.quiet_then}
 use Rattle.boot_core.specs.Closing.{closing}
 
 quiet_both : (xs ys : List Line) → starts xs ≡ [] → starts ys ≡ [] → starts (xs ++ ys) ≡ []

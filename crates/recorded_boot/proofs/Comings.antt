@@ -1,33 +1,20 @@
 -- What a boot along an order comes to, from what is known of the free boots there.
-use Rattle.std.proofs.Common.{◌≡◌, ◌≤◌, ℕ, true, List, [], ◌∷◌, ◌++◌, length, Option, Some, None, is_some, refl, sym, ap, ◌∙◌, subst, inl, inr, arith}
-use Rattle.std.specs.Prelude.{◌⊎◌, slice_get}
+use Rattle.std.proofs.Common.{◌≡◌, ◌≤◌, ℕ, true, List, [], ◌∷◌, ◌++◌, length, Option, Some, None, is_some, refl, sym, ap, ◌∙◌, subst, inl, inr, arith, ◌⊎◌, slice_get, append-nil, length-append}
 use Rattle.std.specs.Io.KnownBytes.{Appends}
-use Rattle.std.proofs.lemmas.List.{append-nil, length-append}
 use Rattle.mod_catalog.specs.declared.catalogue.Catalog.{Catalog}
-use Rattle.store_model.specs.HandleState.{HandleState}
-use Rattle.store_model.specs.StoreState.{Board, StoreState}
-use Rattle.boot_model.specs.declared.line.Line.{Line}
+use Rattle.store_model.specs.{HandleState.HandleState, StoreState.Board, StoreState.StoreState}
+use Rattle.boot_model.specs.{declared.line.Line.Line, declared.line.RunEnd.RunEnd, FreeRun.AreFreeLines, Text.text_of}
 use Rattle.boot_model.specs.declared.line.Line.TheVariants as L
-use Rattle.boot_model.specs.declared.line.RunEnd.{RunEnd}
-use Rattle.boot_model.specs.FreeRun.{AreFreeLines}
-use Rattle.boot_model.specs.Text.{text_of}
 use Rattle.boot_trace.specs.Printing.{Texts}
-use Rattle.recorded_boot.specs.declared.order.line.AskedStart.{AskedStart}
-use Rattle.recorded_boot.specs.declared.order.line.Start.{Start}
-use Rattle.recorded_boot.specs.declared.order.lines.StartOrder.{StartOrder}
-use Rattle.recorded_boot.specs.Starts.{ComeFirst, starts}
+use Rattle.recorded_boot.specs.{declared.order.line.AskedStart.AskedStart, declared.order.line.Start.Start}
+use Rattle.recorded_boot.specs.{declared.order.lines.StartOrder.StartOrder, Starts.ComeFirst, Starts.starts}
 use Rattle.recorded_boot.proofs.Fronts.{first_of_first, starts-append}
-use Rattle.recorded_boot.specs.declared.follow.against.Against.{Against}
-use Rattle.recorded_boot.specs.declared.follow.following.Followed.{Followed}
+use Rattle.recorded_boot.specs.{declared.follow.against.Against.Against, declared.follow.following.Followed.Followed}
 use Rattle.recorded_boot.specs.declared.follow.following.Followed.TheVariants.{Ended, Stopped, No}
-use Rattle.recorded_boot.specs.Along.{IsAlong, IsIndex}
-use Rattle.recorded_boot.specs.Against.{StandsAgainst}
-use Rattle.recorded_boot.specs.ByOrder.{starts_of}
+use Rattle.recorded_boot.specs.{Along.IsAlong, Along.IsIndex, Against.StandsAgainst, ByOrder.starts_of, Answer.IsAmongFree}
 use Rattle.recorded_boot.specs.Following.{IsBeforeStart, IsNo, StandsAt, StandsBehind}
-use Rattle.recorded_boot.specs.Answer.{IsAmongFree}
 use Rattle.recorded_boot.specs.InOrder.{BootsInOrder, LeadsTo, Place, last_lines}
-use Rattle.recorded_boot.specs.Leaving.{ComesTo, IsRefused}
-use Rattle.recorded_boot.specs.Own.{GoesOnItself}
+use Rattle.recorded_boot.specs.{Leaving.ComesTo, Leaving.IsRefused, Own.GoesOnItself}
 use Rattle.recorded_boot.proofs.Along.{all_made, asks_next, asks_none, stops_there}
 
 -- Where a boot along an order stands: what was printed, and how many starts there were.

@@ -1,42 +1,29 @@
 -- A run of DXE by the choices of a text: as far as the text has its lines, the free boots that begin so go on from it; and where the text has them no more, no free boot goes on as the text does.
-use Rattle.std.proofs.Common.{◌≡◌, ◌≤◌, ◌<◌, Bool, true, ℕ, ◌+◌, List, [], ◌∷◌, ◌++◌, Option, Some, None, refl, sym, ap, ◌∙◌, subst, length, arith, inl, inr}
-use Rattle.std.specs.Prelude.{◌⊎◌}
+use Rattle.std.proofs.Common.{◌≡◌, ◌≤◌, ◌<◌, Bool, true, ℕ, ◌+◌, List, [], ◌∷◌, ◌++◌, Option, Some, None, refl, sym, ap, ◌∙◌, subst, length, arith, inl, inr, ◌⊎◌, take-append-drop}
 use Rattle.std.proofs.lemmas.Bool.{cases_lt}
-use Rattle.std.proofs.lemmas.List.{take-append-drop}
 use Rattle.boot_io.specs.Faults.{IsPrefix}
-use Rattle.pi_base.specs.declared.guid.Guid.{Guid}
-use Rattle.pi_base.specs.declared.phase.Phase.TheVariants.{Dxe}
-use Rattle.mod_catalog.specs.declared.catalogue.Catalog.{Catalog}
-use Rattle.mod_catalog.specs.WellFormed.{IsWellFormed}
+use Rattle.pi_base.specs.{declared.guid.Guid.Guid, declared.phase.Phase.TheVariants.Dxe}
+use Rattle.mod_catalog.specs.{declared.catalogue.Catalog.Catalog, WellFormed.IsWellFormed}
 use Rattle.store_model.specs.StoreState.{StoreState}
-use Rattle.boot_model.specs.declared.line.Line.{Line}
-use Rattle.boot_model.specs.DxeMachine.{DxeMachine}
-use Rattle.boot_model.specs.DxeRun.{dxe_opening}
-use Rattle.boot_model.specs.DxeStep.{dxe_step}
-use Rattle.boot_model.specs.FreeRun.{AreFreeDxeLines}
-use Rattle.boot_model.specs.PeiMachine.{PeiMachine}
-use Rattle.boot_model.specs.Text.{text_of}
+use Rattle.boot_model.specs.{declared.line.Line.Line, DxeMachine.DxeMachine, DxeRun.dxe_opening, DxeStep.dxe_step, FreeRun.AreFreeDxeLines}
+use Rattle.boot_model.specs.{PeiMachine.PeiMachine, Text.text_of}
 use Rattle.boot_model.proofs.Texts.{text_of-append}
 use Rattle.boot_laws.specs.DxeAim.{AimIsFree, DxeStartsFreely, NamesLeadToRoot}
 use Rattle.boot_laws.specs.DxeFree.{DxeEndsFreely, DxeGoesOn, DxeLinesGrow}
 use Rattle.boot_laws.specs.DxeUnderWay.{DxeOpensUnderWay, FewDriversWait, IsUnderWay}
 use Rattle.boot_laws.specs.Naming.{HasPut}
-use Rattle.recorded_boot.specs.declared.trace.spelled.Spelled.{Spelled}
-use Rattle.recorded_boot.specs.Fronts.{Tracks}
+use Rattle.recorded_boot.specs.{declared.trace.spelled.Spelled.Spelled, Fronts.Tracks, Named.AreGuids, Named.AreNames, Starting.NamesNext}
 use Rattle.recorded_boot.specs.Putting.{HasParted, IsOffHere, PutsGoOn, PutsPart}
 use Rattle.recorded_boot.specs.Spelled.{IsHeld, IsRight, faults_of, left, met, spoken, told, whole}
 use Rattle.recorded_boot.proofs.TextFronts.{prefix_then, shorter_front}
 use Rattle.recorded_boot.proofs.Telling.{held_on, met_begins, off, tracks_on}
-use Rattle.recorded_boot.specs.Named.{AreGuids, AreNames}
 use Rattle.pei_dispatch.specs.Ends.{pei_starts}
 use Rattle.dxe_dispatch.specs.Choices.{IsAimedBy, IsRunBy, LetsDrivers, came}
 use Rattle.dxe_dispatch.proofs.Chosen.{Any, StepLaws, nearer_by, same_lines, target_at}
 use Rattle.dxe_dispatch.proofs.Growing.{step_grew}
 use Rattle.dxe_dispatch.proofs.Targets.{Aimed, Doing, First, HasScheduled, IsTarget, MayChoose, Own, RunsScript, busy_owns, doing, first_step, none_aimed, none_named, scheduled_owns, target_is}
 use Rattle.boot_core.specs.Choices.{NamesBehind}
-use Rattle.recorded_boot.specs.Starting.{NamesNext}
-use Rattle.recorded_boot.specs.DxeAim.{LeadsTo}
-use Rattle.recorded_boot.specs.DxeFollowed.{printed_by}
+use Rattle.recorded_boot.specs.{DxeAim.LeadsTo, DxeFollowed.printed_by}
 use Rattle.recorded_boot.proofs.FreeSteps.{IsByText, all_print, begins_printed, by_aimed_step, by_own_step, printed_more, tracks_by}
 use Rattle.recorded_boot.proofs.Leading.{LeadLaws, leading_by, starts_readable}
 

@@ -1,32 +1,22 @@
 -- A step of DXE that starts no driver tells of no start; a start tells of one.
-use Rattle.std.proofs.Common.{◌≡◌, ℕ, ◌+◌, Bool, true, false, cond, List, [], ◌∷◌, ◌++◌, length, nat_le, Option, Some, None, inl, inr, refl, sym, ap, ◌∙◌, subst, arith}
-use Rattle.std.proofs.lemmas.List.{append-nil, length-append}
-use Rattle.std.specs.Option.{option_to_list}
+use Rattle.std.proofs.Common.{◌≡◌, ℕ, ◌+◌, Bool, true, false, cond, List, [], ◌∷◌, ◌++◌, length, nat_le, Option, Some, None, inl, inr, refl, sym, ap, ◌∙◌, subst, arith, append-nil, length-append, option_to_list}
 use Rattle.pi_base.specs.declared.phase.Phase.TheVariants.{Dxe}
 use Rattle.act_code.specs.declared.action.Action.{Action}
-use Rattle.mod_catalog.specs.declared.catalogue.Catalog.{Catalog}
-use Rattle.mod_catalog.specs.declared.catalogue.Part.{Part}
-use Rattle.mod_catalog.specs.Parts.{part_at}
+use Rattle.mod_catalog.specs.{declared.catalogue.Catalog.Catalog, declared.catalogue.Part.Part, Parts.part_at}
 use Rattle.store_model.specs.StoreState.{StoreState}
-use Rattle.boot_model.specs.declared.driver.Scheduled.{Scheduled}
-use Rattle.boot_model.specs.declared.line.Line.{Line}
+use Rattle.boot_model.specs.{declared.driver.Scheduled.Scheduled, declared.line.Line.Line, Discovery.discovery_lines}
 use Rattle.boot_model.specs.declared.line.Line.TheVariants as L
 use Rattle.boot_model.specs.declared.phase_end.DxeEnd.TheVariants as DxeEnds
-use Rattle.boot_model.specs.Discovery.{discovery_lines}
 use Rattle.boot_model.specs.DxeAction.{DxeEffect, Wrote, Called, Logged, Skipped, Returned, Own, dxe_effect}
-use Rattle.boot_model.specs.DxeChoice.{group_scheduled, waiting}
-use Rattle.boot_model.specs.DxeMachine.{DriverFrame, DxeMachine}
-use Rattle.boot_model.specs.DxeRun.{dxe_opening}
+use Rattle.boot_model.specs.{DxeChoice.group_scheduled, DxeChoice.waiting, DxeMachine.DriverFrame, DxeMachine.DxeMachine}
+use Rattle.boot_model.specs.{DxeRun.dxe_opening, PeiStep.start_lines}
 use Rattle.boot_model.specs.DxeStep.{DxeCase, DxeFires, DxeActs, DxeStarts, DxeStops, after_dxe_effect, driver_started, driver_waiting_line, driver_waiting_lines, dxe_action_at, dxe_case_of, dxe_start_line, dxe_stopped, in_dxe_case, protocol_begun, protocol_line, with_action}
 use Rattle.boot_model.specs.FreeRun.{IsFreeInDxe, IsFreeStart, IsStarted}
-use Rattle.boot_model.specs.PeiStep.{start_lines}
 use Rattle.boot_laws.proofs.DriverActions.{EffectFollows, Follows, effect_follows}
 use Rattle.boot_laws.proofs.DriverCalls.{EffectKeeps, effect_keeps}
-use Rattle.recorded_boot.specs.declared.order.line.Start.{Start}
+use Rattle.recorded_boot.specs.{declared.order.line.Start.Start, Counted.DxeStartsCount}
 use Rattle.recorded_boot.specs.Starts.{module_start, start_of, starts}
-use Rattle.recorded_boot.specs.Counted.{DxeStartsCount}
-use Rattle.recorded_boot.proofs.Fronts.{starts-append}
-use Rattle.recorded_boot.proofs.QuietLines.{quiet_map, quiet_then}
+use Rattle.recorded_boot.proofs.{Fronts.starts-append, QuietLines.quiet_map, QuietLines.quiet_then}
 
 -- the starts that a machine has more than another, by its lines and as it counts them
 pub record Adds (m later : DxeMachine) (more : List Start) : Type 0 where

@@ -1,35 +1,22 @@
 -- DXE along an order, behind the hand-off of PEI.
-use Rattle.std.proofs.Common.{◌≡◌, ◌≢◌, ℕ, ◌+◌, ◌-◌, ◌^◌, ◌<◌, ◌≤◌, min, Bool, true, false, true≢false, List, [], ◌∷◌, ◌++◌, length, Option, Some, None, is_some, refl, sym, ap, ◌∙◌, subst, inl, inr, arith, append_assoc}
-use Rattle.std.specs.Prelude.{◌⊎◌, slice_get}
+use Rattle.std.proofs.Common.{◌≡◌, ◌≢◌, ℕ, ◌+◌, ◌-◌, ◌^◌, ◌<◌, ◌≤◌, min, Bool, true, false, true≢false, List, [], ◌∷◌, ◌++◌, length, Option, Some, None, is_some, refl, sym, ap, ◌∙◌, subst, inl, inr, arith, append_assoc, ◌⊎◌, slice_get, append-nil, length-append}
 use Rattle.std.proofs.lemmas.Bool.{cases_lt}
-use Rattle.std.proofs.lemmas.List.{append-nil, length-append}
 use Rattle.pi_base.specs.declared.phase.Phase.TheVariants.{Dxe}
-use Rattle.mod_catalog.specs.declared.catalogue.Catalog.{Catalog}
-use Rattle.mod_catalog.specs.declared.catalogue.Part.{Part}
-use Rattle.mod_catalog.specs.Parts.{part_at, part_of}
-use Rattle.boot_model.specs.declared.driver.Scheduled.{Scheduled}
-use Rattle.boot_model.specs.declared.line.Line.{Line}
-use Rattle.boot_model.specs.declared.phase_end.PeiEnd.TheVariants.{Handoff}
+use Rattle.mod_catalog.specs.{declared.catalogue.Catalog.Catalog, declared.catalogue.Part.Part, Parts.part_at, Parts.part_of}
+use Rattle.boot_model.specs.{declared.driver.Scheduled.Scheduled, declared.line.Line.Line, declared.phase_end.PeiEnd.TheVariants.Handoff}
 use Rattle.boot_model.specs.DxeChoice.{driver_queue, first_eligible, group_scheduled, queue_from}
-use Rattle.boot_model.specs.DxeMachine.{DriverFrame, DxeMachine}
-use Rattle.boot_model.specs.DxeRun.{dxe_opening}
+use Rattle.boot_model.specs.{DxeMachine.DriverFrame, DxeMachine.DxeMachine, DxeRun.dxe_opening, PeiMachine.PeiMachine}
 use Rattle.boot_model.specs.DxeStep.{DxeCase, DxeFires, DxeActs, DxeStarts, DxeStops, dxe_case_of, dxe_start_line, dxe_step, driver_started, in_dxe_case}
 use Rattle.boot_model.specs.FreeRun.{AreFreeDxeLines, AreFreeLines, AreFreeLinesAfter, AreFreePeiLines, IsFreeInDxe, MaySchedule}
-use Rattle.boot_model.specs.PeiMachine.{PeiMachine}
 use Rattle.boot_model.proofs.ListFacts.{within}
-use Rattle.boot_laws.proofs.DxeCases.{starts_from}
+use Rattle.boot_laws.proofs.{DxeCases.starts_from, GroupRoots.names_lead, Starts.dxe_prints}
 use Rattle.boot_laws.specs.DxeAim.{IsAimed, IsChoosing, aimed}
-use Rattle.boot_laws.specs.DxeFree.{IsOwnCase}
-use Rattle.boot_laws.specs.DxeUnderWay.{IsUnderWay}
+use Rattle.boot_laws.specs.{DxeFree.IsOwnCase, DxeUnderWay.IsUnderWay}
 use Rattle.boot_laws.proofs.DxeRuns as Runs
 use Rattle.boot_laws.proofs.DxeWays as Ways
-use Rattle.boot_laws.proofs.GroupRoots.{names_lead}
 use Rattle.boot_laws.proofs.PeiRuns as PeiRuns
-use Rattle.boot_laws.proofs.Starts.{dxe_prints}
-use Rattle.recorded_boot.specs.declared.order.line.AskedStart.{AskedStart}
-use Rattle.recorded_boot.specs.declared.order.line.Start.{Start}
+use Rattle.recorded_boot.specs.{declared.order.line.AskedStart.AskedStart, declared.order.line.Start.Start, Leading.DxeComesTo}
 use Rattle.recorded_boot.specs.Starts.{ComeFirst, module_start, starts}
-use Rattle.recorded_boot.specs.Leading.{DxeComesTo}
 use Rattle.recorded_boot.proofs.DxeCounts.{case_adds, opening_quiet, started_adds, starts_count}
 use Rattle.recorded_boot.proofs.Fronts.{first_of_first, next_of_fronts, starts-append, starts_then}
 use Rattle.recorded_boot.proofs.PeiCounts as PeiCounts
@@ -40,8 +27,7 @@ use Rattle.dxe_dispatch.specs.Turns.{IsStarting}
 use Rattle.dxe_dispatch.proofs.Chosen.{Any, same_lines, same_started, target_at}
 use Rattle.dxe_dispatch.proofs.Targets.{Aimed, Doing, First, HasScheduled, IsTarget, Leading, MayChoose, Own, RunsScript, doing, none_aimed, none_named, scheduled_owns, target_is}
 use Rattle.recorded_boot.specs.ByOrder.{NamesAsked, lets_asked, lets_by}
-use Rattle.recorded_boot.specs.Following.{IsBeforeStart}
-use Rattle.recorded_boot.specs.Along.{IsAlong, IsIndex}
+use Rattle.recorded_boot.specs.{Following.IsBeforeStart, Along.IsAlong, Along.IsIndex}
 use Rattle.recorded_boot.proofs.Along.{is_start, let_goes_on, lets_stop, named_is}
 use Rattle.recorded_boot.proofs.PeiOrder.{Comes, IsRun, OrderBoot}
 

@@ -1,13 +1,10 @@
 -- No two free steps of DXE print the same starts, unless they are the same.
-use Rattle.std.proofs.Common.{◌≡◌, ℕ, List, [], ◌∷◌, ◌++◌, Option, Some, None, is_some, length, refl, sym, ap, ◌∙◌, subst, arith}
-use Rattle.std.specs.Option.{option_and_then}
+use Rattle.std.proofs.Common.{◌≡◌, ℕ, List, [], ◌∷◌, ◌++◌, Option, Some, None, is_some, length, refl, sym, ap, ◌∙◌, subst, arith, option_and_then}
 use Rattle.pi_base.specs.declared.phase.Phase.TheVariants.{Dxe}
 use Rattle.mod_catalog.specs.declared.catalogue.Catalog.{Catalog}
 use Rattle.mod_catalog.specs.Parts.{module_name, module_volume, part_at, part_of}
-use Rattle.boot_model.specs.declared.driver.Scheduled.{Scheduled}
-use Rattle.boot_model.specs.declared.driver.ProtocolNote.{ProtocolNote}
-use Rattle.boot_model.specs.declared.driver.ProtocolSweep.{ProtocolSweep}
-use Rattle.boot_model.specs.DxeChoice.{group_scheduled, waiting}
+use Rattle.boot_model.specs.{declared.driver.Scheduled.Scheduled, declared.driver.ProtocolNote.ProtocolNote}
+use Rattle.boot_model.specs.{declared.driver.ProtocolSweep.ProtocolSweep, DxeChoice.group_scheduled, DxeChoice.waiting}
 use Rattle.boot_model.specs.DxeMachine.{DriverFrame, DxeMachine}
 use Rattle.boot_model.specs.DxeStep.{DxeCase, DxeFires, DxeActs, DxeStarts, DxeStops, dxe_case_in, dxe_case_of, dxe_start_line, dxe_step, in_dxe_case, next_note}
 use Rattle.boot_model.specs.FreeRun.{IsFreeInDxe, IsFreeStart, IsStarted, MaySchedule}
@@ -15,15 +12,10 @@ use Rattle.boot_model.proofs.ListFacts.{within}
 use Rattle.boot_laws.specs.DxeAim.{IsChoosing, aimed, follows}
 use Rattle.boot_laws.specs.DxeUnderWay.{IsUnderWay}
 use Rattle.boot_laws.proofs.DxeGrowing.{Told, case_told, start_told}
-use Rattle.boot_laws.proofs.DxeWays.{groups_are_aimed, started_is}
-use Rattle.boot_laws.proofs.GroupRoots.{names_lead}
-use Rattle.boot_laws.proofs.Starts.{dxe_prints}
-use Rattle.recorded_boot.specs.Named.{HasNoTwins, IsNamed}
-use Rattle.recorded_boot.specs.declared.order.line.Start.{Start}
+use Rattle.boot_laws.proofs.{DxeWays.groups_are_aimed, DxeWays.started_is, GroupRoots.names_lead, Starts.dxe_prints}
+use Rattle.recorded_boot.specs.{Named.HasNoTwins, Named.IsNamed, declared.order.line.Start.Start, OneStep.IsFreeDxeStep, OneStep.OneDxeStep}
 use Rattle.recorded_boot.specs.Starts.{ComeFirst, module_start, starts}
-use Rattle.recorded_boot.specs.OneStep.{IsFreeDxeStep, OneDxeStep}
-use Rattle.recorded_boot.proofs.Fronts.{next_of_fronts, starts_then}
-use Rattle.recorded_boot.proofs.Modules.{one_module}
+use Rattle.recorded_boot.proofs.{Fronts.next_of_fronts, Fronts.starts_then, Modules.one_module}
 
 -- what the first of a group adds to the starts
 pub record Tells (catalog : Catalog) (fuel : ℕ) (m : DxeMachine) (root : ℕ) : Type 0 where

@@ -1,24 +1,16 @@
 -- Which modules a text names, and that each part that may start is one.
-use Rattle.std.proofs.Common.{◌≡◌, ◌<◌, ℕ, zero, suc, Bool, true, false, cond, ◌||◌, List, [], ◌∷◌, Option, Some, None, refl, sym, ap, ◌∙◌, subst, length, arith, inl, inr, is_some, option_map, unwrap_or}
-use Rattle.std.specs.Prelude.{slice_get}
-use Rattle.std.specs.Option.{option_and_then}
+use Rattle.std.proofs.Common.{◌≡◌, ◌<◌, ℕ, zero, suc, Bool, true, false, cond, ◌||◌, List, [], ◌∷◌, Option, Some, None, refl, sym, ap, ◌∙◌, subst, length, arith, inl, inr, is_some, option_map, unwrap_or, slice_get, option_and_then}
 use Rattle.std.proofs.lemmas.Bool.Decides.{eqb_tells}
-use Rattle.pi_base.specs.Lists.{Each}
-use Rattle.pi_base.specs.declared.phase.Phase.TheVariants.{Pei}
-use Rattle.mod_catalog.specs.declared.catalogue.Catalog.{Catalog}
-use Rattle.mod_catalog.specs.declared.catalogue.Module.{Module}
-use Rattle.mod_catalog.specs.declared.catalogue.Part.{Part}
+use Rattle.pi_base.specs.{Lists.Each, declared.phase.Phase.TheVariants.Pei}
+use Rattle.mod_catalog.specs.{declared.catalogue.Catalog.Catalog, declared.catalogue.Module.Module, declared.catalogue.Part.Part}
 use Rattle.mod_catalog.specs.Parts.{has_number, module_name, module_volume, no_name, part_at, part_of}
 use Rattle.mod_catalog.specs.WellFormed.{IsWellFormed}
-use Rattle.boot_model.specs.declared.licence.Licence.{Licence}
+use Rattle.boot_model.specs.{declared.licence.Licence.Licence, PeiMachine.PeiMachine}
 use Rattle.boot_model.specs.Eligible.{is_eligible, may_start, may_start_again}
-use Rattle.boot_model.specs.PeiMachine.{PeiMachine}
 use Rattle.boot_laws.specs.PeiUnderWay.{IsUnderWay}
 use Rattle.line_words.specs.PrintedWords.{IsGuid}
 use Rattle.trace_reader.specs.Readable.{IsReadable}
-use Rattle.recorded_boot.specs.Named.{IsNamed}
-use Rattle.recorded_boot.specs.Named.{AreGuids}
-use Rattle.recorded_boot.specs.Starting.{start_of}
+use Rattle.recorded_boot.specs.{Named.IsNamed, Named.AreGuids, Starting.start_of}
 
 each_at : {X : Type 0} (P : X → Type 0) (xs : List X) (n : ℕ) (x : X) → Each P xs → slice_get xs n ≡ Some x → P x
 each_at P [] n x h e = cc

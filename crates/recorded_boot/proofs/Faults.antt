@@ -2,11 +2,9 @@
 use Rattle.std.proofs.Common.{◌≢◌, ℕ, List, Option, Err, sym, subst}
 use Rattle.boot_io.proofs.PutsLaws.{appends_none}
 use Rattle.boot_plan.specs.declared.plan.Plan.{Plan}
-use Rattle.mod_catalog.specs.declared.image_fault.ImageFault.{ImageFault}
+use Rattle.mod_catalog.specs.{declared.image_fault.ImageFault.ImageFault, ImageFault.IsImageFault}
 use Rattle.mod_catalog.specs.declared.image_fault.ImageCause.TheVariants as I
-use Rattle.mod_catalog.specs.ImageFault.{IsImageFault}
-use Rattle.recorded_boot.specs.declared.order.lines.StartOrder.{StartOrder}
-use Rattle.recorded_boot.specs.declared.follow.images.FollowFault.{FollowFault}
+use Rattle.recorded_boot.specs.{declared.order.lines.StartOrder.StartOrder, declared.follow.images.FollowFault.FollowFault}
 use Rattle.recorded_boot.specs.declared.follow.images.FollowFault.TheVariants.{Image, Twins, Sink, Memory}
 use Rattle.recorded_boot.specs.Follow.{Follows, IsFaultTold}
 

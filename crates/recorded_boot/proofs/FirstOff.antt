@@ -1,17 +1,11 @@
 -- The first line with which a text is no boot's any more, by where a boot was followed to.
-use Rattle.std.proofs.Common.{◌≡◌, ◌≢◌, ◌≤◌, ◌<◌, ℕ, zero, suc, ◌+◌, Bool, true, false, cond, List, [], ◌∷◌, ◌++◌, length, refl, sym, ap, ◌∙◌, subst, arith, Option, Some, None, inl, inr, ◌⊎◌}
-use Rattle.std.specs.Prelude.{option_map}
-use Rattle.std.proofs.lemmas.Bool.{cases_lt, eqb-true}
-use Rattle.std.proofs.lemmas.List.Sums.{sum_by-append}
-use Rattle.std.proofs.lemmas.List.{append-nil, length-append}
+use Rattle.std.proofs.Common.{◌≡◌, ◌≢◌, ◌≤◌, ◌<◌, ℕ, zero, suc, ◌+◌, Bool, true, false, cond, List, [], ◌∷◌, ◌++◌, length, refl, sym, ap, ◌∙◌, subst, arith, Option, Some, None, inl, inr, ◌⊎◌, option_map, eqb-true, append-nil, length-append}
+use Rattle.std.proofs.{lemmas.Bool.cases_lt, lemmas.List.Sums.sum_by-append}
 use Rattle.boot_io.specs.Faults.{IsPrefix}
-use Rattle.boot_model.specs.declared.line.Line.{Line}
-use Rattle.boot_model.specs.Text.{text_of}
+use Rattle.boot_model.specs.{declared.line.Line.Line, Text.text_of}
 use Rattle.recorded_boot.proofs.TextFronts.{prefix_then, shorter_front}
-use Rattle.recorded_boot.specs.Fronts.{EndsLine, IsOff}
+use Rattle.recorded_boot.specs.{Fronts.EndsLine, Fronts.IsOff, declared.trace.spelled.Spelled.Spelled, FollowingText.IsWhole}
 use Rattle.recorded_boot.specs.Lines.{front_lines, feeds_in, is_feed}
-use Rattle.recorded_boot.specs.declared.trace.spelled.Spelled.{Spelled}
-use Rattle.recorded_boot.specs.FollowingText.{IsWhole}
 use Rattle.recorded_boot.specs.Verdict.{BeginsBoot, IsFirstOff}
 
 -- a front of a text, by how many lines it has

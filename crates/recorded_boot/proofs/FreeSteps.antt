@@ -2,29 +2,21 @@
 use Rattle.std.proofs.Common.{◌≡◌, ◌⊎◌, ℕ, ◌==◌, Bool, true, false, List, [], ◌∷◌, ◌++◌, Some, None, refl, sym, ap, ◌∙◌, subst, append_assoc, inl, inr, is_some, arith}
 use Rattle.pi_base.specs.declared.phase.Phase.TheVariants.{Dxe}
 use Rattle.boot_io.specs.Faults.{IsPrefix}
-use Rattle.mod_catalog.specs.declared.catalogue.Catalog.{Catalog}
-use Rattle.mod_catalog.specs.Parts.{part_at}
-use Rattle.boot_model.specs.declared.driver.Scheduled.{Scheduled}
-use Rattle.boot_model.specs.declared.line.Line.{Line}
-use Rattle.boot_model.specs.DxeMachine.{DxeMachine}
+use Rattle.mod_catalog.specs.{declared.catalogue.Catalog.Catalog, Parts.part_at}
+use Rattle.boot_model.specs.{declared.driver.Scheduled.Scheduled, declared.line.Line.Line, DxeMachine.DxeMachine}
 use Rattle.boot_model.specs.DxeStep.{dxe_case_of, dxe_start_line, dxe_step}
-use Rattle.boot_model.specs.FreeRun.{AreFreeDxeLines, MaySchedule}
-use Rattle.boot_model.specs.PeiMachine.{PeiMachine}
-use Rattle.boot_model.specs.Text.{line_text, text_of}
+use Rattle.boot_model.specs.{FreeRun.AreFreeDxeLines, FreeRun.MaySchedule, PeiMachine.PeiMachine, Text.line_text, Text.text_of}
 use Rattle.boot_model.proofs.Texts.{text_of-append}
 use Rattle.std.proofs.lemmas.Bool.Decides.{nat_tests}
 use Rattle.boot_laws.proofs.PartLists.{is_equal}
 use Rattle.boot_laws.specs.DxeAim.{AimIsFree, DxeStartsFreely, FirstEligibleMayStart, GroupsAreAimed, IsChoosing, aimed}
 use Rattle.boot_laws.specs.DxeFree.{DxeGoesOn, DxeLinesGrow, IsOwnCase}
 use Rattle.boot_laws.specs.DxeUnderWay.{IsUnderWay}
-use Rattle.recorded_boot.specs.Fronts.{Tracks}
-use Rattle.recorded_boot.specs.Putting.{AllPrint, PartsByLine}
+use Rattle.recorded_boot.specs.{Fronts.Tracks, Putting.AllPrint, Putting.PartsByLine, DxeAim.LeadsTo, DxeFollowed.printed_by}
 use Rattle.recorded_boot.proofs.TextFronts.{has_line, prefix_then, same_behind}
 use Rattle.trace_reader.specs.Readable.{IsReadable}
 use Rattle.trace_reader.proofs.LineBodies.{body_lacks}
 use Rattle.dxe_dispatch.proofs.FirstStarts.{StartsFirst, aimed_owns, starts_first}
-use Rattle.recorded_boot.specs.DxeAim.{LeadsTo}
-use Rattle.recorded_boot.specs.DxeFollowed.{printed_by}
 use Rattle.recorded_boot.proofs.Lines.{body, lines_end}
 
 -- the start of a driver is a readable line

@@ -1,7 +1,6 @@
 -- The starts of lists that are joined, and two fronts of one list.
-use Rattle.std.proofs.Common.{◌≡◌, List, [], ◌∷◌, ◌++◌, Some, refl, sym, ap, ◌∙◌, append_assoc}
+use Rattle.std.proofs.Common.{◌≡◌, List, [], ◌∷◌, ◌++◌, Some, refl, sym, ap, ◌∙◌, append_assoc, option_to_list}
 use Rattle.std.proofs.lemmas.List.{append_cancel_left}
-use Rattle.std.specs.Option.{option_to_list}
 use Rattle.boot_model.specs.declared.line.Line.{Line}
 use Rattle.recorded_boot.specs.declared.order.line.Start.{Start}
 use Rattle.recorded_boot.specs.Starts.{ComeFirst, start_of, starts}

@@ -1,13 +1,8 @@
 -- What a turn leaves, from what its parts leave.
-use Rattle.std.proofs.Common.{◌≡◌, ◌<◌, ℕ, ◌+◌, ◌-◌, ◌^◌, List, [], ◌∷◌, ◌++◌, None, refl, ap, ◌∙◌, length, arith, inl, inr}
-use Rattle.std.specs.Prelude.{◌⊎◌, min}
-use Rattle.std.proofs.lemmas.List.{length-append}
+use Rattle.std.proofs.Common.{◌≡◌, ◌<◌, ℕ, ◌+◌, ◌-◌, ◌^◌, List, [], ◌∷◌, ◌++◌, None, refl, ap, ◌∙◌, length, arith, inl, inr, ◌⊎◌, min, length-append}
 use Rattle.boot_io.specs.Faults.{IsPrefix, Rose}
 use Rattle.mod_catalog.specs.declared.catalogue.Catalog.{Catalog}
-use Rattle.boot_model.specs.declared.line.Line.{Line}
-use Rattle.boot_model.specs.FreeRun.{AreFreePeiLines}
-use Rattle.boot_model.specs.PeiMachine.{PeiMachine}
-use Rattle.boot_model.specs.PeiStep.{case_of, pei_step}
+use Rattle.boot_model.specs.{declared.line.Line.Line, FreeRun.AreFreePeiLines, PeiMachine.PeiMachine, PeiStep.case_of, PeiStep.pei_step}
 use Rattle.boot_model.specs.Text.{text_of}
 use Rattle.boot_laws.specs.PeiFree.{AreLinesBehind, IsOwnCase, OwnPeiStepsAreFree, PeiEndsFreely, PeiGoesOn, PeiLinesGrow}
 use Rattle.recorded_boot.specs.Fronts.{EndsLine}

@@ -1,32 +1,19 @@
 -- A boot behind its PEI, along a text.
-use Rattle.std.proofs.Common.{◌≡◌, ◌≤◌, ◌<◌, ℕ, List, [], ◌∷◌, ◌++◌, Some, is_some, refl, sym, ap, ◌∙◌, subst, append_assoc, arith, inl, inr, length}
-use Rattle.std.specs.Prelude.{◌↔◌, ◌⊎◌}
-use Rattle.std.proofs.lemmas.Bool.{cases_lt}
-use Rattle.std.proofs.lemmas.Grind.{flat_map-append}
+use Rattle.std.proofs.Common.{◌≡◌, ◌≤◌, ◌<◌, ℕ, List, [], ◌∷◌, ◌++◌, Some, is_some, refl, sym, ap, ◌∙◌, subst, append_assoc, arith, inl, inr, length, ◌↔◌, ◌⊎◌}
+use Rattle.std.proofs.{lemmas.Bool.cases_lt, lemmas.Grind.flat_map-append}
 use Rattle.boot_io.specs.Faults.{IsPrefix}
 use Rattle.mod_catalog.specs.declared.catalogue.Catalog.{Catalog}
 use Rattle.store_model.specs.HandleState.{no_handles}
 use Rattle.boot_core.specs.Closing.{closing}
 use Rattle.boot_model.specs.BootRun.{both_lines, dxe_result, pei_lines}
-use Rattle.boot_model.specs.DxeMachine.{DxeMachine}
+use Rattle.boot_model.specs.{DxeMachine.DxeMachine, PeiMachine.PeiMachine, Text.line_text, Text.text_of, declared.line.Line.Line}
 use Rattle.boot_model.specs.FreeRun.{AreFreeDxeLines, AreFreeLinesAfter, AreFreePeiLines}
-use Rattle.boot_model.specs.PeiMachine.{PeiMachine}
-use Rattle.boot_model.specs.Text.{line_text, text_of}
-use Rattle.boot_model.specs.declared.line.Line.{Line}
-use Rattle.boot_model.specs.declared.line.RunEnd.{RunEnd}
-use Rattle.boot_model.specs.declared.phase_end.DxeEnd.{DxeEnd}
-use Rattle.boot_model.specs.declared.phase_end.PeiEnd.{PeiEnd}
+use Rattle.boot_model.specs.{declared.line.RunEnd.RunEnd, declared.phase_end.DxeEnd.DxeEnd, declared.phase_end.PeiEnd.PeiEnd}
 use Rattle.boot_model.proofs.Texts.{text_of-append}
-use Rattle.boot_laws.specs.DxeFree.{DxeEndsSo, DxeLinesGrow}
-use Rattle.boot_laws.specs.PeiFree.{PeiEndsSo}
-use Rattle.recorded_boot.specs.declared.trace.spelled.Spelled.{Spelled}
+use Rattle.boot_laws.specs.{DxeFree.DxeEndsSo, DxeFree.DxeLinesGrow, PeiFree.PeiEndsSo}
+use Rattle.recorded_boot.specs.{declared.trace.spelled.Spelled.Spelled, Putting.IsOffHere, Spelled.met, DxeFollowed.printed_by}
 use Rattle.recorded_boot.specs.Fronts.{EndsLine, IsOff, Tracks}
-use Rattle.recorded_boot.specs.Putting.{IsOffHere}
-use Rattle.recorded_boot.specs.Spelled.{met}
-use Rattle.recorded_boot.proofs.TextFronts.{prefix_then, shorter_front}
-use Rattle.recorded_boot.proofs.Telling.{met_begins}
-use Rattle.recorded_boot.proofs.Lines.{lines_end}
-use Rattle.recorded_boot.specs.DxeFollowed.{printed_by}
+use Rattle.recorded_boot.proofs.{TextFronts.prefix_then, TextFronts.shorter_front, Telling.met_begins, Lines.lines_end}
 use Rattle.recorded_boot.specs.FollowingText.{IsLast}
 
 -- of the boots that go on from here, those from the start of what follows

@@ -1,29 +1,19 @@
 -- Behind an order's last start a boot in it goes on as the machine itself does.
-use Rattle.std.proofs.Common.{◌≡◌, ℕ, zero, suc, ◌+◌, ◌<◌, ◌≤◌, true, List, [], ◌∷◌, ◌++◌, length, Option, Some, None, is_some, refl, sym, ap, ◌∙◌, subst, inl, inr, arith}
-use Rattle.std.specs.Prelude.{slice_get}
+use Rattle.std.proofs.Common.{◌≡◌, ℕ, zero, suc, ◌+◌, ◌<◌, ◌≤◌, true, List, [], ◌∷◌, ◌++◌, length, Option, Some, None, is_some, refl, sym, ap, ◌∙◌, subst, inl, inr, arith, slice_get, append-nil, length-append}
 use Rattle.std.proofs.lemmas.Bool.{cases_lt}
-use Rattle.std.proofs.lemmas.List.{append-nil, length-append}
 use Rattle.pi_base.specs.declared.phase.Phase.TheVariants.{Pei, Dxe}
-use Rattle.mod_catalog.specs.declared.catalogue.Part.{Part}
-use Rattle.mod_catalog.specs.Parts.{part_at}
-use Rattle.boot_model.specs.declared.driver.Scheduled.{Scheduled}
-use Rattle.boot_model.specs.declared.line.Line.{Line}
-use Rattle.boot_model.specs.declared.phase_end.PeiEnd.{PeiEnd}
+use Rattle.mod_catalog.specs.{declared.catalogue.Part.Part, Parts.part_at}
+use Rattle.boot_model.specs.{declared.driver.Scheduled.Scheduled, declared.line.Line.Line, declared.phase_end.PeiEnd.PeiEnd}
 use Rattle.boot_model.specs.declared.phase_end.PeiEnd.TheVariants.{Handoff, NoMemory, NoIpl, Spent, Deep}
-use Rattle.boot_model.specs.BootRun.{both_lines, lines_after}
-use Rattle.boot_model.specs.DxeMachine.{DxeMachine}
-use Rattle.boot_model.specs.DxeRun.{IsDxeRun as IsOwnDxeRun}
+use Rattle.boot_model.specs.{BootRun.both_lines, BootRun.lines_after, DxeMachine.DxeMachine, DxeRun.IsDxeRun as IsOwnDxeRun}
 use Rattle.boot_model.specs.DxeStep.{DxeCase, DxeFires, DxeActs, DxeStarts, DxeStops, dxe_case_of, dxe_step, driver_started, in_dxe_case}
-use Rattle.boot_model.specs.FreeRun.{last_of_dxe}
-use Rattle.boot_model.specs.PeiMachine.{PeiMachine}
-use Rattle.boot_model.specs.PeiRun.{IsPeiRun, last_machine}
+use Rattle.boot_model.specs.{FreeRun.last_of_dxe, PeiMachine.PeiMachine, PeiRun.IsPeiRun, PeiRun.last_machine}
 use Rattle.boot_model.specs.PeiStep.{case_of, in_case, pei_step}
 use Rattle.boot_laws.proofs.Cursors as Cursors
 use Rattle.boot_laws.proofs.DxeWays as Ways
-use Rattle.recorded_boot.specs.declared.order.line.Start.{Start}
-use Rattle.recorded_boot.specs.Starts.{module_start, starts}
+use Rattle.recorded_boot.specs.{declared.order.line.Start.Start, Starts.module_start, Starts.starts, Along.IsIndex, ByOrder.starts_of}
 use Rattle.recorded_boot.proofs.DxeCounts as DxeCounts
-use Rattle.recorded_boot.proofs.Fronts.{starts-append}
+use Rattle.recorded_boot.proofs.{Fronts.starts-append, Along.exactly_made, Along.none_asked, OnePlace.own_next}
 use Rattle.recorded_boot.proofs.PeiCounts as PeiCounts
 use Rattle.pei_dispatch.specs.Choices as P
 use Rattle.pei_dispatch.specs.Ends.{pei_starts}
@@ -31,11 +21,7 @@ use Rattle.pei_dispatch.proofs.Chosen.{idle_starts}
 use Rattle.dxe_dispatch.specs.Choices as D
 use Rattle.dxe_dispatch.proofs.Chosen.{target_at}
 use Rattle.dxe_dispatch.proofs.Targets.{Doing, HasScheduled, MayChoose, RunsScript, doing, none_aimed, none_named}
-use Rattle.recorded_boot.specs.Along.{IsIndex}
-use Rattle.recorded_boot.specs.ByOrder.{starts_of}
 use Rattle.recorded_boot.specs.Own.{AreOwnLinesAfter, GoesOnItself, itself_in_dxe, itself_in_pei}
-use Rattle.recorded_boot.proofs.Along.{exactly_made, none_asked}
-use Rattle.recorded_boot.proofs.OnePlace.{own_next}
 use Rattle.recorded_boot.proofs.PeiOrder as PO
 use Rattle.recorded_boot.proofs.PeiOrder.{Comes, IsRun, OrderBoot, lets_peim, peims}
 use Rattle.recorded_boot.proofs.DxeOrder as DO

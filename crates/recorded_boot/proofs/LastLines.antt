@@ -1,16 +1,10 @@
 -- The last lines of a boot against a text.
-use Rattle.std.proofs.Common.{◌≡◌, ℕ, List, [], ◌++◌, refl, sym, ◌∙◌, inl, Some}
-use Rattle.std.proofs.lemmas.List.{append-nil}
-use Rattle.boot_io.specs.Faults.{IsPrefix}
-use Rattle.boot_io.specs.Sink.{AppendsPart}
-use Rattle.boot_model.specs.declared.line.Line.{Line}
-use Rattle.boot_model.specs.Text.{text_of}
-use Rattle.recorded_boot.specs.declared.trace.spelled.Spelled.{Spelled}
-use Rattle.recorded_boot.specs.Fronts.{Tracks}
-use Rattle.recorded_boot.specs.Putting.{AllPrint, IsOffHere}
+use Rattle.std.proofs.Common.{◌≡◌, ℕ, List, [], ◌++◌, refl, sym, ◌∙◌, inl, Some, append-nil}
+use Rattle.boot_io.specs.{Faults.IsPrefix, Sink.AppendsPart}
+use Rattle.boot_model.specs.{declared.line.Line.Line, Text.text_of}
+use Rattle.recorded_boot.specs.{declared.trace.spelled.Spelled.Spelled, Fronts.Tracks, Putting.AllPrint, Putting.IsOffHere}
 use Rattle.recorded_boot.specs.Spelled.{IsHeld, IsRight, met, spoken}
-use Rattle.recorded_boot.proofs.TextFronts.{prefix_then}
-use Rattle.recorded_boot.proofs.Telling.{failed, off}
+use Rattle.recorded_boot.proofs.{TextFronts.prefix_then, Telling.failed, Telling.off}
 use Rattle.recorded_boot.specs.FollowingText.{IsLast, IsWhole}
 
 -- the whole boot was met

@@ -1,29 +1,18 @@
 -- From the text's next line to the driver of the group that it starts.
-use Rattle.std.proofs.Common.{◌≡◌, ℕ, zero, suc, ◌<◌, true, List, [], ◌∷◌, Option, Some, length, refl, sym, ap, ◌∙◌, subst, arith, is_some}
-use Rattle.std.specs.Prelude.{slice_get, unwrap_or, option_map}
-use Rattle.pi_base.specs.declared.guid.Guid.{Guid}
-use Rattle.pi_base.specs.declared.phase.Phase.TheVariants.{Dxe}
-use Rattle.pi_base.specs.Lists.{Each}
-use Rattle.mod_catalog.specs.declared.catalogue.Catalog.{Catalog}
-use Rattle.mod_catalog.specs.declared.catalogue.Module.{Module}
+use Rattle.std.proofs.Common.{◌≡◌, ℕ, zero, suc, ◌<◌, true, List, [], ◌∷◌, Option, Some, length, refl, sym, ap, ◌∙◌, subst, arith, is_some, slice_get, unwrap_or, option_map}
+use Rattle.pi_base.specs.{declared.guid.Guid.Guid, declared.phase.Phase.TheVariants.Dxe, Lists.Each}
+use Rattle.mod_catalog.specs.{declared.catalogue.Catalog.Catalog, declared.catalogue.Module.Module, WellFormed.IsWellFormed}
 use Rattle.mod_catalog.specs.Parts.{module_name, module_volume, part_at, part_of}
-use Rattle.mod_catalog.specs.WellFormed.{IsWellFormed}
-use Rattle.boot_model.specs.declared.driver.Scheduled.{Scheduled}
-use Rattle.boot_model.specs.DriverLicence.{numbers_of}
+use Rattle.boot_model.specs.{declared.driver.Scheduled.Scheduled, DriverLicence.numbers_of, DxeMachine.DxeMachine, FreeRun.MaySchedule}
 use Rattle.boot_model.specs.DxeChoice.{companion_group, driver_licence, group_scheduled, schedule_of}
-use Rattle.boot_model.specs.DxeMachine.{DxeMachine}
-use Rattle.boot_model.specs.FreeRun.{MaySchedule}
 use Rattle.boot_model.proofs.ListFacts.{within}
 use Rattle.boot_laws.specs.DxeAim.{GroupsAreAimed, IsChoosing, NamesLeadToRoot, follows}
 use Rattle.boot_laws.specs.DxeUnderWay.{FewDriversWait, IsDriverOf, IsUnderWay}
-use Rattle.recorded_boot.specs.declared.trace.spelled.Spelled.{Spelled}
-use Rattle.recorded_boot.specs.Spelled.{IsRight, left}
-use Rattle.recorded_boot.specs.Named.{AreGuids, AreNames}
+use Rattle.recorded_boot.specs.{declared.trace.spelled.Spelled.Spelled, Spelled.IsRight, Spelled.left, Named.AreGuids, Named.AreNames}
 use Rattle.line_words.specs.PrintedWords.{IsGuid}
 use Rattle.dxe_dispatch.specs.Choices.{root_of}
 use Rattle.dxe_dispatch.proofs.Targets.{Leading}
-use Rattle.recorded_boot.specs.Starting.{NamesNext}
-use Rattle.recorded_boot.specs.DxeAim.{BeginsWithStart, LeadsTo}
+use Rattle.recorded_boot.specs.{Starting.NamesNext, DxeAim.BeginsWithStart, DxeAim.LeadsTo}
 use Rattle.recorded_boot.proofs.FreeSteps.{AreReadable}
 
 -- the start of a driver is a readable line

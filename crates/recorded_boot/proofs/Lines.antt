@@ -1,13 +1,10 @@
 -- Texts of lines.
-use Rattle.std.proofs.Common.{◌≡◌, ℕ, List, [], ◌∷◌, ◌++◌, sym, ap, ◌∙◌, append_assoc}
-use Rattle.std.proofs.lemmas.List.{append-nil}
-use Rattle.boot_io.specs.Faults.{IsPrefix}
-use Rattle.boot_io.specs.Line.{spaced}
+use Rattle.std.proofs.Common.{◌≡◌, ℕ, List, [], ◌∷◌, ◌++◌, sym, ap, ◌∙◌, append_assoc, append-nil, flat_map}
+use Rattle.boot_io.specs.{Faults.IsPrefix, Line.spaced}
 use Rattle.boot_model.specs.declared.line.Line.{Line}
 use Rattle.boot_model.specs.Text.{keyword, words, line_text, text_of}
 use Rattle.boot_model.proofs.Texts.{text_of-append}
 use Rattle.recorded_boot.specs.Fronts.{EndsLine}
-use Rattle.std.specs.Prelude.{flat_map}
 
 -- a line without its line feed
 abbrev pub body : Line → List ℕ

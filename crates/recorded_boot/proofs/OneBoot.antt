@@ -1,42 +1,24 @@
 -- An order leads to one answer: to one place, and there to one thing that stands against its next start.
-use Rattle.std.proofs.Common.{◌≡◌, ℕ, List, ◌++◌, Option, Some, None, Result, Ok, Err, refl, sym, ap, ◌∙◌, subst, inl, inr, arith}
-use Rattle.std.specs.Prelude.{◌≤◌, ◌-◌, ◌^◌, length, slice_get, take}
+use Rattle.std.proofs.Common.{◌≡◌, ℕ, List, ◌++◌, Option, Some, None, Result, Ok, Err, refl, sym, ap, ◌∙◌, subst, inl, inr, arith, ◌≤◌, ◌-◌, ◌^◌, length, slice_get, take}
 use Rattle.std.proofs.lemmas.Bool.{cases_lt}
-use Rattle.pi_base.specs.Field.{AreBytes}
-use Rattle.pi_base.specs.Lists.{Each}
+use Rattle.pi_base.specs.{Field.AreBytes, Lists.Each}
 use Rattle.boot_plan.specs.declared.plan.Plan.{Plan}
-use Rattle.mod_catalog.specs.declared.catalogue.Catalog.{Catalog}
-use Rattle.mod_catalog.specs.declared.catalogue.Part.{Part}
-use Rattle.mod_catalog.specs.declared.image_fault.ImageFault.{ImageFault}
-use Rattle.mod_catalog.specs.Catalogue.{IsCatalogue}
-use Rattle.mod_catalog.specs.ImageFault.{IsImageFault}
-use Rattle.mod_catalog.specs.Parts.{part_at}
-use Rattle.mod_catalog.specs.WellFormed.{IsWellFormed}
-use Rattle.store_model.specs.HandleState.{HandleState}
-use Rattle.store_model.specs.StoreState.{StoreState}
-use Rattle.boot_model.specs.declared.line.RunEnd.{RunEnd}
-use Rattle.boot_model.specs.PlanBoard.{board_of}
-use Rattle.boot_model.specs.Text.{text_of}
-use Rattle.recorded_boot.proofs.Modules.{one_module}
-use Rattle.recorded_boot.specs.Named.{HasNoTwins, IsFirstWithTwins}
-use Rattle.recorded_boot.specs.declared.order.line.AskedStart.{AskedStart}
-use Rattle.recorded_boot.specs.declared.order.line.Start.{Start}
-use Rattle.recorded_boot.specs.declared.order.lines.StartOrder.{StartOrder}
-use Rattle.recorded_boot.specs.declared.follow.against.Against.{Against}
+use Rattle.mod_catalog.specs.{declared.catalogue.Catalog.Catalog, declared.catalogue.Part.Part, declared.image_fault.ImageFault.ImageFault}
+use Rattle.mod_catalog.specs.{Catalogue.IsCatalogue, ImageFault.IsImageFault, Parts.part_at, WellFormed.IsWellFormed}
+use Rattle.store_model.specs.{HandleState.HandleState, StoreState.StoreState}
+use Rattle.boot_model.specs.{declared.line.RunEnd.RunEnd, PlanBoard.board_of, Text.text_of}
+use Rattle.recorded_boot.proofs.{Modules.one_module, OnePlace.one_place, PeiOrder.OrderBoot}
+use Rattle.recorded_boot.specs.{Named.HasNoTwins, Named.IsFirstWithTwins, declared.order.line.AskedStart.AskedStart}
+use Rattle.recorded_boot.specs.{declared.order.line.Start.Start, declared.order.lines.StartOrder.StartOrder}
+use Rattle.recorded_boot.specs.{declared.follow.against.Against.Against, declared.follow.following.Followed.Followed}
 use Rattle.recorded_boot.specs.declared.follow.against.Against.TheVariants.{Unknown, Started, NotEligible}
-use Rattle.recorded_boot.specs.declared.follow.following.Followed.{Followed}
 use Rattle.recorded_boot.specs.declared.follow.following.Followed.TheVariants.{Ended, Stopped, No}
-use Rattle.recorded_boot.specs.declared.follow.images.FollowFault.{FollowFault}
+use Rattle.recorded_boot.specs.{declared.follow.images.FollowFault.FollowFault, Answer.FollowsTo, ByOrder.starts_of}
 use Rattle.recorded_boot.specs.declared.follow.images.FollowFault.TheVariants.{Image, Twins, Sink, Memory}
 use Rattle.recorded_boot.specs.Against.{IsModuleOf, StandsAgainst, is_installed, lacking, pushed_in}
-use Rattle.recorded_boot.specs.Answer.{FollowsTo}
-use Rattle.recorded_boot.specs.ByOrder.{starts_of}
 use Rattle.recorded_boot.specs.Follow.{Follows, HasTwins, IsFollowed}
-use Rattle.recorded_boot.specs.InOrder.{Place, last_lines}
-use Rattle.recorded_boot.specs.Leaving.{ComesTo, IsRefused}
+use Rattle.recorded_boot.specs.{InOrder.Place, InOrder.last_lines, Leaving.ComesTo, Leaving.IsRefused}
 use Rattle.recorded_boot.specs.OneBoot.{IsAnswer, OneAnswer, OneBoot, put}
-use Rattle.recorded_boot.proofs.OnePlace.{one_place}
-use Rattle.recorded_boot.proofs.PeiOrder.{OrderBoot}
 
 -- a start has one part
 one_part : (catalog : Catalog) (start : Start) (a b : Part) → HasNoTwins catalog → IsModuleOf catalog start a → IsModuleOf catalog start b → a ≡ b

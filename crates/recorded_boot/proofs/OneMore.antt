@@ -2,8 +2,7 @@
 use Rattle.std.proofs.Common.{◌≡◌, ℕ, ◌+◌, true, false, not, cond, List, [], ◌∷◌, ◌++◌, map, append_assoc, Some, refl, sym, ap, ◌∙◌}
 use Rattle.std.proofs.lemmas.List.{map-append}
 use Rattle.line_words.specs.Line.{is_passed_over}
-use Rattle.recorded_boot.specs.declared.order.lines.StartOrder.{StartOrder}
-use Rattle.recorded_boot.specs.LineText.{asked_of}
+use Rattle.recorded_boot.specs.{declared.order.lines.StartOrder.StartOrder, LineText.asked_of}
 use Rattle.recorded_boot.specs.OrderText.{AreLinesOf, all_asked, numbered_from, spelled}
 
 -- the first of the lines, and then the others

@@ -1,18 +1,12 @@
 -- Lines spell one order, or have one first bad line.
-use Rattle.std.proofs.Common.{◌≡◌, ℕ, ◌+◌, ◌≤◌, Bool, true, false, not, cond, List, [], ◌∷◌, ◌++◌, length, map, Option, Some, None, is_some, refl, sym, ap, ◌∙◌, subst, inl, inr, arith}
-use Rattle.std.specs.Prelude.{◌⊎◌, ◌==◌}
-use Rattle.std.specs.List.{enumerate_from, slice_split}
-use Rattle.std.specs.Str.Lines.{lines_of_parts}
-use Rattle.std.proofs.lemmas.List.{length-append, length-map, map-append}
-use Rattle.std.proofs.lemmas.List.FromFn.{length-enumerate_from}
-use Rattle.std.proofs.lemmas.List.Splits.{length-slice_split}
-use Rattle.std.proofs.lemmas.List.Sums.{count_by-le-length, length-filter}
+use Rattle.std.proofs.Common.{◌≡◌, ℕ, ◌+◌, ◌≤◌, Bool, true, false, not, cond, List, [], ◌∷◌, ◌++◌, length, map, Option, Some, None, is_some, refl, sym, ap, ◌∙◌, subst, inl, inr, arith, ◌⊎◌, ◌==◌, length-append}
+use Rattle.std.specs.{List.enumerate_from, List.slice_split, Str.Lines.lines_of_parts}
+use Rattle.std.proofs.{lemmas.List.length-map, lemmas.List.map-append, lemmas.List.FromFn.length-enumerate_from}
+use Rattle.std.proofs.{lemmas.List.Splits.length-slice_split, lemmas.List.Sums.count_by-le-length, lemmas.List.Sums.length-filter}
 use Rattle.line_words.specs.Line.{lines, is_passed_over}
-use Rattle.recorded_boot.specs.declared.order.line.Asked.{Asked}
+use Rattle.recorded_boot.specs.{declared.order.line.Asked.Asked, declared.order.line.AskedStart.AskedStart}
 use Rattle.recorded_boot.specs.declared.order.line.Asked.TheVariants as A
-use Rattle.recorded_boot.specs.declared.order.line.AskedStart.{AskedStart}
-use Rattle.recorded_boot.specs.declared.order.lines.StartOrder.{StartOrder}
-use Rattle.recorded_boot.specs.LineText.{asked_of}
+use Rattle.recorded_boot.specs.{declared.order.lines.StartOrder.StartOrder, LineText.asked_of}
 use Rattle.recorded_boot.specs.OrderText.{AreLinesOf, IsFirstBad, IsOrder, all_asked, last_asked, numbered, spelled}
 
 -- what orders ask for

@@ -1,27 +1,19 @@
 -- An order leads to one place: from each machine it leads on by one step, or stops there.
-use Rattle.std.proofs.Common.{◌≡◌, ℕ, ◌+◌, ◌<◌, ◌≤◌, Bool, true, false, true≢false, List, [], ◌∷◌, length, Option, Some, None, refl, sym, ap, ◌∙◌, subst, inl, inr, arith}
-use Rattle.std.specs.Prelude.{slice_get}
+use Rattle.std.proofs.Common.{◌≡◌, ℕ, ◌+◌, ◌<◌, ◌≤◌, Bool, true, false, true≢false, List, [], ◌∷◌, length, Option, Some, None, refl, sym, ap, ◌∙◌, subst, inl, inr, arith, slice_get}
 use Rattle.std.proofs.lemmas.Bool.{cases_lt}
 use Rattle.pi_base.specs.declared.phase.Phase.TheVariants.{Pei, Dxe}
-use Rattle.boot_model.specs.declared.phase_end.DxeEnd.{DxeEnd}
-use Rattle.boot_model.specs.declared.phase_end.PeiEnd.{PeiEnd}
+use Rattle.boot_model.specs.{declared.phase_end.DxeEnd.DxeEnd, declared.phase_end.PeiEnd.PeiEnd, DxeMachine.DxeMachine, DxeRun.dxe_opening}
 use Rattle.boot_model.specs.declared.phase_end.PeiEnd.TheVariants.{Handoff, NoMemory, NoIpl, Spent, Deep}
-use Rattle.boot_model.specs.DxeMachine.{DxeMachine}
-use Rattle.boot_model.specs.DxeRun.{dxe_opening}
-use Rattle.boot_model.specs.DxeStep.{dxe_step}
-use Rattle.boot_model.specs.PeiChoice.{next_peim, pei_order}
-use Rattle.boot_model.specs.PeiMachine.{PeiMachine}
+use Rattle.boot_model.specs.{DxeStep.dxe_step, PeiChoice.next_peim, PeiChoice.pei_order, PeiMachine.PeiMachine}
 use Rattle.boot_model.specs.PeiStep.{Starts, case_of, started}
-use Rattle.boot_laws.specs.PeiAim.{with_cursor}
-use Rattle.boot_laws.specs.PeiFree.{IsOwnCase}
+use Rattle.boot_laws.specs.{PeiAim.with_cursor, PeiFree.IsOwnCase}
 use Rattle.boot_laws.proofs.Cursors as Cursors
-use Rattle.recorded_boot.specs.declared.order.line.AskedStart.{AskedStart}
+use Rattle.recorded_boot.specs.{declared.order.line.AskedStart.AskedStart, ByOrder.is_start_of, ByOrder.lets_asked}
 use Rattle.pei_dispatch.specs.Choices as P
 use Rattle.pei_dispatch.specs.Ends.{pei_starts}
 use Rattle.dxe_dispatch.specs.Choices as D
 use Rattle.dxe_dispatch.specs.Turns.{PassesStart}
 use Rattle.dxe_dispatch.proofs.Targets.{Doing, HasScheduled, MayChoose, RunsScript, doing, none_aimed, none_named}
-use Rattle.recorded_boot.specs.ByOrder.{is_start_of, lets_asked}
 use Rattle.recorded_boot.specs.InOrder.{BarsInDxe, BarsInPei, IsDxePlace, IsPeiPlace, LeadsTo, Place, StandsInDxe, order_choices}
 use Rattle.recorded_boot.proofs.Along.{none_asked, one_named, start_is}
 use Rattle.recorded_boot.proofs.PeiOrder.{IsRun, OrderBoot, case_is, due_is, lets_peim, peims}

@@ -1,8 +1,7 @@
 -- A run by what a choice may name is one by what the order names.
 use Rattle.std.proofs.Common.{ℕ, Bool, List, [], ◌∷◌, Option, inl, inr}
 use Rattle.mod_catalog.specs.declared.catalogue.Catalog.{Catalog}
-use Rattle.boot_model.specs.DxeMachine.{DxeMachine}
-use Rattle.boot_model.specs.PeiMachine.{PeiMachine}
+use Rattle.boot_model.specs.{DxeMachine.DxeMachine, PeiMachine.PeiMachine}
 use Rattle.pei_dispatch.specs.Choices as P
 use Rattle.dxe_dispatch.specs.Choices as D
 

@@ -1,12 +1,8 @@
 -- The starts that the order of lines asks for are those of which the lines tell.
-use Rattle.std.proofs.Common.{◌≡◌, ℕ, ◌+◌, List, [], ◌∷◌, ◌++◌, map, Option, Some, None, refl, ap}
-use Rattle.std.specs.Option.{option_to_list}
-use Rattle.std.specs.Prelude.{option_map}
+use Rattle.std.proofs.Common.{◌≡◌, ℕ, ◌+◌, List, [], ◌∷◌, ◌++◌, map, Option, Some, None, refl, ap, option_to_list, option_map}
 use Rattle.boot_model.specs.declared.line.Line.{Line}
-use Rattle.recorded_boot.specs.declared.order.line.AskedStart.{AskedStart}
-use Rattle.recorded_boot.specs.declared.order.line.Start.{Start}
-use Rattle.recorded_boot.specs.Order.{asked_at, asked_from}
-use Rattle.recorded_boot.specs.Starts.{start_of, starts}
+use Rattle.recorded_boot.specs.{declared.order.line.AskedStart.AskedStart, declared.order.line.Start.Start}
+use Rattle.recorded_boot.specs.{Order.asked_at, Order.asked_from, Starts.start_of, Starts.starts}
 
 pub same_starts : (number : ℕ) (lines : List Line) → map (λ (one : AskedStart). one.start) (asked_from number lines) ≡ starts lines
 same_starts number [] = refl

@@ -1,37 +1,25 @@
 -- A step of PEI that starts no module tells of no start; a start tells of one.
-use Rattle.std.proofs.Common.{◌≡◌, ℕ, ◌+◌, Bool, true, false, cond, List, [], ◌∷◌, ◌++◌, length, Some, None, Ok, Err, nat_le, refl, sym, ap, ◌∙◌, subst, append_assoc, arith}
-use Rattle.std.proofs.lemmas.List.{append-nil, length-append}
-use Rattle.std.specs.Option.{option_to_list}
+use Rattle.std.proofs.Common.{◌≡◌, ℕ, ◌+◌, Bool, true, false, cond, List, [], ◌∷◌, ◌++◌, length, Some, None, Ok, Err, nat_le, refl, sym, ap, ◌∙◌, subst, append_assoc, arith, append-nil, length-append, option_to_list}
 use Rattle.pi_base.specs.declared.phase.Phase.TheVariants.{Pei}
 use Rattle.pi_base.specs.declared.word.Word.TheVariants.{Success, AlreadyStarted}
 use Rattle.act_code.specs.declared.action.Action.{Action}
-use Rattle.mod_catalog.specs.declared.catalogue.Catalog.{Catalog}
-use Rattle.mod_catalog.specs.declared.catalogue.Part.{Part}
+use Rattle.mod_catalog.specs.{declared.catalogue.Catalog.Catalog, declared.catalogue.Part.Part}
 use Rattle.mod_catalog.specs.Parts.{has_number, module_name, module_volume}
-use Rattle.store_model.specs.declared.store_handle.Sweep.{Sweep}
-use Rattle.store_model.specs.Service.{Service}
-use Rattle.store_model.specs.Service.Install.{core_install}
+use Rattle.store_model.specs.{declared.store_handle.Sweep.Sweep, Service.Service, Service.Install.core_install}
 use Rattle.store_model.specs.StoreState.{Board, StoreState}
 use Rattle.boot_model.specs.declared.line.CallName.TheVariants as C
 use Rattle.boot_model.specs.declared.line.Extra.TheVariants as X
-use Rattle.boot_model.specs.declared.line.Line.{Line}
+use Rattle.boot_model.specs.{declared.line.Line.Line, declared.line.Reason.Reason, declared.phase_end.PeiEnd.PeiEnd, Eligible.licence_at}
 use Rattle.boot_model.specs.declared.line.Line.TheVariants as L
-use Rattle.boot_model.specs.declared.line.Reason.{Reason}
-use Rattle.boot_model.specs.declared.phase_end.PeiEnd.{PeiEnd}
 use Rattle.boot_model.specs.declared.phase_end.PeiEnd.TheVariants.{Handoff, NoMemory, NoIpl, Spent, Deep}
-use Rattle.boot_model.specs.Eligible.{licence_at}
-use Rattle.boot_model.specs.FreeRun.{IsFreeIn, MayStart}
-use Rattle.boot_model.specs.Reporting.{reports}
+use Rattle.boot_model.specs.{FreeRun.IsFreeIn, FreeRun.MayStart, Reporting.reports, PeiChoice.pei_order, PeiRun.pei_opening}
 use Rattle.boot_model.specs.PeiAction.{status_of, Effect, Wrote, Called, Own, Shadowed, Logged, Skipped, Returned, effect}
-use Rattle.boot_model.specs.PeiChoice.{pei_order}
 use Rattle.boot_model.specs.PeiMachine.{PeiMachine, Frame, printed}
-use Rattle.boot_model.specs.PeiRun.{pei_opening}
 use Rattle.boot_model.specs.PeiStep.{PeiCase, Fires, Acts, Moves, Pops, Starts, Stops, action_at, after_effect, callback_begun, callback_line, case_of, core_called, dispatch_line, handoff_lines, in_case, outcome_of, past, reason_of, popped_to, report_lines, start_line, start_lines, started, started_part, stopped, waiting_line, waiting_lines}
 use Rattle.boot_laws.specs.PeiFree.{IsOwnCase}
 use Rattle.boot_laws.proofs.Starts.{pei_prints}
-use Rattle.recorded_boot.specs.declared.order.line.Start.{Start}
+use Rattle.recorded_boot.specs.{declared.order.line.Start.Start, Counted.PeiStartsCount}
 use Rattle.recorded_boot.specs.Starts.{module_start, start_of, starts}
-use Rattle.recorded_boot.specs.Counted.{PeiStartsCount}
 use Rattle.recorded_boot.proofs.Fronts.{starts-append}
 use Rattle.recorded_boot.proofs.QuietLines.{quiet_flat, quiet_map, quiet_option, quiet_then}
 

@@ -1,19 +1,11 @@
 -- PEI along an order.
-use Rattle.std.proofs.Common.{◌≡◌, ℕ, ◌+◌, ◌-◌, ◌^◌, ◌<◌, ◌≤◌, min, Bool, true, false, true≢false, List, [], ◌∷◌, ◌++◌, length, Option, Some, None, refl, sym, ap, ◌∙◌, subst, inl, inr, arith, append_assoc}
-use Rattle.std.specs.Prelude.{◌⊎◌, slice_get}
+use Rattle.std.proofs.Common.{◌≡◌, ℕ, ◌+◌, ◌-◌, ◌^◌, ◌<◌, ◌≤◌, min, Bool, true, false, true≢false, List, [], ◌∷◌, ◌++◌, length, Option, Some, None, refl, sym, ap, ◌∙◌, subst, inl, inr, arith, append_assoc, ◌⊎◌, slice_get, append-nil}
 use Rattle.std.proofs.lemmas.Bool.{cases_lt}
-use Rattle.std.proofs.lemmas.List.{append-nil}
 use Rattle.pi_base.specs.declared.phase.Phase.TheVariants.{Pei}
-use Rattle.mod_catalog.specs.declared.catalogue.Catalog.{Catalog}
-use Rattle.mod_catalog.specs.Parts.{part_of}
-use Rattle.mod_catalog.specs.WellFormed.{IsWellFormed}
+use Rattle.mod_catalog.specs.{declared.catalogue.Catalog.Catalog, Parts.part_of, WellFormed.IsWellFormed}
 use Rattle.store_model.specs.StoreState.{Board}
-use Rattle.boot_model.specs.declared.line.Line.{Line}
-use Rattle.boot_model.specs.Eligible.{licence_at}
+use Rattle.boot_model.specs.{declared.line.Line.Line, Eligible.licence_at, PeiChoice.pei_order, PeiMachine.PeiMachine, PeiRun.pei_opening}
 use Rattle.boot_model.specs.FreeRun.{AreFreeLines, AreFreePeiLines, IsFreePeiStep, MayStart}
-use Rattle.boot_model.specs.PeiChoice.{pei_order}
-use Rattle.boot_model.specs.PeiMachine.{PeiMachine}
-use Rattle.boot_model.specs.PeiRun.{pei_opening}
 use Rattle.boot_model.specs.PeiStep.{Starts, case_of, start_line, started}
 use Rattle.boot_model.proofs.ListFacts.{within}
 use Rattle.boot_laws.specs.PeiUnderWay.{IsUnderWay}
@@ -21,11 +13,9 @@ use Rattle.boot_laws.proofs.Cursors as Cursors
 use Rattle.boot_laws.proofs.PeiRuns as Runs
 use Rattle.boot_laws.proofs.PeiWays as Ways
 use Rattle.boot_laws.proofs.Starts.{pei_prints}
-use Rattle.recorded_boot.specs.Named.{HasNoTwins}
-use Rattle.recorded_boot.specs.declared.order.line.AskedStart.{AskedStart}
-use Rattle.recorded_boot.specs.declared.order.lines.StartOrder.{StartOrder}
+use Rattle.recorded_boot.specs.{Named.HasNoTwins, declared.order.line.AskedStart.AskedStart, declared.order.lines.StartOrder.StartOrder}
 use Rattle.recorded_boot.specs.Starts.{ComeFirst, module_start, starts}
-use Rattle.recorded_boot.specs.Leading.{PeiComesTo}
+use Rattle.recorded_boot.specs.{Leading.PeiComesTo, Following.IsBeforeStart, Along.IsAlong, Along.IsIndex}
 use Rattle.recorded_boot.proofs.Fronts.{first_of_first, next_of_fronts, starts-append}
 use Rattle.recorded_boot.proofs.PeiCounts.{case_adds, opening_quiet, started_adds, starts_count}
 use Rattle.recorded_boot.proofs.Runs.{pei_leads}
@@ -33,8 +23,6 @@ use Rattle.pei_dispatch.specs.Choices as P
 use Rattle.pei_dispatch.specs.Ends.{pei_starts}
 use Rattle.pei_dispatch.proofs.Chosen.{idle_starts, some_first, start_is_free, step_is_free}
 use Rattle.recorded_boot.specs.ByOrder.{NamesAsked, lets_asked, lets_by}
-use Rattle.recorded_boot.specs.Following.{IsBeforeStart}
-use Rattle.recorded_boot.specs.Along.{IsAlong, IsIndex}
 use Rattle.recorded_boot.proofs.Along.{is_start, let_goes_on, named_is}
 
 -- A boot along an order: what is known of it.

@@ -3,19 +3,13 @@ use Rattle.std.proofs.Common.{◌≡◌, ℕ, List, ◌∷◌, ◌++◌, refl, s
 use Rattle.pi_base.specs.declared.phase.Phase.TheVariants.{Pei}
 use Rattle.mod_catalog.specs.declared.catalogue.Catalog.{Catalog}
 use Rattle.mod_catalog.specs.Parts.{module_name, module_volume, part_of}
-use Rattle.boot_model.specs.Eligible.{licence_at}
-use Rattle.boot_model.specs.FreeRun.{IsFreeIn, MayStart}
-use Rattle.boot_model.specs.PeiMachine.{PeiMachine}
+use Rattle.boot_model.specs.{Eligible.licence_at, FreeRun.IsFreeIn, FreeRun.MayStart, PeiMachine.PeiMachine}
 use Rattle.boot_model.specs.PeiStep.{PeiCase, Fires, Acts, Moves, Pops, Starts, Stops, case_of, start_line, started}
 use Rattle.boot_model.proofs.ListFacts.{within}
-use Rattle.boot_laws.proofs.PeiWays.{may_has_part}
-use Rattle.boot_laws.proofs.Starts.{pei_prints}
-use Rattle.recorded_boot.specs.Named.{HasNoTwins, IsNamed}
-use Rattle.recorded_boot.specs.declared.order.line.Start.{Start}
+use Rattle.boot_laws.proofs.{PeiWays.may_has_part, Starts.pei_prints}
+use Rattle.recorded_boot.specs.{Named.HasNoTwins, Named.IsNamed, declared.order.line.Start.Start, OneStep.OnePeiStep}
 use Rattle.recorded_boot.specs.Starts.{ComeFirst, module_start, starts}
-use Rattle.recorded_boot.specs.OneStep.{OnePeiStep}
-use Rattle.recorded_boot.proofs.Fronts.{next_of_fronts, starts_then}
-use Rattle.recorded_boot.proofs.Modules.{one_module}
+use Rattle.recorded_boot.proofs.{Fronts.next_of_fronts, Fronts.starts_then, Modules.one_module}
 
 -- what a start adds to the starts
 pub record Tells (catalog : Catalog) (m : PeiMachine) (number : ℕ) : Type 0 where

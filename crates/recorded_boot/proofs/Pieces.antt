@@ -1,12 +1,8 @@
 -- A piece that is held against the text at a place.
-use Rattle.std.proofs.Common.{◌≡◌, ◌≤◌, ℕ, ◌+◌, true, false, List, [], ◌∷◌, ◌++◌, Option, Some, None, length, take, drop, get_or, refl, sym, ap, ◌∙◌, append_assoc, arith}
-use Rattle.std.specs.Prelude.{is_some}
-use Rattle.std.specs.Option.{option_to_list}
-use Rattle.std.proofs.lemmas.List.{append-nil, length-take-le, take-append-drop}
+use Rattle.std.proofs.Common.{◌≡◌, ◌≤◌, ℕ, ◌+◌, true, false, List, [], ◌∷◌, ◌++◌, Option, Some, None, length, take, drop, get_or, refl, sym, ap, ◌∙◌, append_assoc, arith, is_some, option_to_list, append-nil, length-take-le, take-append-drop}
 use Rattle.std.proofs.Math.Seq.{take-append_seam, take-append-add}
 use Rattle.boot_io.specs.Faults.{IsPrefix}
-use Rattle.recorded_boot.specs.Agreement.{IsOtherAt}
-use Rattle.recorded_boot.specs.Spelled.{marked}
+use Rattle.recorded_boot.specs.{Agreement.IsOtherAt, Spelled.marked}
 use Rattle.recorded_boot.proofs.Places.{cut_at}
 
 -- what was met with a piece behind it

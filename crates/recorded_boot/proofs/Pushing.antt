@@ -1,22 +1,15 @@
 -- What an expression lacks, found opcode by opcode.
-use Rattle.std.proofs.Common.{◌≡◌, Bool, true, false, ◌||◌, not, cond, List, [], ◌∷◌, ◌++◌, filter, flat_map, Option, Some, None, is_some, refl, sym, ap, ◌∙◌, append_assoc}
+use Rattle.std.proofs.Common.{◌≡◌, Bool, true, false, ◌||◌, not, cond, List, [], ◌∷◌, ◌++◌, filter, flat_map, Option, Some, None, is_some, refl, sym, ap, ◌∙◌, append_assoc, slice_get, append-nil}
 use Rattle.std.specs.List.{list_any}
-use Rattle.std.specs.Prelude.{slice_get}
-use Rattle.std.proofs.lemmas.Cmp.{nat_list_eq_equiv}
-use Rattle.std.proofs.lemmas.List.{append-nil}
-use Rattle.std.proofs.lemmas.Grind.{flat_map-append}
-use Rattle.pi_base.specs.declared.guid.Guid.{Guid}
-use Rattle.pi_base.specs.Guids.{same_guid}
-use Rattle.pi_base.specs.Lists.{firsts}
+use Rattle.std.proofs.{lemmas.Cmp.nat_list_eq_equiv, lemmas.Grind.flat_map-append}
+use Rattle.pi_base.specs.{declared.guid.Guid.Guid, Guids.same_guid, Lists.firsts}
 use Rattle.depex_code.specs.Tree.{DepexTree, True, False, Push, Not, And, Or, postfix}
 use Rattle.depex_code.specs.declared.depex.Depex.TheVariants as D
 use Rattle.depex_code.specs.declared.opcode.Opcode.{Opcode}
 use Rattle.depex_code.specs.declared.opcode.Opcode.TheVariants as O
 use Rattle.mod_catalog.specs.declared.catalogue.PartExpr.{PartExpr}
 use Rattle.mod_catalog.specs.declared.catalogue.PartExpr.TheVariants as E
-use Rattle.store_model.specs.StoreState.{StoreState}
-use Rattle.store_model.specs.Service.Install.{has_ppi}
-use Rattle.store_model.specs.Service.Reading.{nth_ppi}
+use Rattle.store_model.specs.{StoreState.StoreState, Service.Install.has_ppi, Service.Reading.nth_ppi}
 use Rattle.boot_laws.specs.ChangedGuids.{is_among}
 use Rattle.recorded_boot.specs.Against.{lacking, pushed_by, pushed_in}
 use Rattle.recorded_boot.specs.Code.{code_in, lacking_from, more_lacking, once_more, pushed_by_code, pushed_one}

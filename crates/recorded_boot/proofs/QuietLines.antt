@@ -1,6 +1,5 @@
 -- Lines that tell of no start.
-use Rattle.std.proofs.Common.{◌≡◌, List, [], ◌∷◌, ◌++◌, map, flat_map, Option, Some, None, refl, ap, ◌∙◌}
-use Rattle.std.specs.Option.{option_to_list, option_map}
+use Rattle.std.proofs.Common.{◌≡◌, List, [], ◌∷◌, ◌++◌, map, flat_map, Option, Some, None, refl, ap, ◌∙◌, option_to_list, option_map}
 use Rattle.boot_model.specs.declared.line.Line.{Line}
 use Rattle.recorded_boot.specs.Starts.{start_of, starts}
 use Rattle.recorded_boot.proofs.Fronts.{starts-append}

@@ -1,42 +1,26 @@
 -- Where a boot along an order is left or ends: in PEI, and in DXE.
-use Rattle.std.proofs.Common.{◌≡◌, ℕ, ◌+◌, List, [], ◌∷◌, ◌++◌, length, Some, None, Ok, is_some, refl, sym, ap, ◌∙◌, subst, append_assoc}
+use Rattle.std.proofs.Common.{◌≡◌, ℕ, ◌+◌, List, [], ◌∷◌, ◌++◌, length, Some, None, Ok, is_some, refl, sym, ap, ◌∙◌, subst, append_assoc, append-nil}
 use Rattle.std.specs.Io.KnownBytes.{Appends}
-use Rattle.std.proofs.lemmas.List.{append-nil}
 use Rattle.pi_base.specs.declared.phase.Phase.TheVariants.{Pei}
 use Rattle.mod_catalog.specs.declared.catalogue.Catalog.{Catalog}
-use Rattle.store_model.specs.HandleState.{HandleState, no_handles}
-use Rattle.store_model.specs.StoreState.{StoreState}
-use Rattle.boot_model.specs.declared.line.Line.{Line}
+use Rattle.store_model.specs.{HandleState.HandleState, HandleState.no_handles, StoreState.StoreState}
+use Rattle.boot_model.specs.{declared.line.Line.Line, declared.line.RunEnd.RunEnd, declared.phase_end.DxeEnd.DxeEnd}
 use Rattle.boot_model.specs.declared.line.Line.TheVariants as L
-use Rattle.boot_model.specs.declared.line.RunEnd.{RunEnd}
 use Rattle.boot_model.specs.declared.line.RunEnd.TheVariants as E
-use Rattle.boot_model.specs.declared.phase_end.DxeEnd.{DxeEnd}
-use Rattle.boot_model.specs.declared.phase_end.PeiEnd.{PeiEnd}
+use Rattle.boot_model.specs.{declared.phase_end.PeiEnd.PeiEnd, DxeMachine.DxeMachine, FreeRun.AreFreeLinesAfter, FreeRun.AreFreePeiLines}
 use Rattle.boot_model.specs.declared.phase_end.PeiEnd.TheVariants.{Handoff, NoMemory, NoIpl, Spent, Deep}
 use Rattle.boot_model.specs.BootRun.{both_lines, dxe_result, handle_lines, lines_after}
-use Rattle.boot_model.specs.DxeMachine.{DxeMachine}
-use Rattle.boot_model.specs.FreeRun.{AreFreeLinesAfter, AreFreePeiLines}
-use Rattle.boot_model.specs.Listing.{store_lines}
-use Rattle.boot_model.specs.PeiMachine.{PeiMachine}
-use Rattle.boot_model.specs.Text.{text_of}
+use Rattle.boot_model.specs.{Listing.store_lines, PeiMachine.PeiMachine, Text.text_of}
 use Rattle.boot_trace.specs.Printing.{Texts}
 use Rattle.boot_laws.proofs.DxeRuns as DxeRuns
 use Rattle.boot_laws.proofs.PeiRuns as PeiRuns
-use Rattle.recorded_boot.specs.Starts.{starts}
-use Rattle.recorded_boot.proofs.Runs.{pei_leads}
+use Rattle.recorded_boot.specs.{Starts.starts, declared.follow.following.Followed.Followed, Along.IsAlong, Answer.FollowsTo}
+use Rattle.recorded_boot.proofs.{Runs.pei_leads, Along.lets_stop, ClosingStarts.closing_quiet, Itself.dxe_itself, Itself.pei_itself}
 use Rattle.pei_dispatch.specs.Ends.{pei_starts}
 use Rattle.boot_core.specs.Closing.{closing}
-use Rattle.recorded_boot.specs.declared.follow.following.Followed.{Followed}
-use Rattle.recorded_boot.specs.Along.{IsAlong}
-use Rattle.recorded_boot.specs.Answer.{FollowsTo}
 use Rattle.recorded_boot.specs.InOrder.{BarsInDxe, BarsInPei, IsDxePlace, IsPeiPlace, LeadsTo, StandsInDxe, dxe_place, order_choices, pei_place}
-use Rattle.recorded_boot.specs.Behind.{pei_result}
-use Rattle.recorded_boot.specs.Following.{stands_in_pei, stands_in_dxe}
-use Rattle.recorded_boot.specs.Leaving.{ComesTo}
-use Rattle.recorded_boot.proofs.Along.{lets_stop}
-use Rattle.recorded_boot.proofs.ClosingStarts.{closing_quiet}
+use Rattle.recorded_boot.specs.{Behind.pei_result, Following.stands_in_pei, Following.stands_in_dxe, Leaving.ComesTo}
 use Rattle.recorded_boot.proofs.Comings.{Stand, barred_comes, ended_comes, in_order}
-use Rattle.recorded_boot.proofs.Itself.{dxe_itself, pei_itself}
 use Rattle.recorded_boot.proofs.PeiOrder as P
 use Rattle.recorded_boot.proofs.PeiOrder.{Comes, IsRun, OrderBoot, PeiBar}
 use Rattle.recorded_boot.proofs.DxeOrder as D

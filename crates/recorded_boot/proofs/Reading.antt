@@ -1,16 +1,11 @@
 -- The next line of a text, as it is read.
-use Rattle.std.proofs.Common.{◌≡◌, ℕ, Bool, true, false, ◌&&◌, None, Some, List, [], ◌∷◌, ◌++◌, refl, sym, ap, ◌∙◌, subst}
-use Rattle.std.specs.Prelude.{not}
+use Rattle.std.proofs.Common.{◌≡◌, ℕ, Bool, true, false, ◌&&◌, None, Some, List, [], ◌∷◌, ◌++◌, refl, sym, ap, ◌∙◌, subst, not}
 use Rattle.std.specs.List.{list_all}
 use Rattle.boot_io.specs.Faults.{IsPrefix}
-use Rattle.pi_base.specs.declared.guid.Guid.{Guid}
-use Rattle.pi_base.specs.declared.phase.Phase.{Phase}
+use Rattle.pi_base.specs.{declared.guid.Guid.Guid, declared.phase.Phase.Phase}
 use Rattle.pi_base.specs.declared.phase.Phase.TheVariants.{Pei, Dxe}
-use Rattle.boot_model.specs.declared.licence.Licence.{Licence}
-use Rattle.boot_model.specs.declared.line.Line.{Line}
-use Rattle.boot_model.specs.Text.{line_text}
-use Rattle.recorded_boot.specs.StartLine.{phase_start}
-use Rattle.recorded_boot.specs.Starts.{start_of}
+use Rattle.boot_model.specs.{declared.licence.Licence.Licence, declared.line.Line.Line, Text.line_text}
+use Rattle.recorded_boot.specs.{StartLine.phase_start, Starts.start_of}
 use Rattle.recorded_boot.specs.Lines.{BeginsWithLine, Lacks, is_feed}
 use Rattle.trace_reader.specs.Readable.{IsLineOf, IsReadable}
 use Rattle.line_words.proofs.LineFeeds.{same_line}

@@ -1,25 +1,15 @@
 -- The free boots that start what was started up to a machine go on from it.
 use Rattle.std.proofs.Common.{◌≡◌, ℕ, List, [], ◌∷◌, ◌++◌, None, sym, ap, ◌∙◌, subst, append_assoc}
-use Rattle.mod_catalog.specs.declared.catalogue.Catalog.{Catalog}
-use Rattle.mod_catalog.specs.WellFormed.{AreNumbered}
+use Rattle.mod_catalog.specs.{declared.catalogue.Catalog.Catalog, WellFormed.AreNumbered}
 use Rattle.store_model.specs.StoreState.{StoreState}
-use Rattle.boot_model.specs.declared.line.Line.{Line}
+use Rattle.boot_model.specs.{declared.line.Line.Line, PeiMachine.PeiMachine, PeiRun.last_machine, PeiStep.case_of, DxeMachine.DxeMachine}
 use Rattle.boot_model.specs.FreeRun.{AreFreePeiLines, AreFreeDxeLines, AreFreeLinesAfter, IsFreePeiRun, IsFreePeiStep}
-use Rattle.boot_model.specs.PeiMachine.{PeiMachine}
-use Rattle.boot_model.specs.PeiRun.{last_machine}
-use Rattle.boot_model.specs.PeiStep.{case_of}
-use Rattle.boot_model.specs.DxeMachine.{DxeMachine}
 use Rattle.boot_model.specs.DxeRun.{dxe_opening}
 use Rattle.boot_laws.specs.DxeUnderWay.{IsUnderWay}
-use Rattle.boot_laws.proofs.Begun.{going_not}
-use Rattle.boot_laws.proofs.PeiGrowing.{free_told}
+use Rattle.boot_laws.proofs.{Begun.going_not, PeiGrowing.free_told, DxeWays.opens_under_way, DxeWays.steps_run_out}
 use Rattle.boot_laws.proofs.PeiRuns as Pei
 use Rattle.boot_laws.proofs.DxeRuns as Dxe
-use Rattle.boot_laws.proofs.DxeWays.{opens_under_way, steps_run_out}
-use Rattle.recorded_boot.specs.Named.{HasNoTwins}
-use Rattle.recorded_boot.specs.declared.order.line.Start.{Start}
-use Rattle.recorded_boot.specs.Starts.{ComeFirst, starts}
-use Rattle.recorded_boot.specs.OneStep.{IsFreeDxeStep}
+use Rattle.recorded_boot.specs.{Named.HasNoTwins, declared.order.line.Start.Start, Starts.ComeFirst, Starts.starts, OneStep.IsFreeDxeStep}
 use Rattle.recorded_boot.specs.Leading.{DxeComesTo, PeiStartsLead, DxeStartsLead}
 use Rattle.recorded_boot.proofs.Fronts.{behind_front, first_of_first, starts-append}
 use Rattle.recorded_boot.proofs.PeiSteps as PeiSteps

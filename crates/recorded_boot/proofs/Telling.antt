@@ -1,14 +1,9 @@
 -- What a text tells that a boot is held against.
-use Rattle.std.proofs.Common.{◌≡◌, ◌≤◌, ◌<◌, ℕ, zero, suc, ◌+◌, List, [], ◌∷◌, ◌++◌, length, refl, sym, ap, ◌∙◌, subst, append_assoc, arith, true, false, Option, Some, None, take, drop, inl, inr}
-use Rattle.std.specs.Prelude.{◌⊎◌, ◌≢◌, IfSome, is_some, nat_lt, slice_get}
-use Rattle.std.specs.Option.{option_to_list}
+use Rattle.std.proofs.Common.{◌≡◌, ◌≤◌, ◌<◌, ℕ, zero, suc, ◌+◌, List, [], ◌∷◌, ◌++◌, length, refl, sym, ap, ◌∙◌, subst, append_assoc, arith, true, false, Option, Some, None, take, drop, inl, inr, ◌⊎◌, ◌≢◌, IfSome, is_some, nat_lt, slice_get, option_to_list, append-nil, length-append, length-take-le, take-append-drop}
 use Rattle.std.proofs.lemmas.Bool.Decides.{nat_tests}
-use Rattle.std.proofs.lemmas.List.{append-nil, length-append, length-take-le, take-append-drop}
 use Rattle.std.specs.Io.KnownBytes.{Appends}
-use Rattle.boot_io.specs.Faults.{IsPrefix}
-use Rattle.boot_io.specs.Sink.{AppendsPart}
-use Rattle.boot_model.specs.declared.line.Line.{Line}
-use Rattle.boot_model.specs.Text.{text_of}
+use Rattle.boot_io.specs.{Faults.IsPrefix, Sink.AppendsPart}
+use Rattle.boot_model.specs.{declared.line.Line.Line, Text.text_of}
 use Rattle.recorded_boot.specs.declared.trace.spelled.Spelled.{Spelled}
 use Rattle.recorded_boot.specs.Fronts.{EndsLine, IsOff, Tracks}
 use Rattle.recorded_boot.specs.Putting.{AllPrint, HasParted, IsOffHere, PartsByLine}

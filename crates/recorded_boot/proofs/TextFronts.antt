@@ -1,10 +1,7 @@
 -- Fronts of texts, and their lines.
-use Rattle.std.proofs.Common.{◌≡◌, ◌≢◌, ◌≤◌, ◌<◌, ℕ, ◌+◌, Bool, true, false, ◌&&◌, not, List, [], ◌∷◌, ◌++◌, length, refl, sym, ap, ◌∙◌, append_assoc, arith, Some}
-use Rattle.std.specs.Prelude.{slice_get}
-use Rattle.std.proofs.lemmas.List.{length-append}
+use Rattle.std.proofs.Common.{◌≡◌, ◌≢◌, ◌≤◌, ◌<◌, ℕ, ◌+◌, Bool, true, false, ◌&&◌, not, List, [], ◌∷◌, ◌++◌, length, refl, sym, ap, ◌∙◌, append_assoc, arith, Some, slice_get, length-append}
 use Rattle.boot_io.specs.Faults.{IsPrefix}
-use Rattle.recorded_boot.specs.Fronts.{EndsLine}
-use Rattle.recorded_boot.specs.Lines.{Lacks, is_feed}
+use Rattle.recorded_boot.specs.{Fronts.EndsLine, Lines.Lacks, Lines.is_feed}
 
 pub prefix_then : (a b c : List ℕ) → IsPrefix a b → IsPrefix b c → IsPrefix a c
 prefix_then a b c p q = (p.0 ++ q.0, q.1 ∙ ap (λ x. x ++ q.0) p.1 ∙ append_assoc a p.0 q.0)

@@ -1,32 +1,20 @@
 -- A run by the choices of a text: as far as the text has its lines, the free boots that begin so go on from it; and where the text has them no more, no free boot goes on as the text does.
-use Rattle.std.proofs.Common.{◌≡◌, ◌≤◌, ◌<◌, Bool, true, ℕ, zero, suc, List, [], ◌∷◌, ◌++◌, Option, Some, None, refl, sym, ap, ◌∙◌, subst, length, arith, inl, inr}
-use Rattle.std.specs.Prelude.{◌⊎◌}
+use Rattle.std.proofs.Common.{◌≡◌, ◌≤◌, ◌<◌, Bool, true, ℕ, zero, suc, List, [], ◌∷◌, ◌++◌, Option, Some, None, refl, sym, ap, ◌∙◌, subst, length, arith, inl, inr, ◌⊎◌}
 use Rattle.boot_io.specs.Faults.{IsPrefix}
-use Rattle.pi_base.specs.declared.guid.Guid.{Guid}
-use Rattle.pi_base.specs.declared.phase.Phase.TheVariants.{Pei as InPei}
-use Rattle.mod_catalog.specs.declared.catalogue.Catalog.{Catalog}
-use Rattle.mod_catalog.specs.WellFormed.{IsWellFormed}
+use Rattle.pi_base.specs.{declared.guid.Guid.Guid, declared.phase.Phase.TheVariants.Pei as InPei}
+use Rattle.mod_catalog.specs.{declared.catalogue.Catalog.Catalog, WellFormed.IsWellFormed}
 use Rattle.store_model.specs.StoreState.{Board}
-use Rattle.boot_model.specs.declared.line.Line.{Line}
-use Rattle.boot_model.specs.Eligible.{licence_at}
-use Rattle.boot_model.specs.FreeRun.{AreFreeLines, AreFreePeiLines}
-use Rattle.boot_model.specs.PeiChoice.{pei_order}
-use Rattle.boot_model.specs.PeiMachine.{PeiMachine}
-use Rattle.boot_model.specs.PeiRun.{pei_opening}
-use Rattle.boot_model.specs.PeiStep.{pei_step, started}
+use Rattle.boot_model.specs.{declared.line.Line.Line, Eligible.licence_at, FreeRun.AreFreeLines, FreeRun.AreFreePeiLines}
+use Rattle.boot_model.specs.{PeiChoice.pei_order, PeiMachine.PeiMachine, PeiRun.pei_opening, PeiStep.pei_step, PeiStep.started}
 use Rattle.boot_model.specs.Text.{text_of}
 use Rattle.boot_model.proofs.Texts.{text_of-append}
-use Rattle.boot_laws.specs.Naming.{HasPut}
-use Rattle.boot_laws.specs.PeiAim.{CursorAims}
-use Rattle.boot_laws.specs.PeiFree.{AreLinesBehind, PeiStartsFreely}
+use Rattle.boot_laws.specs.{Naming.HasPut, PeiAim.CursorAims, PeiFree.AreLinesBehind, PeiFree.PeiStartsFreely}
 use Rattle.boot_laws.specs.PeiUnderWay.{IsUnderWay, PeiOpensUnderWay, PeiStepsRunOut}
-use Rattle.recorded_boot.specs.declared.trace.spelled.Spelled.{Spelled}
-use Rattle.recorded_boot.specs.Fronts.{Tracks}
+use Rattle.recorded_boot.specs.{declared.trace.spelled.Spelled.Spelled, Fronts.Tracks, Named.AreGuids, Named.AreNames}
 use Rattle.recorded_boot.specs.Putting.{AllPrint, HasParted, IsOffHere, PartsByLine}
 use Rattle.recorded_boot.specs.Spelled.{IsHeld, IsRight, faults_of, met, spoken, told, whole}
 use Rattle.recorded_boot.proofs.TextFronts.{prefix_then, shorter_front}
 use Rattle.recorded_boot.proofs.Telling.{held_on, met_begins, off, tracks_on}
-use Rattle.recorded_boot.specs.Named.{AreGuids, AreNames}
 use Rattle.pei_dispatch.specs.Choices.{LetsPeims, NamesPeims, IsRunBy, IsStepBy}
 use Rattle.pei_dispatch.proofs.Chosen.{idle_starts, some_first, step_is_free}
 use Rattle.pei_dispatch.proofs.Growing.{step_grew}

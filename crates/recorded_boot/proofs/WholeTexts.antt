@@ -1,52 +1,30 @@
 -- A boot by the choices of a text: where it came to its end the text has all its lines, and where it was given up the text is off.
-use Rattle.std.proofs.Common.{◌≡◌, ℕ, Bool, true, true≢false, List, [], ◌++◌, Some, Result, Ok, Err, sym, ap, ◌∙◌, subst, inl, inr}
-use Rattle.std.specs.Prelude.{◌↔◌}
-use Rattle.boot_io.specs.Faults.{IsPrefix}
-use Rattle.boot_io.specs.Halted.{HaltsAfter}
-use Rattle.boot_io.specs.declared.halt.Halt.{Halt}
+use Rattle.std.proofs.Common.{◌≡◌, ℕ, Bool, true, true≢false, List, [], ◌++◌, Some, Result, Ok, Err, sym, ap, ◌∙◌, subst, inl, inr, ◌↔◌}
+use Rattle.boot_io.specs.{Faults.IsPrefix, Halted.HaltsAfter, declared.halt.Halt.Halt}
 use Rattle.boot_io.specs.declared.halt.Halt.TheVariants as H
 use Rattle.pi_base.specs.declared.phase.Phase.TheVariants.{Pei, Dxe}
-use Rattle.store_model.specs.HandleState.{HandleState, no_handles}
-use Rattle.store_model.specs.StoreState.{StoreState}
-use Rattle.boot_model.specs.declared.line.Line.{Line}
-use Rattle.boot_model.specs.declared.line.RunEnd.{RunEnd}
+use Rattle.store_model.specs.{HandleState.HandleState, HandleState.no_handles, StoreState.StoreState}
+use Rattle.boot_model.specs.{declared.line.Line.Line, declared.line.RunEnd.RunEnd, declared.phase_end.PeiEnd.PeiEnd, DxeMachine.DxeMachine}
 use Rattle.boot_model.specs.declared.line.RunEnd.TheVariants as E
-use Rattle.boot_model.specs.declared.phase_end.PeiEnd.{PeiEnd}
 use Rattle.boot_model.specs.declared.phase_end.PeiEnd.TheVariants.{Handoff, NoMemory, NoIpl, Spent, Deep}
-use Rattle.boot_model.specs.DxeMachine.{DxeMachine}
-use Rattle.boot_model.specs.DxeRun.{dxe_opening}
-use Rattle.boot_model.specs.FreeRun.{AreFreeDxeLines, AreFreeLinesAfter}
-use Rattle.boot_model.specs.PeiMachine.{PeiMachine}
-use Rattle.boot_model.specs.PeiRun.{pei_opening}
-use Rattle.boot_model.specs.Text.{text_of}
+use Rattle.boot_model.specs.{DxeRun.dxe_opening, FreeRun.AreFreeDxeLines, FreeRun.AreFreeLinesAfter, PeiMachine.PeiMachine}
+use Rattle.boot_model.specs.{PeiRun.pei_opening, Text.text_of}
 use Rattle.boot_model.proofs.Texts.{text_of-append}
 use Rattle.boot_laws.specs.DxeAim.{AimIsFree, DxeStartsFreely, NamesLeadToRoot}
 use Rattle.boot_laws.specs.DxeFree.{DxeEndsFreely, DxeEndsSo, DxeGoesOn, DxeLinesGrow}
-use Rattle.boot_laws.specs.DxeUnderWay.{DxeOpensUnderWay, FewDriversWait}
-use Rattle.boot_laws.specs.PeiFree.{PeiEndsSo}
-use Rattle.boot_laws.specs.Naming.{HasPut}
-use Rattle.recorded_boot.specs.Parted.{parted_by}
-use Rattle.recorded_boot.specs.declared.trace.parted.Parted.{Parted}
-use Rattle.recorded_boot.specs.declared.trace.spelled.Spelled.{Spelled}
-use Rattle.recorded_boot.specs.Fronts.{Tracks}
-use Rattle.recorded_boot.specs.Putting.{HasParted, IsOffHere}
+use Rattle.boot_laws.specs.{DxeUnderWay.DxeOpensUnderWay, DxeUnderWay.FewDriversWait, PeiFree.PeiEndsSo, Naming.HasPut}
+use Rattle.recorded_boot.specs.{Parted.parted_by, declared.trace.parted.Parted.Parted, declared.trace.spelled.Spelled.Spelled}
+use Rattle.recorded_boot.specs.{Fronts.Tracks, Putting.HasParted, Putting.IsOffHere, DxeFollowed.printed_by, Starting.NamesNext}
 use Rattle.recorded_boot.specs.Spelled.{IsHeld, IsRight, faults_of, whole}
-use Rattle.recorded_boot.proofs.TextFronts.{prefix_then}
-use Rattle.recorded_boot.proofs.Telling.{held_begins, held_on}
+use Rattle.recorded_boot.proofs.{TextFronts.prefix_then, Telling.held_begins, Telling.held_on, DriverTextRuns.DriverRun, Going.not_right}
 use Rattle.pei_dispatch.specs.Choices.{ComesTo}
 use Rattle.dxe_dispatch.proofs.Chosen.{StepLaws}
-use Rattle.boot_core.specs.declared.whole.boot.Booted.{Booted}
+use Rattle.boot_core.specs.{declared.whole.boot.Booted.Booted, declared.whole.boot.Ran.Ran, Choices.Choices, Choices.choices_of}
 use Rattle.boot_core.specs.declared.whole.boot.Booted.TheVariants as B
-use Rattle.boot_core.specs.declared.whole.boot.Ran.{Ran}
-use Rattle.boot_core.specs.Choices.{Choices, choices_of}
 use Rattle.boot_core.specs.ByChoice.{BootsTo, EndsAfter, HasRun, StopsBehind, StopsBehindPei, all_lines, last_lines, stops_at_last, stops_in_dxe}
 use Rattle.boot_core.specs.Closing.{closing}
-use Rattle.recorded_boot.specs.DxeFollowed.{printed_by}
 use Rattle.recorded_boot.specs.FollowingText.{Follows, IsFollowed, IsLast}
-use Rattle.recorded_boot.specs.Starting.{NamesNext}
 use Rattle.recorded_boot.proofs.DriverTextRuns as D
-use Rattle.recorded_boot.proofs.DriverTextRuns.{DriverRun}
-use Rattle.recorded_boot.proofs.Going.{not_right}
 use Rattle.recorded_boot.proofs.HandedOff.{begin_with_pei, ends_so, last_of_dxe, last_of_pei, off_behind}
 use Rattle.recorded_boot.proofs.LastLines.{off_by, whole_by}
 use Rattle.recorded_boot.proofs.TextRuns as P

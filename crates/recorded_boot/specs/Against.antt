@@ -1,24 +1,15 @@
 -- What stands against a start that an order asks for: no module has that name and a part of the phase; it has started and may not again; or it may not start yet, with the GUIDs that its dependency expression names and that are not installed.
 -- PI 1.8, volumes 1 and 2, "Dependency Expressions"; the causes are own.
 use Rattle.std.specs.Prelude.{◌≡◌, ◌++◌, ℕ, Bool, not, List, [], ◌∷◌, Some, filter}
-use Rattle.pi_base.specs.declared.guid.Guid.{Guid}
-use Rattle.pi_base.specs.declared.phase.Phase.{Phase}
-use Rattle.pi_base.specs.declared.phase.Phase.TheVariants.{Pei, Dxe}
-use Rattle.pi_base.specs.Guids.{same_guid}
-use Rattle.pi_base.specs.Lists.{firsts}
+use Rattle.pi_base.specs.{declared.guid.Guid.Guid, declared.phase.Phase.Phase}
+use Rattle.pi_base.specs.{declared.phase.Phase.TheVariants.Pei, declared.phase.Phase.TheVariants.Dxe, Guids.same_guid, Lists.firsts}
 use Rattle.depex_code.specs.Tree.{DepexTree, True, False, Push, Not, And, Or}
 use Rattle.depex_code.specs.declared.depex.Depex.TheVariants as D
-use Rattle.mod_catalog.specs.declared.catalogue.Catalog.{Catalog}
-use Rattle.mod_catalog.specs.declared.catalogue.Part.{Part}
-use Rattle.mod_catalog.specs.declared.catalogue.PartExpr.{PartExpr}
+use Rattle.mod_catalog.specs.{declared.catalogue.Catalog.Catalog, declared.catalogue.Part.Part, declared.catalogue.PartExpr.PartExpr}
 use Rattle.mod_catalog.specs.declared.catalogue.PartExpr.TheVariants as E
 use Rattle.mod_catalog.specs.Parts.{part_at}
-use Rattle.store_model.specs.HandleState.{HandleState, has_protocol}
-use Rattle.store_model.specs.StoreState.{StoreState}
-use Rattle.store_model.specs.Service.Install.{has_ppi}
-use Rattle.recorded_boot.specs.Named.{IsNamed}
-use Rattle.recorded_boot.specs.declared.order.line.Start.{Start}
-use Rattle.recorded_boot.specs.declared.follow.against.Against.{Against}
+use Rattle.store_model.specs.{HandleState.HandleState, HandleState.has_protocol, StoreState.StoreState, Service.Install.has_ppi}
+use Rattle.recorded_boot.specs.{Named.IsNamed, declared.order.line.Start.Start, declared.follow.against.Against.Against}
 use Rattle.recorded_boot.specs.declared.follow.against.Against.TheVariants.{Unknown, Started, NotEligible}
 
 -- the GUIDs that a tree pushes, from left to right

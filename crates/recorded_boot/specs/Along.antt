@@ -1,9 +1,7 @@
 -- The starts that a boot has made beside those that an order asks for.
 -- Own.
 use Rattle.std.specs.Prelude.{◌≡◌, ◌⊎◌, ◌≤◌, ℕ, List, None, length}
-use Rattle.recorded_boot.specs.declared.order.line.Start.{Start}
-use Rattle.recorded_boot.specs.declared.order.lines.StartOrder.{StartOrder}
-use Rattle.recorded_boot.specs.Starts.{ComeFirst}
+use Rattle.recorded_boot.specs.{declared.order.line.Start.Start, declared.order.lines.StartOrder.StartOrder, Starts.ComeFirst}
 use Rattle.recorded_boot.specs.ByOrder.{starts_of}
 
 -- starts are made as an order asks: they are the first of its starts, or they come behind all of them, where it does not stop

@@ -4,23 +4,15 @@ use Rattle.std.specs.Prelude.{◌≡◌, ℕ, List, [], Option, Some, None, Resu
 use Rattle.std.specs.Io.KnownBytes.{Appends}
 use Rattle.boot_io.specs.declared.halt.Halt.{Halt}
 use Rattle.mod_catalog.specs.declared.catalogue.Catalog.{Catalog}
-use Rattle.store_model.specs.HandleState.{HandleState}
-use Rattle.store_model.specs.StoreState.{Board, StoreState}
-use Rattle.boot_model.specs.declared.line.RunEnd.{RunEnd}
+use Rattle.store_model.specs.{HandleState.HandleState, StoreState.Board, StoreState.StoreState}
+use Rattle.boot_model.specs.{declared.line.RunEnd.RunEnd, declared.phase_end.PeiEnd.PeiEnd, PeiMachine.PeiMachine, Text.text_of}
 use Rattle.boot_model.specs.declared.line.RunEnd.TheVariants as E
-use Rattle.boot_model.specs.declared.phase_end.PeiEnd.{PeiEnd}
 use Rattle.boot_model.specs.declared.phase_end.PeiEnd.TheVariants.{Handoff, NoMemory, NoIpl, Spent, Deep}
-use Rattle.boot_model.specs.PeiMachine.{PeiMachine}
-use Rattle.boot_model.specs.Text.{text_of}
 use Rattle.boot_trace.specs.Printing.{Texts}
-use Rattle.recorded_boot.specs.declared.order.lines.StartOrder.{StartOrder}
-use Rattle.pei_dispatch.specs.declared.boot.Ended.{Ended}
-use Rattle.pei_dispatch.specs.Ends.{IsLeft}
+use Rattle.recorded_boot.specs.{declared.order.lines.StartOrder.StartOrder, declared.follow.following.Followed.Followed, Answer.FollowsTo}
+use Rattle.pei_dispatch.specs.{declared.boot.Ended.Ended, Ends.IsLeft}
 use Rattle.boot_core.specs.Closing.{closing_text}
-use Rattle.recorded_boot.specs.declared.follow.following.Followed.{Followed}
-use Rattle.recorded_boot.specs.Answer.{FollowsTo}
-use Rattle.recorded_boot.specs.InOrder.{RunsInPei, last_lines}
-use Rattle.recorded_boot.specs.Leaving.{ComesTo}
+use Rattle.recorded_boot.specs.{InOrder.RunsInPei, InOrder.last_lines, Leaving.ComesTo}
 
 -- the result of a boot that ends with PEI; behind a hand-off DXE goes on
 abbrev pub pei_result : PeiEnd → Option RunEnd

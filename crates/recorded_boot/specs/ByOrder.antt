@@ -1,15 +1,10 @@
 -- The choice by an order: behind so many starts the module of the order's line in that place is named, and no other is let; behind its last line nobody is named, so that the first that may start does, and each is let, unless the order stops there.
 -- Own; PI 1.8, volumes 1 and 2, leave the order of the modules that may start to the dispatchers.
 use Rattle.std.specs.Prelude.{◌≡◌, ℕ, Bool, true, false, ◌&&◌, ◌==◌, List, Option, Some, None, is_none, length, map, slice_get}
-use Rattle.pi_base.specs.declared.guid.Guid.{Guid}
-use Rattle.pi_base.specs.declared.phase.Phase.{Phase}
-use Rattle.pi_base.specs.declared.phase.Phase.TheVariants.{Pei, Dxe}
-use Rattle.pi_base.specs.Guids.{same_guid}
-use Rattle.mod_catalog.specs.declared.catalogue.Catalog.{Catalog}
-use Rattle.mod_catalog.specs.declared.catalogue.Module.{Module}
-use Rattle.recorded_boot.specs.Named.{AreNames, IsNamed}
-use Rattle.recorded_boot.specs.declared.order.line.AskedStart.{AskedStart}
-use Rattle.recorded_boot.specs.declared.order.line.Start.{Start}
+use Rattle.pi_base.specs.{declared.guid.Guid.Guid, declared.phase.Phase.Phase}
+use Rattle.pi_base.specs.{declared.phase.Phase.TheVariants.Pei, declared.phase.Phase.TheVariants.Dxe, Guids.same_guid}
+use Rattle.mod_catalog.specs.{declared.catalogue.Catalog.Catalog, declared.catalogue.Module.Module}
+use Rattle.recorded_boot.specs.{Named.AreNames, Named.IsNamed, declared.order.line.AskedStart.AskedStart, declared.order.line.Start.Start}
 use Rattle.recorded_boot.specs.declared.order.lines.StartOrder.{StartOrder}
 
 -- the starts of lines of an order

@@ -2,18 +2,13 @@
 -- Own.
 use Rattle.std.specs.Prelude.{◌≡◌, ◌≢◌, ℕ, List, Result, Ok, Err, ⊤}
 use Rattle.boot_plan.specs.declared.plan.Plan.{Plan}
-use Rattle.mod_catalog.specs.declared.catalogue.Catalog.{Catalog}
-use Rattle.mod_catalog.specs.declared.image_fault.ImageFault.{ImageFault}
+use Rattle.mod_catalog.specs.{declared.catalogue.Catalog.Catalog, declared.image_fault.ImageFault.ImageFault, Catalogue.IsCatalogue}
 use Rattle.mod_catalog.specs.declared.image_fault.ImageCause.TheVariants as I
-use Rattle.mod_catalog.specs.Catalogue.{IsCatalogue}
 use Rattle.mod_catalog.specs.ImageFault.{IsImageFault}
-use Rattle.boot_model.specs.FreeRun.{AreFreeLines}
-use Rattle.boot_model.specs.PlanBoard.{board_of}
-use Rattle.recorded_boot.specs.Named.{HasNoTwins, IsFirstWithTwins}
-use Rattle.recorded_boot.specs.declared.trace.checking.CheckFault.{CheckFault}
+use Rattle.boot_model.specs.{FreeRun.AreFreeLines, PlanBoard.board_of}
+use Rattle.recorded_boot.specs.{Named.HasNoTwins, Named.IsFirstWithTwins, declared.trace.checking.CheckFault.CheckFault}
 use Rattle.recorded_boot.specs.declared.trace.checking.CheckFault.TheVariants.{Image, Twins, Memory}
-use Rattle.recorded_boot.specs.declared.trace.verdict.Verdict.{Verdict}
-use Rattle.recorded_boot.specs.Verdict.{IsVerdict}
+use Rattle.recorded_boot.specs.{declared.trace.verdict.Verdict.Verdict, Verdict.IsVerdict}
 
 -- a fault of images is told as it is; want of memory is none
 abbrev pub IsFaultTold : ImageFault → CheckFault → Type 0

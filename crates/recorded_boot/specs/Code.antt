@@ -2,9 +2,8 @@
 -- Own.
 use Rattle.std.specs.Prelude.{Bool, not, if◌then◌else◌, List, [], ◌∷◌, ◌++◌, flat_map}
 use Rattle.pi_base.specs.declared.guid.Guid.{Guid}
-use Rattle.depex_code.specs.Tree.{postfix}
+use Rattle.depex_code.specs.{Tree.postfix, declared.opcode.Opcode.Opcode}
 use Rattle.depex_code.specs.declared.depex.Depex.TheVariants as D
-use Rattle.depex_code.specs.declared.opcode.Opcode.{Opcode}
 use Rattle.depex_code.specs.declared.opcode.Opcode.TheVariants as O
 use Rattle.mod_catalog.specs.declared.catalogue.PartExpr.{PartExpr}
 use Rattle.mod_catalog.specs.declared.catalogue.PartExpr.TheVariants as E

@@ -3,12 +3,8 @@
 use Rattle.std.specs.Prelude.{◌≡◌, ◌+◌, ℕ, List, length}
 use Rattle.mod_catalog.specs.declared.catalogue.Catalog.{Catalog}
 use Rattle.store_model.specs.StoreState.{Board, StoreState}
-use Rattle.boot_model.specs.PeiMachine.{PeiMachine}
-use Rattle.boot_model.specs.PeiRun.{pei_opening}
-use Rattle.boot_model.specs.DxeMachine.{DxeMachine}
-use Rattle.boot_model.specs.DxeRun.{dxe_opening}
-use Rattle.recorded_boot.specs.Starts.{starts}
-use Rattle.recorded_boot.specs.Leading.{PeiComesTo, DxeComesTo}
+use Rattle.boot_model.specs.{PeiMachine.PeiMachine, PeiRun.pei_opening, DxeMachine.DxeMachine, DxeRun.dxe_opening}
+use Rattle.recorded_boot.specs.{Starts.starts, Leading.PeiComesTo, Leading.DxeComesTo}
 
 abbrev pub PeiStartsCount : Type 0
 PeiStartsCount = (board : Board) (catalog : Catalog) (fuel : ℕ) (earlier : List PeiMachine) (m : PeiMachine)

@@ -3,22 +3,15 @@
 use Rattle.std.specs.Prelude.{◌≡◌, ◌≤◌, ◌+◌, ◌-◌, ◌<◌, ◌^◌, ℕ, Bool, List, Option, Some, None, Result, Ok, Err, IfOk, length, ⊤}
 use Rattle.boot_io.specs.declared.halt.Halt.{Halt}
 use Rattle.std.specs.Io.KnownBytes.{Appends}
-use Rattle.pi_base.specs.declared.guid.Guid.{Guid}
-use Rattle.pi_base.specs.declared.phase.Phase.TheVariants.{Dxe}
+use Rattle.pi_base.specs.{declared.guid.Guid.Guid, declared.phase.Phase.TheVariants.Dxe}
 use Rattle.mod_catalog.specs.declared.catalogue.Catalog.{Catalog}
-use Rattle.store_model.specs.StoreState.{StoreState}
-use Rattle.boot_model.specs.declared.line.RunEnd.{RunEnd}
-use Rattle.boot_model.specs.declared.phase_end.DxeEnd.{DxeEnd}
-use Rattle.boot_model.specs.BootRun.{dxe_result}
-use Rattle.boot_model.specs.DxeMachine.{DxeMachine}
-use Rattle.boot_model.specs.DxeRun.{dxe_opening}
-use Rattle.boot_model.specs.Text.{text_of}
+use Rattle.store_model.specs.{StoreState.StoreState, HandleState.HandleState}
+use Rattle.boot_model.specs.{declared.line.RunEnd.RunEnd, declared.phase_end.DxeEnd.DxeEnd, BootRun.dxe_result, DxeMachine.DxeMachine}
+use Rattle.boot_model.specs.{DxeRun.dxe_opening, Text.text_of}
 use Rattle.boot_laws.specs.declared.choice.Reached.{Reached}
 use Rattle.boot_laws.specs.declared.choice.Reached.TheVariants as R
-use Rattle.store_model.specs.HandleState.{HandleState}
-use Rattle.recorded_boot.specs.declared.order.lines.StartOrder.{StartOrder}
+use Rattle.recorded_boot.specs.{declared.order.lines.StartOrder.StartOrder, declared.follow.drivers.Drivers.Drivers}
 use Rattle.dxe_dispatch.specs.Choices.{IsBarred, IsRunBy, LetsDrivers, NamesDrivers, came}
-use Rattle.recorded_boot.specs.declared.follow.drivers.Drivers.{Drivers}
 use Rattle.recorded_boot.specs.ByOrder.{NamesBy, lets_by}
 
 -- what an order names in DXE, and what it lets, behind so many starts in PEI

@@ -2,12 +2,8 @@
 -- Own; PI 1.8, volume 2, "DXE Dispatcher", leaves the order of the drivers that may start to the dispatcher.
 use Rattle.std.specs.Prelude.{◌≡◌, ℕ, List, ◌∷◌, ◌++◌, Option, Some}
 use Rattle.mod_catalog.specs.declared.catalogue.Catalog.{Catalog}
-use Rattle.boot_model.specs.declared.driver.Scheduled.{Scheduled}
-use Rattle.boot_model.specs.DxeChoice.{group_scheduled}
-use Rattle.boot_model.specs.DxeMachine.{DxeMachine}
-use Rattle.boot_model.specs.DxeStep.{dxe_start_line}
-use Rattle.boot_model.specs.FreeRun.{MaySchedule}
-use Rattle.boot_model.specs.Text.{line_text}
+use Rattle.boot_model.specs.{declared.driver.Scheduled.Scheduled, DxeChoice.group_scheduled, DxeMachine.DxeMachine, DxeStep.dxe_start_line}
+use Rattle.boot_model.specs.{FreeRun.MaySchedule, Text.line_text}
 
 -- the bytes begin with the line of the start of a driver
 pub record BeginsWithStart (catalog : Catalog) (next : Scheduled) (bytes : List ℕ) : Type 0 where

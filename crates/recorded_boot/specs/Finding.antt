@@ -3,11 +3,8 @@
 use Rattle.std.specs.Prelude.{◌==◌, ◌&&◌, Bool, List, Option, Some, None}
 use Rattle.std.specs.List.{list_any}
 use Rattle.pi_base.specs.Guids.{same_guid}
-use Rattle.mod_catalog.specs.declared.catalogue.Catalog.{Catalog}
-use Rattle.mod_catalog.specs.declared.catalogue.Part.{Part}
-use Rattle.recorded_boot.specs.declared.order.line.AskedStart.{AskedStart}
-use Rattle.recorded_boot.specs.declared.order.line.Start.{Start}
-use Rattle.recorded_boot.specs.Against.{IsModuleOf}
+use Rattle.mod_catalog.specs.{declared.catalogue.Catalog.Catalog, declared.catalogue.Part.Part}
+use Rattle.recorded_boot.specs.{declared.order.line.AskedStart.AskedStart, declared.order.line.Start.Start, Against.IsModuleOf}
 use Rattle.recorded_boot.specs.ByOrder.{same_phase}
 
 -- the part of the module of a start, or there is none

@@ -4,18 +4,14 @@ use Rattle.std.specs.Prelude.{◌≡◌, ◌≢◌, ◌≤◌, ℕ, List, [], Re
 use Rattle.std.specs.Io.KnownBytes.{Appends}
 use Rattle.boot_io.specs.Faults.{Rose}
 use Rattle.boot_plan.specs.declared.plan.Plan.{Plan}
-use Rattle.mod_catalog.specs.declared.catalogue.Catalog.{Catalog}
-use Rattle.mod_catalog.specs.declared.image_fault.ImageFault.{ImageFault}
+use Rattle.mod_catalog.specs.{declared.catalogue.Catalog.Catalog, declared.image_fault.ImageFault.ImageFault, Catalogue.IsCatalogue}
 use Rattle.mod_catalog.specs.declared.image_fault.ImageCause.TheVariants as I
-use Rattle.mod_catalog.specs.Catalogue.{IsCatalogue}
 use Rattle.mod_catalog.specs.ImageFault.{IsImageFault}
 use Rattle.boot_model.specs.PlanBoard.{board_of}
 use Rattle.boot_trace.specs.Printing.{Texts}
-use Rattle.recorded_boot.specs.Named.{HasNoTwins, IsFirstWithTwins}
-use Rattle.recorded_boot.specs.declared.order.lines.StartOrder.{StartOrder}
-use Rattle.recorded_boot.specs.declared.follow.images.FollowFault.{FollowFault}
+use Rattle.recorded_boot.specs.{Named.HasNoTwins, Named.IsFirstWithTwins, declared.order.lines.StartOrder.StartOrder}
+use Rattle.recorded_boot.specs.{declared.follow.images.FollowFault.FollowFault, declared.follow.following.Followed.Followed}
 use Rattle.recorded_boot.specs.declared.follow.images.FollowFault.TheVariants.{Image, Twins, Sink, Memory}
-use Rattle.recorded_boot.specs.declared.follow.following.Followed.{Followed}
 use Rattle.recorded_boot.specs.Answer.{FollowsTo}
 
 -- a fault of images is told as it is; want of memory is none

@@ -3,28 +3,16 @@
 use Rattle.std.specs.Prelude.{◌≡◌, ◌⊎◌, ℕ, true, List, [], ◌∷◌, ◌++◌, Some, is_some}
 use Rattle.std.specs.Io.KnownBytes.{Appends}
 use Rattle.mod_catalog.specs.declared.catalogue.Catalog.{Catalog}
-use Rattle.store_model.specs.HandleState.{HandleState, no_handles}
-use Rattle.store_model.specs.StoreState.{Board, StoreState}
-use Rattle.boot_model.specs.declared.line.Line.{Line}
+use Rattle.store_model.specs.{HandleState.HandleState, HandleState.no_handles, StoreState.Board, StoreState.StoreState}
+use Rattle.boot_model.specs.{declared.line.Line.Line, declared.line.RunEnd.RunEnd, declared.phase_end.PeiEnd.TheVariants.Handoff}
 use Rattle.boot_model.specs.declared.line.Line.TheVariants as L
-use Rattle.boot_model.specs.declared.line.RunEnd.{RunEnd}
-use Rattle.boot_model.specs.declared.phase_end.PeiEnd.TheVariants.{Handoff}
-use Rattle.boot_model.specs.DxeMachine.{DxeMachine}
-use Rattle.boot_model.specs.DxeRun.{dxe_opening}
-use Rattle.boot_model.specs.FreeRun.{AreFreeLines}
-use Rattle.boot_model.specs.PeiMachine.{PeiMachine}
-use Rattle.boot_model.specs.PeiRun.{pei_opening}
+use Rattle.boot_model.specs.{DxeMachine.DxeMachine, DxeRun.dxe_opening, FreeRun.AreFreeLines, PeiMachine.PeiMachine, PeiRun.pei_opening}
 use Rattle.boot_model.specs.Text.{text_of}
 use Rattle.boot_trace.specs.Printing.{Texts}
-use Rattle.recorded_boot.specs.declared.order.line.AskedStart.{AskedStart}
-use Rattle.recorded_boot.specs.declared.order.line.Start.{Start}
-use Rattle.recorded_boot.specs.declared.order.lines.StartOrder.{StartOrder}
+use Rattle.recorded_boot.specs.{declared.order.line.AskedStart.AskedStart, declared.order.line.Start.Start}
+use Rattle.recorded_boot.specs.{declared.order.lines.StartOrder.StartOrder, Leading.DxeComesTo, Leading.PeiComesTo, ByOrder.starts_of}
 use Rattle.recorded_boot.specs.Starts.{ComeFirst, start_of, starts}
-use Rattle.recorded_boot.specs.Leading.{DxeComesTo, PeiComesTo}
-use Rattle.recorded_boot.specs.ByOrder.{starts_of}
-use Rattle.recorded_boot.specs.Against.{StandsAgainst}
-use Rattle.recorded_boot.specs.Own.{GoesOnItself}
-use Rattle.recorded_boot.specs.declared.follow.against.Against.{Against}
+use Rattle.recorded_boot.specs.{Against.StandsAgainst, Own.GoesOnItself, declared.follow.against.Against.Against}
 
 -- the lines of a free boot up to one of its starts
 pub record IsBeforeStart (board : Board) (catalog : Catalog) (fuel : ℕ) (printed : List Line) : Type 0 where

@@ -3,16 +3,11 @@
 use Rattle.std.specs.Prelude.{◌≡◌, ℕ, ◌<◌, ◌^◌, ◌-◌, List, ◌++◌, length, Result, Ok, Err, ⊤}
 use Rattle.mod_catalog.specs.declared.catalogue.Catalog.{Catalog}
 use Rattle.store_model.specs.StoreState.{Board, StoreState, empty_store}
-use Rattle.boot_model.specs.FreeRun.{AreFreeLines}
-use Rattle.boot_io.specs.Faults.{IsPrefix}
-use Rattle.boot_io.specs.declared.halt.Halt.{Halt}
-use Rattle.boot_model.specs.declared.line.Line.{Line}
-use Rattle.boot_model.specs.Text.{text_of}
-use Rattle.recorded_boot.specs.Parted.{parted_by}
-use Rattle.recorded_boot.specs.declared.trace.parted.Parted.{Parted}
+use Rattle.boot_model.specs.{FreeRun.AreFreeLines, declared.line.Line.Line, Text.text_of}
+use Rattle.boot_io.specs.{Faults.IsPrefix, declared.halt.Halt.Halt}
+use Rattle.recorded_boot.specs.{Parted.parted_by, declared.trace.parted.Parted.Parted}
 use Rattle.recorded_boot.specs.declared.trace.parted.Parted.TheVariants.{Off, Memory}
-use Rattle.recorded_boot.specs.declared.trace.spelled.Spelled.{Spelled}
-use Rattle.recorded_boot.specs.Putting.{IsOffHere}
+use Rattle.recorded_boot.specs.{declared.trace.spelled.Spelled.Spelled, Putting.IsOffHere}
 use Rattle.recorded_boot.specs.Spelled.{IsHeld, met, whole}
 
 -- what was met is the whole text of a boot, and the boots whose text begins with it are of that text

@@ -2,8 +2,7 @@
 -- Own.
 use Rattle.std.specs.Prelude.{◌≡◌, ◌≢◌, ◌<◌, ℕ, List, [], ◌∷◌, ◌++◌, length}
 use Rattle.boot_io.specs.Faults.{IsPrefix}
-use Rattle.boot_model.specs.declared.line.Line.{Line}
-use Rattle.boot_model.specs.Text.{text_of}
+use Rattle.boot_model.specs.{declared.line.Line.Line, Text.text_of}
 
 -- the bytes end with a line feed
 abbrev pub EndsLine : List ℕ → Type 0

@@ -4,30 +4,20 @@ use Rattle.std.specs.Prelude.{◌≡◌, ℕ, false, List, [], ◌++◌, Option,
 use Rattle.std.specs.Io.KnownBytes.{Appends}
 use Rattle.pi_base.specs.declared.phase.Phase.TheVariants.{Pei, Dxe}
 use Rattle.mod_catalog.specs.declared.catalogue.Catalog.{Catalog}
-use Rattle.store_model.specs.HandleState.{HandleState, no_handles}
-use Rattle.store_model.specs.StoreState.{Board, StoreState}
-use Rattle.boot_model.specs.declared.line.Line.{Line}
-use Rattle.boot_model.specs.declared.line.RunEnd.{RunEnd}
+use Rattle.store_model.specs.{HandleState.HandleState, HandleState.no_handles, StoreState.Board, StoreState.StoreState}
+use Rattle.boot_model.specs.{declared.line.Line.Line, declared.line.RunEnd.RunEnd, declared.phase_end.DxeEnd.DxeEnd}
 use Rattle.boot_model.specs.declared.line.RunEnd.TheVariants as E
-use Rattle.boot_model.specs.declared.phase_end.DxeEnd.{DxeEnd}
-use Rattle.boot_model.specs.declared.phase_end.PeiEnd.{PeiEnd}
+use Rattle.boot_model.specs.{declared.phase_end.PeiEnd.PeiEnd, BootRun.dxe_result, DxeMachine.DxeMachine, PeiMachine.PeiMachine}
 use Rattle.boot_model.specs.declared.phase_end.PeiEnd.TheVariants.{Handoff, NoMemory, NoIpl, Spent, Deep}
-use Rattle.boot_model.specs.BootRun.{dxe_result}
-use Rattle.boot_model.specs.DxeMachine.{DxeMachine}
-use Rattle.boot_model.specs.PeiMachine.{PeiMachine}
-use Rattle.boot_model.specs.PeiRun.{pei_opening}
-use Rattle.boot_model.specs.Text.{text_of}
+use Rattle.boot_model.specs.{PeiRun.pei_opening, Text.text_of}
 use Rattle.boot_trace.specs.Printing.{Texts}
-use Rattle.recorded_boot.specs.declared.order.lines.StartOrder.{StartOrder}
+use Rattle.recorded_boot.specs.{declared.order.lines.StartOrder.StartOrder, declared.follow.following.Followed.Followed}
 use Rattle.pei_dispatch.specs.Choices as P
 use Rattle.pei_dispatch.specs.Ends.{pei_starts}
 use Rattle.dxe_dispatch.specs.Choices as D
-use Rattle.boot_core.specs.ByChoice.{ComesInDxe}
+use Rattle.boot_core.specs.{ByChoice.ComesInDxe, Closing.closing}
 use Rattle.boot_core.specs.Choices as W
-use Rattle.boot_core.specs.Closing.{closing}
-use Rattle.recorded_boot.specs.declared.follow.following.Followed.{Followed}
-use Rattle.recorded_boot.specs.ByOrder.{NamesAsked, lets_by}
-use Rattle.recorded_boot.specs.Leaving.{ComesTo}
+use Rattle.recorded_boot.specs.{ByOrder.NamesAsked, ByOrder.lets_by, Leaving.ComesTo}
 
 -- the choices of an order
 abbrev pub order_choices : Catalog → StartOrder → W.Choices

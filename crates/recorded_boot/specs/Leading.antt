@@ -1,18 +1,11 @@
 -- The free boots that start what was started up to a machine are those that go on from it.
 -- Own; PI 1.8, volumes 1 and 2, leave to the dispatchers which of the eligible modules starts, and nothing else.
 use Rattle.std.specs.Prelude.{◌≡◌, ℕ, List, [], ◌∷◌, ◌++◌, None}
-use Rattle.mod_catalog.specs.declared.catalogue.Catalog.{Catalog}
-use Rattle.mod_catalog.specs.WellFormed.{AreNumbered}
+use Rattle.mod_catalog.specs.{declared.catalogue.Catalog.Catalog, WellFormed.AreNumbered}
 use Rattle.store_model.specs.StoreState.{Board, StoreState}
-use Rattle.boot_model.specs.declared.line.Line.{Line}
+use Rattle.boot_model.specs.{declared.line.Line.Line, PeiMachine.PeiMachine, PeiRun.pei_opening, DxeMachine.DxeMachine, DxeRun.dxe_opening}
 use Rattle.boot_model.specs.FreeRun.{AreFreeLines, AreFreePeiLines, AreFreeDxeLines, IsFreePeiStep}
-use Rattle.boot_model.specs.PeiMachine.{PeiMachine}
-use Rattle.boot_model.specs.PeiRun.{pei_opening}
-use Rattle.boot_model.specs.DxeMachine.{DxeMachine}
-use Rattle.boot_model.specs.DxeRun.{dxe_opening}
-use Rattle.recorded_boot.specs.Named.{HasNoTwins}
-use Rattle.recorded_boot.specs.Starts.{ComeFirst, starts}
-use Rattle.recorded_boot.specs.OneStep.{IsFreeDxeStep}
+use Rattle.recorded_boot.specs.{Named.HasNoTwins, Starts.ComeFirst, Starts.starts, OneStep.IsFreeDxeStep}
 
 -- free steps lead from the first machine to this one, over these, the last of them first
 abbrev pub PeiComesTo : Catalog → ℕ → PeiMachine → List PeiMachine → PeiMachine → Type 0

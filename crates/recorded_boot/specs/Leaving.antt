@@ -2,15 +2,11 @@
 -- Own.
 use Rattle.std.specs.Prelude.{◌≡◌, ℕ, Option, Some, None, slice_get, take}
 use Rattle.mod_catalog.specs.declared.catalogue.Catalog.{Catalog}
-use Rattle.store_model.specs.HandleState.{HandleState}
-use Rattle.store_model.specs.StoreState.{StoreState}
+use Rattle.store_model.specs.{HandleState.HandleState, StoreState.StoreState}
 use Rattle.boot_model.specs.declared.line.RunEnd.{RunEnd}
-use Rattle.recorded_boot.specs.declared.order.line.AskedStart.{AskedStart}
-use Rattle.recorded_boot.specs.declared.order.lines.StartOrder.{StartOrder}
-use Rattle.recorded_boot.specs.declared.follow.against.Against.{Against}
-use Rattle.recorded_boot.specs.declared.follow.following.Followed.{Followed}
+use Rattle.recorded_boot.specs.{declared.order.line.AskedStart.AskedStart, declared.order.lines.StartOrder.StartOrder}
+use Rattle.recorded_boot.specs.{declared.follow.against.Against.Against, declared.follow.following.Followed.Followed, Against.StandsAgainst}
 use Rattle.recorded_boot.specs.declared.follow.following.Followed.TheVariants.{Ended, Stopped, No}
-use Rattle.recorded_boot.specs.Against.{StandsAgainst}
 use Rattle.recorded_boot.specs.ByOrder.{starts_of}
 
 -- the order asks for a start there, against which something stands

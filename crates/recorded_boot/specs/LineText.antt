@@ -1,15 +1,11 @@
 -- The lines of an order of starts (own): `pei V GUID` or `dxe V GUID`, a start in that phase by the number of the volume and the name of the file, or `stop`. Lines and words are those of `line_words`.
-use Rattle.std.specs.Prelude.{ℕ, if◌then◌else◌, List, [], ◌∷◌, Option, Some, None, codes, option_and_then}
-use Rattle.std.specs.List.{find}
-use Rattle.std.specs.Str.{bytes_eq}
+use Rattle.std.specs.Prelude.{ℕ, if◌then◌else◌, List, [], ◌∷◌, Option, Some, None, codes, option_and_then, find, bytes_eq}
 use Rattle.line_words.specs.Words.{words, is_plain}
 use Rattle.pi_base.specs.declared.phase.Phase.{Phase}
 use Rattle.pi_base.specs.declared.phase.Phase.TheVariants as P
-use Rattle.recorded_boot.specs.declared.order.keyword.Keyword.{Keyword}
+use Rattle.recorded_boot.specs.{declared.order.keyword.Keyword.Keyword, declared.order.line.Asked.Asked, Words.volume_of, Words.guid_of}
 use Rattle.recorded_boot.specs.declared.order.keyword.Keyword.TheVariants.{Pei, Dxe, Stop}
-use Rattle.recorded_boot.specs.declared.order.line.Asked.{Asked}
 use Rattle.recorded_boot.specs.declared.order.line.Asked.TheVariants as A
-use Rattle.recorded_boot.specs.Words.{volume_of, guid_of}
 
 -- what a keyword is written as
 unfoldable pub keyword_text : Keyword → List ℕ

@@ -1,7 +1,7 @@
 -- The lines of a text: each ends with a line feed.
 -- Own.
-use Rattle.std.specs.Prelude.{◌≡◌, ℕ, zero, suc, ◌==◌, ◌++◌, Bool, true, not, List, [], ◌∷◌, Option, Some, None, option_map, if◌then◌else◌}
-use Rattle.std.specs.List.{count_by, list_all}
+use Rattle.std.specs.Prelude.{◌≡◌, ℕ, zero, suc, ◌==◌, ◌++◌, Bool, true, not, List, [], ◌∷◌, Option, Some, None, option_map, if◌then◌else◌, count_by}
+use Rattle.std.specs.List.{list_all}
 
 abbrev pub is_feed : ℕ → Bool
 is_feed byte = byte == 10

@@ -1,12 +1,8 @@
 -- Modules by volume and file name. PI 1.8, volume 3, "Firmware File Section"; volume 3 wants the file names of a volume to differ, and a catalogue may have twins all the same.
-use Rattle.std.specs.Prelude.{◌≡◌, ◌<◌, ℕ, List, Option, Some, slice_get, length}
-use Rattle.std.specs.Option.{option_and_then}
-use Rattle.pi_base.specs.declared.guid.Guid.{Guid}
-use Rattle.pi_base.specs.Lists.{Each}
+use Rattle.std.specs.Prelude.{◌≡◌, ◌<◌, ℕ, List, Option, Some, slice_get, length, option_and_then}
+use Rattle.pi_base.specs.{declared.guid.Guid.Guid, Lists.Each, GuidMap.value_of}
 use Rattle.line_words.specs.PrintedWords.{IsGuid}
-use Rattle.pi_base.specs.GuidMap.{value_of}
-use Rattle.mod_catalog.specs.declared.catalogue.Catalog.{Catalog}
-use Rattle.mod_catalog.specs.Parts.{module_name, module_volume}
+use Rattle.mod_catalog.specs.{declared.catalogue.Catalog.Catalog, Parts.module_name, Parts.module_volume}
 
 -- each file name is a GUID
 abbrev pub AreGuids : Catalog → Type 0

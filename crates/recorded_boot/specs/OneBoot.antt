@@ -1,20 +1,14 @@
 -- An order leads to one answer, and one text.
 -- Own.
 use Rattle.std.specs.Prelude.{◌≡◌, ◌≤◌, ◌-◌, ◌^◌, ℕ, List, [], Some, Result, Ok, Err, length, ⊤}
-use Rattle.pi_base.specs.Field.{AreBytes}
-use Rattle.pi_base.specs.Lists.{Each}
+use Rattle.pi_base.specs.{Field.AreBytes, Lists.Each}
 use Rattle.boot_plan.specs.declared.plan.Plan.{Plan}
-use Rattle.mod_catalog.specs.declared.catalogue.Catalog.{Catalog}
-use Rattle.mod_catalog.specs.WellFormed.{IsWellFormed}
+use Rattle.mod_catalog.specs.{declared.catalogue.Catalog.Catalog, WellFormed.IsWellFormed}
 use Rattle.store_model.specs.StoreState.{Board}
 use Rattle.boot_trace.specs.Printing.{Texts}
-use Rattle.recorded_boot.specs.Named.{HasNoTwins}
-use Rattle.recorded_boot.specs.declared.order.lines.StartOrder.{StartOrder}
-use Rattle.recorded_boot.specs.declared.follow.following.Followed.{Followed}
-use Rattle.recorded_boot.specs.declared.follow.images.FollowFault.{FollowFault}
+use Rattle.recorded_boot.specs.{Named.HasNoTwins, declared.order.lines.StartOrder.StartOrder, declared.follow.following.Followed.Followed}
+use Rattle.recorded_boot.specs.{declared.follow.images.FollowFault.FollowFault, Answer.FollowsTo, Follow.Follows}
 use Rattle.recorded_boot.specs.declared.follow.images.FollowFault.TheVariants.{Image, Twins, Sink, Memory}
-use Rattle.recorded_boot.specs.Answer.{FollowsTo}
-use Rattle.recorded_boot.specs.Follow.{Follows}
 
 -- this text was put, and nothing before it
 abbrev pub put : List ℕ → Texts

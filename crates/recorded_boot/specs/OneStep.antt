@@ -2,14 +2,9 @@
 -- Where no volume has two modules of one file name; PI 1.8, volume 3, "Firmware File System", wants the names of a volume to differ.
 use Rattle.std.specs.Prelude.{◌≡◌, ℕ, List, None}
 use Rattle.mod_catalog.specs.declared.catalogue.Catalog.{Catalog}
-use Rattle.boot_model.specs.FreeRun.{IsFreePeiStep, IsFreeInDxe}
-use Rattle.boot_model.specs.PeiMachine.{PeiMachine}
-use Rattle.boot_model.specs.DxeMachine.{DxeMachine}
-use Rattle.boot_model.specs.DxeStep.{dxe_case_of}
+use Rattle.boot_model.specs.{FreeRun.IsFreePeiStep, FreeRun.IsFreeInDxe, PeiMachine.PeiMachine, DxeMachine.DxeMachine, DxeStep.dxe_case_of}
 use Rattle.boot_laws.specs.DxeUnderWay.{IsUnderWay}
-use Rattle.recorded_boot.specs.Named.{HasNoTwins}
-use Rattle.recorded_boot.specs.declared.order.line.Start.{Start}
-use Rattle.recorded_boot.specs.Starts.{ComeFirst, starts}
+use Rattle.recorded_boot.specs.{Named.HasNoTwins, declared.order.line.Start.Start, Starts.ComeFirst, Starts.starts}
 
 abbrev pub OnePeiStep : Type 0
 OnePeiStep = (catalog : Catalog) (fuel : ℕ) (m one other : PeiMachine) (all : List Start) → HasNoTwins catalog

@@ -1,13 +1,10 @@
 -- The order of the starts of which lines tell.
 -- Own.
-use Rattle.std.specs.Prelude.{◌≡◌, ℕ, List, None, flat_map, map, option_map}
+use Rattle.std.specs.Prelude.{◌≡◌, ℕ, List, None, flat_map, map, option_map, option_to_list}
 use Rattle.std.specs.List.{enumerate_from}
-use Rattle.std.specs.Option.{option_to_list}
 use Rattle.boot_model.specs.declared.line.Line.{Line}
-use Rattle.recorded_boot.specs.declared.order.line.AskedStart.{AskedStart}
-use Rattle.recorded_boot.specs.declared.order.line.Start.{Start}
-use Rattle.recorded_boot.specs.declared.order.lines.StartOrder.{StartOrder}
-use Rattle.recorded_boot.specs.Starts.{start_of, starts}
+use Rattle.recorded_boot.specs.{declared.order.line.AskedStart.AskedStart, declared.order.line.Start.Start}
+use Rattle.recorded_boot.specs.{declared.order.lines.StartOrder.StartOrder, Starts.start_of, Starts.starts}
 
 -- a start, as the line with this number asks for it
 abbrev pub asked_at : ℕ → Start → AskedStart

@@ -4,10 +4,8 @@ use Rattle.std.specs.List.{enumerate_from}
 use Rattle.line_words.specs.Line.{lines, is_passed_over}
 use Rattle.recorded_boot.specs.declared.order.fault.OrderFault.{OrderFault}
 use Rattle.recorded_boot.specs.declared.order.fault.OrderFault.TheVariants.{Bad, Memory}
-use Rattle.recorded_boot.specs.declared.order.line.Asked.{Asked}
+use Rattle.recorded_boot.specs.{declared.order.line.Asked.Asked, declared.order.lines.StartOrder.StartOrder, LineText.asked_of}
 use Rattle.recorded_boot.specs.declared.order.line.Asked.TheVariants as A
-use Rattle.recorded_boot.specs.declared.order.lines.StartOrder.{StartOrder}
-use Rattle.recorded_boot.specs.LineText.{asked_of}
 
 -- lines that are not passed over, each with its number, the first line having this one
 abbrev pub numbered_from : ℕ → List (List ℕ) → List (ℕ × List ℕ)

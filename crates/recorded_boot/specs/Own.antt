@@ -3,18 +3,11 @@
 use Rattle.std.specs.Prelude.{◌≡◌, ℕ, List, ◌++◌, Option, Some, None}
 use Rattle.mod_catalog.specs.declared.catalogue.Catalog.{Catalog}
 use Rattle.store_model.specs.StoreState.{Board}
-use Rattle.boot_model.specs.declared.line.Line.{Line}
-use Rattle.boot_model.specs.declared.phase_end.PeiEnd.{PeiEnd}
+use Rattle.boot_model.specs.{declared.line.Line.Line, declared.phase_end.PeiEnd.PeiEnd, BootRun.both_lines, BootRun.lines_after}
 use Rattle.boot_model.specs.declared.phase_end.PeiEnd.TheVariants.{Handoff, NoMemory, NoIpl, Spent, Deep}
-use Rattle.boot_model.specs.BootRun.{both_lines, lines_after}
-use Rattle.boot_model.specs.DxeMachine.{DxeMachine}
-use Rattle.boot_model.specs.DxeRun.{IsDxeRun, dxe_opening}
-use Rattle.boot_model.specs.FreeRun.{last_of_dxe}
-use Rattle.boot_model.specs.PeiMachine.{PeiMachine}
+use Rattle.boot_model.specs.{DxeMachine.DxeMachine, DxeRun.IsDxeRun, DxeRun.dxe_opening, FreeRun.last_of_dxe, PeiMachine.PeiMachine}
 use Rattle.boot_model.specs.PeiRun.{IsPeiRun, last_machine, pei_opening}
-use Rattle.recorded_boot.specs.declared.order.line.Start.{Start}
-use Rattle.recorded_boot.specs.Starts.{starts}
-use Rattle.recorded_boot.specs.Leading.{DxeComesTo, PeiComesTo}
+use Rattle.recorded_boot.specs.{declared.order.line.Start.Start, Starts.starts, Leading.DxeComesTo, Leading.PeiComesTo}
 
 -- all lines of a boot that goes on so from a machine of DXE, behind this one of PEI
 abbrev pub AreOwnDxeLines : Catalog → ℕ → PeiMachine → DxeMachine → List Line → Type 0

@@ -2,13 +2,9 @@
 -- Own.
 use Rattle.std.specs.Prelude.{◌≡◌, ◌≤◌, ◌⊎◌, ℕ, ◌+◌, List, [], ◌∷◌, ◌++◌, length, Some}
 use Rattle.std.specs.Io.KnownBytes.{Appends}
-use Rattle.boot_io.specs.Faults.{IsPrefix}
-use Rattle.boot_io.specs.Sink.{AppendsPart}
-use Rattle.boot_model.specs.declared.line.Line.{Line}
-use Rattle.boot_model.specs.Text.{text_of}
-use Rattle.recorded_boot.specs.declared.trace.spelled.Spelled.{Spelled}
-use Rattle.recorded_boot.specs.Fronts.{IsOff}
-use Rattle.recorded_boot.specs.Lines.{Lacks}
+use Rattle.boot_io.specs.{Faults.IsPrefix, Sink.AppendsPart}
+use Rattle.boot_model.specs.{declared.line.Line.Line, Text.text_of}
+use Rattle.recorded_boot.specs.{declared.trace.spelled.Spelled.Spelled, Fronts.IsOff, Lines.Lacks}
 use Rattle.recorded_boot.specs.Spelled.{GoesOn, IsHeld, IsRight, met, spoken, told, whole}
 
 -- behind what was printed these lines go on by a line that is not the text's

@@ -1,8 +1,7 @@
 -- A text that a boot is held against, as a sink.
 -- A core that puts into a sink says of it afterwards what it tells, and nothing else: so the sink tells the text that it is held against too, before what was put.
 -- Own.
-use Rattle.std.specs.Prelude.{◌≡◌, ℕ, ◌+◌, List, [], ◌∷◌, ◌++◌, take, drop}
-use Rattle.std.specs.Option.{option_to_list}
+use Rattle.std.specs.Prelude.{◌≡◌, ℕ, ◌+◌, List, [], ◌∷◌, ◌++◌, take, drop, option_to_list}
 use Rattle.recorded_boot.specs.declared.trace.spelled.Spelled.{Spelled}
 
 -- the whole text

@@ -2,17 +2,11 @@
 -- Own.
 use Rattle.std.specs.Prelude.{◌≡◌, ℕ, true, List, Option, Some, slice_get, length}
 use Rattle.boot_io.specs.Faults.{IsPrefix}
-use Rattle.pi_base.specs.declared.guid.Guid.{Guid}
-use Rattle.pi_base.specs.declared.phase.Phase.{Phase}
-use Rattle.pi_base.specs.declared.phase.Phase.TheVariants.{Pei}
+use Rattle.pi_base.specs.{declared.guid.Guid.Guid, declared.phase.Phase.Phase, declared.phase.Phase.TheVariants.Pei}
 use Rattle.mod_catalog.specs.declared.catalogue.Catalog.{Catalog}
 use Rattle.mod_catalog.specs.Parts.{has_number, module_name, module_volume}
-use Rattle.boot_model.specs.declared.licence.Licence.{Licence}
-use Rattle.boot_model.specs.declared.line.Line.{Line}
-use Rattle.boot_model.specs.Text.{line_text}
-use Rattle.recorded_boot.specs.declared.trace.spelled.Spelled.{Spelled}
-use Rattle.recorded_boot.specs.Spelled.{IsRight, left}
-use Rattle.recorded_boot.specs.Named.{AreNames, IsNamed}
+use Rattle.boot_model.specs.{declared.licence.Licence.Licence, declared.line.Line.Line, Text.line_text}
+use Rattle.recorded_boot.specs.{declared.trace.spelled.Spelled.Spelled, Spelled.IsRight, Spelled.left, Named.AreNames, Named.IsNamed}
 use Rattle.trace_reader.specs.Readable.{IsReadable}
 use Rattle.recorded_boot.specs.StartLine.{phase_start}
 

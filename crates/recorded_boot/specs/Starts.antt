@@ -1,11 +1,8 @@
 -- The starts of a boot, in order, as its lines tell them: each by its phase, the volume of its module and the name of its file.
 -- PI 1.8, volume 1, "PEI Dispatcher", and volume 2, "DXE Dispatcher".
-use Rattle.std.specs.Prelude.{◌≡◌, ℕ, List, ◌++◌, Option, Some, None, flat_map}
-use Rattle.std.specs.Option.{option_to_list}
-use Rattle.pi_base.specs.declared.phase.Phase.{Phase}
-use Rattle.pi_base.specs.declared.phase.Phase.TheVariants.{Pei, Dxe}
-use Rattle.mod_catalog.specs.declared.catalogue.Catalog.{Catalog}
-use Rattle.mod_catalog.specs.Parts.{module_name, module_volume}
+use Rattle.std.specs.Prelude.{◌≡◌, ℕ, List, ◌++◌, Option, Some, None, flat_map, option_to_list}
+use Rattle.pi_base.specs.{declared.phase.Phase.Phase, declared.phase.Phase.TheVariants.Pei, declared.phase.Phase.TheVariants.Dxe}
+use Rattle.mod_catalog.specs.{declared.catalogue.Catalog.Catalog, Parts.module_name, Parts.module_volume}
 use Rattle.boot_model.specs.declared.line.Line.{Line}
 use Rattle.boot_model.specs.declared.line.Line.TheVariants as L
 use Rattle.recorded_boot.specs.declared.order.line.Start.{Start}

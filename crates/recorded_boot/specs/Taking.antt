@@ -1,8 +1,6 @@
 -- How the names of a catalogue are taken one by one. Own.
 use Rattle.std.specs.Prelude.{◌≡◌, ℕ, ◌==◌, ◌&&◌, true, if◌then◌else◌, List, [], Some, None, is_some, Result, Ok, Err, length, ⊤}
-use Rattle.pi_base.specs.declared.guid.Guid.{Guid}
-use Rattle.pi_base.specs.Guids.{same_guid}
-use Rattle.pi_base.specs.Lists.{Each}
+use Rattle.pi_base.specs.{declared.guid.Guid.Guid, Guids.same_guid, Lists.Each}
 use Rattle.recorded_boot.specs.declared.order.names.NamesFault.{NamesFault}
 use Rattle.recorded_boot.specs.declared.order.names.NamesFault.TheVariants.{Twins, Memory}
 use Rattle.recorded_boot.specs.Named.{number_in}

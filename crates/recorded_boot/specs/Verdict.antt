@@ -2,10 +2,8 @@
 -- Own; PI 1.8, volumes 1 and 2, leave the order of eligible modules to the dispatchers.
 use Rattle.std.specs.Prelude.{◌≡◌, ◌≤◌, ◌<◌, ℕ, List, Some}
 use Rattle.boot_io.specs.Faults.{IsPrefix}
-use Rattle.boot_model.specs.declared.line.Line.{Line}
-use Rattle.boot_model.specs.Text.{text_of}
-use Rattle.recorded_boot.specs.Lines.{front_lines}
-use Rattle.recorded_boot.specs.declared.trace.verdict.Verdict.{Verdict}
+use Rattle.boot_model.specs.{declared.line.Line.Line, Text.text_of}
+use Rattle.recorded_boot.specs.{Lines.front_lines, declared.trace.verdict.Verdict.Verdict}
 use Rattle.recorded_boot.specs.declared.trace.verdict.Verdict.TheVariants.{Yes, No}
 
 -- the text is that of the lines of some boot

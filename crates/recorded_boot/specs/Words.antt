@@ -1,10 +1,8 @@
 -- The words of a line of an order, and what they spell (own).
 use Rattle.std.specs.Prelude.{◌≡◌, ◌≢◌, ℕ, nat_lt, ◌^◌, if◌then◌else◌, List, [], ◌∷◌, slice_index, Option, Some, None, option_map}
 use Rattle.std.specs.Borrow.{Bor}
-use Rattle.pi_base.specs.declared.guid.Guid.{Guid}
-use Rattle.pi_base.specs.GuidText.{guid_of_text}
-use Rattle.line_words.specs.Words.{words}
-use Rattle.line_words.specs.Number.{number_of}
+use Rattle.pi_base.specs.{declared.guid.Guid.Guid, GuidText.guid_of_text}
+use Rattle.line_words.specs.{Words.words, Number.number_of}
 
 -- a number that is below a limit
 abbrev pub below : ℕ → Option ℕ → Option ℕ

@@ -1,22 +1,14 @@
 -- What is printed of numbers, GUIDs and bytes are words.
-use Rattle.std.proofs.Common.{◌≡◌, ℕ, zero, suc, ◌<◌, ◌≤◌, ◌/◌, ◌%◌, ◌^◌, ◌&&◌, Bool, true, false, eqb, cond, List, [], ◌∷◌, length, refl, ◌∙◌, arith, decimal, slice_index}
-use Rattle.std.specs.Prelude.{nat_lt, ◌==◌}
-use Rattle.std.specs.List.{list_all}
-use Rattle.std.specs.Fmt.{digits}
-use Rattle.std.specs.Char.{digit_value}
-use Rattle.std.specs.Str.Parse.{AllDigits}
-use Rattle.std.proofs.lemmas.Bool.{and_parts, and_from}
-use Rattle.std.proofs.lemmas.Bool.Decides.{nat_tests}
-use Rattle.std.proofs.lemmas.List.Folds.{list_all-append}
+use Rattle.std.proofs.Common.{◌≡◌, ℕ, zero, suc, ◌<◌, ◌≤◌, ◌/◌, ◌%◌, ◌^◌, ◌&&◌, Bool, true, false, eqb, cond, List, [], ◌∷◌, length, refl, ◌∙◌, arith, decimal, slice_index, nat_lt, ◌==◌}
+use Rattle.std.specs.{List.list_all, Fmt.digits, Char.digit_value, Str.Parse.AllDigits}
+use Rattle.std.proofs.{lemmas.Bool.and_parts, lemmas.Bool.and_from, lemmas.Bool.Decides.nat_tests, lemmas.List.Folds.list_all-append}
 use Rattle.std.proofs.lemmas.List.Sums.{AllPass-from_list_all}
 use Rattle.uuid.specs.Text.{by_index, is_hyphen_place, hex_digit, nibble, digit_place}
 use Rattle.uuid.specs.Parts.{swap_fields}
 use Rattle.hex.specs.Hex.{encode_with, encode_lower, lower_digits, IsBytes}
 use Rattle.hex.proofs.HexLemmas.{length-encode_with}
-use Rattle.pi_base.specs.declared.guid.Guid.{Guid}
-use Rattle.pi_base.specs.WordText.{hexadecimal, guid_text}
-use Rattle.line_words.proofs.GuidWords.{guid_long}
-use Rattle.line_words.proofs.Numerals.{numeral}
+use Rattle.pi_base.specs.{declared.guid.Guid.Guid, WordText.hexadecimal, WordText.guid_text}
+use Rattle.line_words.proofs.{GuidWords.guid_long, Numerals.numeral}
 use Rattle.source_words.proofs.LineWords.{is_clean, IsClean, IsWord}
 
 -- digits

@@ -1,11 +1,8 @@
 -- The opcodes that a closing bracket writes.
-use Rattle.std.proofs.Common.{◌≡◌, List, ◌∷◌, ◌++◌, sym}
-use Rattle.std.proofs.lemmas.List.{append_assoc}
+use Rattle.std.proofs.Common.{◌≡◌, List, ◌∷◌, ◌++◌, sym, append_assoc}
 use Rattle.depex_code.specs.declared.opcode.Opcode.{Opcode}
-use Rattle.source_words.specs.declared.depex.stack.Waiting.{Waiting}
-use Rattle.source_words.specs.declared.depex.walk.Stage.TheVariants.{Ended}
-use Rattle.source_words.specs.declared.depex.token.Token.{Token}
-use Rattle.source_words.specs.declared.depex.token.Token.TheVariants.{Close}
+use Rattle.source_words.specs.{declared.depex.stack.Waiting.Waiting, declared.depex.walk.Stage.TheVariants.Ended}
+use Rattle.source_words.specs.{declared.depex.token.Token.Token, declared.depex.token.Token.TheVariants.Close}
 use Rattle.source_words.specs.Emission.{emitted, operators, below_bracket}
 
 pub written : (old new : List Opcode) (waiting below : List Waiting) (rest : List Token) → new ≡ old ++ operators waiting → below ≡ below_bracket waiting

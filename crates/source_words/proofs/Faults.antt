@@ -1,11 +1,8 @@
 -- The first line at which something is wrong, looked for line by line.
-use Rattle.std.proofs.Common.{◌≡◌, ℕ, suc, ◌+◌, ◌-◌, ◌<◌, ◌≤◌, Bool, true, false, not, List, [], ◌∷◌, ◌++◌, length, take, drop, get_or, Option, Some, None, refl, sym, ap, ◌∙◌, arith, length-drop}
-use Rattle.std.specs.Prelude.{nat_le, if◌then◌else◌}
+use Rattle.std.proofs.Common.{◌≡◌, ℕ, suc, ◌+◌, ◌-◌, ◌<◌, ◌≤◌, Bool, true, false, not, List, [], ◌∷◌, ◌++◌, length, take, drop, get_or, Option, Some, None, refl, sym, ap, ◌∙◌, arith, length-drop, nat_le, if◌then◌else◌, append-nil, take_all}
 use Rattle.std.proofs.lemmas.Bool.Decides.{nat_tests}
-use Rattle.std.proofs.lemmas.List.{append-nil, take_more, drop_more, drop_all, take_all}
-use Rattle.act_code.specs.declared.action.Action.{Action}
-use Rattle.act_code.specs.Format.{is_within}
-use Rattle.act_code.specs.Index.{has_room, names_below}
+use Rattle.std.proofs.lemmas.List.{take_more, drop_more, drop_all}
+use Rattle.act_code.specs.{declared.action.Action.Action, Format.is_within, Index.has_room, Index.names_below}
 use Rattle.source_words.specs.declared.script.script.ScriptCause.{ScriptCause}
 use Rattle.source_words.specs.declared.script.script.ScriptCause.TheVariants.{NoRet, Jump, NoSuchBlock, Full}
 use Rattle.source_words.specs.Script.{action_cause, action_causes, may_end, block_cause, block_causes, end_cause, causes_behind, first_fault}

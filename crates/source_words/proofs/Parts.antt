@@ -1,12 +1,9 @@
 -- Words with which nothing is wrong are those of an expression.
-use Rattle.std.proofs.Common.{◌≡◌, inl, inr, ℕ, zero, suc, ◌+◌, ◌<◌, true, List, [], ◌∷◌, ◌++◌, length, None, refl, sym, ap, ◌∙◌, arith}
-use Rattle.std.proofs.lemmas.List.{append_assoc}
+use Rattle.std.proofs.Common.{◌≡◌, inl, inr, ℕ, zero, suc, ◌+◌, ◌<◌, true, List, [], ◌∷◌, ◌++◌, length, None, refl, sym, ap, ◌∙◌, arith, append_assoc}
 use Rattle.source_words.specs.declared.depex.walk.Stage.TheVariants.{Due, Ended}
-use Rattle.source_words.specs.declared.depex.token.Operator.{Operator}
-use Rattle.source_words.specs.declared.depex.token.Token.{Token}
+use Rattle.source_words.specs.{declared.depex.token.Operator.Operator, declared.depex.token.Token.Token, Cause.tree_cause, Cause.end_cause}
 use Rattle.source_words.specs.declared.depex.token.Token.TheVariants as token
 use Rattle.source_words.specs.Written.{Written, Alone, Negated, Bracketed, Joined, is_operand, is_grouped, tokens_of}
-use Rattle.source_words.specs.Cause.{tree_cause, end_cause}
 use Rattle.source_words.specs.Expression.{IsEnd}
 use Rattle.source_words.proofs.Writing.{IsClosing}
 

@@ -1,11 +1,9 @@
 -- Nothing is wrong with the words of an expression.
-use Rattle.std.proofs.Common.{◌≡◌, ℕ, ◌+◌, List, [], ◌∷◌, ◌++◌, refl, ap, ◌∙◌}
-use Rattle.std.proofs.lemmas.List.{append_assoc}
+use Rattle.std.proofs.Common.{◌≡◌, ℕ, ◌+◌, List, [], ◌∷◌, ◌++◌, refl, ap, ◌∙◌, append_assoc}
 use Rattle.source_words.specs.declared.depex.walk.Stage.TheVariants.{Due, Ended}
-use Rattle.source_words.specs.declared.depex.token.Token.{Token}
+use Rattle.source_words.specs.{declared.depex.token.Token.Token, Cause.tree_cause}
 use Rattle.source_words.specs.declared.depex.token.Token.TheVariants as token
 use Rattle.source_words.specs.Written.{Written, Alone, Negated, Bracketed, Joined, tokens_of}
-use Rattle.source_words.specs.Cause.{tree_cause}
 use Rattle.source_words.proofs.Depths.{closes}
 
 pub passes : (one : Written) (depth : ℕ) (rest : List Token) → tree_cause depth Due (tokens_of one ++ rest) ≡ tree_cause depth Ended rest

@@ -1,27 +1,20 @@
 -- The line that is printed of an action is read as it.
-use Rattle.std.proofs.Common.{◌≡◌, ℕ, Bool, true, false, List, [], ◌∷◌, ◌++◌, flat_map, Ok, refl, sym, ap, ◌∙◌, arith, subst}
-use Rattle.std.specs.Prelude.{bytes_eq, codes, nat_le, nat_lt, if◌then◌else◌}
+use Rattle.std.proofs.Common.{◌≡◌, ℕ, Bool, true, false, List, [], ◌∷◌, ◌++◌, flat_map, Ok, refl, sym, ap, ◌∙◌, arith, subst, bytes_eq, codes, nat_le, nat_lt, if◌then◌else◌, append-nil}
 use Rattle.std.specs.List.{list_all, AllByRecursion}
 use Rattle.std.proofs.lemmas.Bool.{and_parts, and_from, false≢true}
 use Rattle.std.proofs.lemmas.Bool.Decides.{nat_tests}
-use Rattle.std.proofs.lemmas.List.{append-nil}
-use Rattle.pi_base.specs.declared.phase.Phase.{Phase}
-use Rattle.pi_base.specs.declared.phase.Phase.TheVariants.{Pei, Dxe}
-use Rattle.act_code.specs.declared.action.Action.{Action}
+use Rattle.pi_base.specs.{declared.phase.Phase.Phase, declared.phase.Phase.TheVariants.Pei, declared.phase.Phase.TheVariants.Dxe}
+use Rattle.act_code.specs.{declared.action.Action.Action, declared.code.Code.Code, Format.is_within, Index.is_indexed}
 use Rattle.act_code.specs.declared.action.Action.TheVariants as action
-use Rattle.act_code.specs.declared.code.Code.{Code}
 use Rattle.act_code.specs.declared.code.Code.TheVariants as code
-use Rattle.act_code.specs.Format.{is_within}
 use Rattle.act_code.specs.Table.{name_of, is_code_of, format_of, made, code_of_action, operands}
 use Rattle.asm_text.specs.ActionText.{spaced, operand_words, action_text}
 use Rattle.asm_text.specs.LineReading.{code_named}
-use Rattle.act_code.specs.Index.{is_indexed}
 use Rattle.act_code.specs.Script.{IsAction, operand_bytes}
 use Rattle.hex.specs.Hex.{IsBytes}
 use Rattle.source_words.proofs.PrintedValues.{IsShown, most_of, shown_operands}
-use Rattle.source_words.specs.Words.{words}
+use Rattle.source_words.specs.{Words.words, Operands.read, Operands.operands_at}
 use Rattle.source_words.specs.Action.{action_of, code_of_name, is_logged}
-use Rattle.source_words.specs.Operands.{read, operands_at}
 use Rattle.source_words.proofs.LineWords.{IsWord, IsClear, clear_of, both_clear, spaced_clear, word_then, words_spaced, stands_spaced}
 use Rattle.source_words.proofs.PrintedOperands.{is_worded, reads, are_words}
 

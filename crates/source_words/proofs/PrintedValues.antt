@@ -1,21 +1,15 @@
 -- The values of operands that a line can show: those of actions of bytes, with registers below 16 and blocks below 64.
-use Rattle.std.proofs.Common.{◌≡◌, ℕ, suc, zero, ◌<◌, ◌≤◌, ◌^◌, true, false, eqb, List, [], ◌∷◌, ◌++◌, length, refl, arith}
-use Rattle.std.specs.Prelude.{⊤, nat_le, nat_lt, ◌==◌, if◌then◌else◌}
-use Rattle.std.specs.List.{list_all, AllByRecursion}
-use Rattle.std.proofs.lemmas.Bool.{and_parts}
-use Rattle.std.proofs.lemmas.Bool.Decides.{nat_tests}
+use Rattle.std.proofs.Common.{◌≡◌, ℕ, suc, zero, ◌<◌, ◌≤◌, ◌^◌, true, false, eqb, List, [], ◌∷◌, ◌++◌, length, refl, arith, nat_le, nat_lt, ◌==◌, if◌then◌else◌}
+use Rattle.std.specs.{Prelude.⊤, List.list_all, List.AllByRecursion}
+use Rattle.std.proofs.{lemmas.Bool.and_parts, lemmas.Bool.Decides.nat_tests}
 use Rattle.hex.specs.Hex.{IsBytes}
-use Rattle.pi_base.specs.Field.{little_bytes}
-use Rattle.pi_base.specs.declared.phase.Phase.{Phase}
+use Rattle.pi_base.specs.{Field.little_bytes, declared.phase.Phase.Phase}
 use Rattle.line_words.specs.PrintedWords.{IsGuid}
-use Rattle.act_code.specs.declared.action.Action.{Action}
-use Rattle.act_code.specs.declared.action.GuidArg.{GuidArg}
+use Rattle.act_code.specs.{declared.action.Action.Action, declared.action.GuidArg.GuidArg}
 use Rattle.act_code.specs.declared.action.GuidArg.TheVariants.{Inline, Register}
-use Rattle.act_code.specs.declared.code.Code.{Code}
+use Rattle.act_code.specs.{declared.code.Code.Code, Index.is_indexed, Script.IsAction, Script.operand_bytes}
 use Rattle.act_code.specs.declared.code.Code.TheVariants as code
 use Rattle.act_code.specs.Format.{Format, Value, spelled, guid_arg_bytes, guid_arg_registers, IsInRange, IsGuidArg, registers_in, blocks_in, is_within, is_hob, Nothing, Byte, Within, RegisterNumber, BlockNumber, Little, GuidBytes, WordNumber, Counted, Text, Registers, Descriptor, HobBody, Pair}
-use Rattle.act_code.specs.Index.{is_indexed}
-use Rattle.act_code.specs.Script.{IsAction, operand_bytes}
 use Rattle.act_code.specs.Table.{format_of, code_of_action, operands}
 
 pub is_most : (n m : ℕ) → nat_le n m ≡ true → n ≤ m

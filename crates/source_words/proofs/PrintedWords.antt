@@ -1,28 +1,21 @@
 -- The words that are printed of an expression say it.
-use Rattle.std.proofs.Common.{◌≡◌, inl, ℕ, true, false, List, [], ◌∷◌, ◌++◌, map, refl, sym, ap, ◌∙◌, arith, append_assoc}
-use Rattle.std.specs.Prelude.{codes}
-use Rattle.std.proofs.lemmas.List.{append-nil}
-use Rattle.pi_base.specs.declared.guid.Guid.{Guid}
-use Rattle.pi_base.specs.WordText.{guid_text}
+use Rattle.std.proofs.Common.{◌≡◌, inl, ℕ, true, false, List, [], ◌∷◌, ◌++◌, map, refl, sym, ap, ◌∙◌, arith, append_assoc, codes, append-nil}
+use Rattle.pi_base.specs.{declared.guid.Guid.Guid, WordText.guid_text}
 use Rattle.line_words.specs.PrintedWords.{IsGuid}
 use Rattle.depex_code.specs.declared.depex.Depex.{Depex}
 use Rattle.depex_code.specs.declared.depex.Depex.TheVariants as depex
 use Rattle.depex_code.specs.Tree.{DepexTree, True, False, Push, Not, And, Or}
 use Rattle.asm_text.specs.ExpressionText.{bracketed, tree_text, expression_text}
 use Rattle.asm_text.specs.ReadTree.{IsTree, IsExpression}
-use Rattle.source_words.specs.Words.{words}
-use Rattle.source_words.specs.declared.depex.token.Token.{Token}
+use Rattle.source_words.specs.{Words.words, declared.depex.token.Token.Token, declared.depex.token.Operator.Operator, Tokens.token_of}
 use Rattle.source_words.specs.declared.depex.token.Token.TheVariants as token
 use Rattle.source_words.specs.declared.depex.token.Leaf.TheVariants as leaf
-use Rattle.source_words.specs.declared.depex.token.Operator.{Operator}
 use Rattle.source_words.specs.declared.depex.token.Operator.TheVariants as operator
 use Rattle.source_words.specs.declared.depex.token.First.TheVariants as first
-use Rattle.source_words.specs.Tokens.{token_of}
 use Rattle.source_words.specs.Written.{Written, Alone, Negated, Bracketed, Joined, is_operand, is_grouped, tokens_of, tree_of}
 use Rattle.source_words.specs.Expression.{AreOf, IsTreeOf}
 use Rattle.source_words.proofs.LineWords.{Stands, IsClear, clear_of, both_clear, word_then}
-use Rattle.source_words.proofs.Characters.{guid_word}
-use Rattle.source_words.proofs.ValueWords.{no_keyword, guid_read}
+use Rattle.source_words.proofs.{Characters.guid_word, ValueWords.no_keyword, ValueWords.guid_read}
 
 -- a tree as it is printed
 abbrev written : DepexTree → Written

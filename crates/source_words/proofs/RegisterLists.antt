@@ -1,11 +1,7 @@
 -- Registers to the end of a line, read one by one.
-use Rattle.std.proofs.Common.{◌≡◌, ℕ, suc, ◌-◌, ◌<◌, ◌≤◌, List, [], ◌∷◌, ◌++◌, length, Some, None, Result, Ok, Err, refl, sym, ap, append_assoc, arith}
-use Rattle.std.proofs.lemmas.List.{append-nil, length-append}
-use Rattle.source_words.specs.declared.script.fault.LineFault.{LineFault}
+use Rattle.std.proofs.Common.{◌≡◌, ℕ, suc, ◌-◌, ◌<◌, ◌≤◌, List, [], ◌∷◌, ◌++◌, length, Some, None, Result, Ok, Err, refl, sym, ap, append_assoc, arith, append-nil, length-append}
+use Rattle.source_words.specs.{declared.script.fault.LineFault.LineFault, Reading.◌>>=◌, Word.register_of, Operands.registers_within}
 use Rattle.source_words.specs.declared.script.fault.LineFault.TheVariants as fault
-use Rattle.source_words.specs.Reading.{◌>>=◌}
-use Rattle.source_words.specs.Word.{register_of}
-use Rattle.source_words.specs.Operands.{registers_within}
 
 -- registers in front of others
 abbrev pub in_front : List ℕ → Result (List ℕ) LineFault → Result (List ℕ) LineFault

@@ -1,38 +1,26 @@
 -- What a line says keeps its ranges.
-use Rattle.std.proofs.Common.{◌≡◌, ℕ, suc, zero, ◌<◌, ◌≤◌, ◌^◌, ◌&&◌, Bool, true, false, eqb, ltb, List, [], ◌∷◌, ◌++◌, length, Option, Some, None, Result, Ok, Err, refl, subst, ◌∙◌, arith}
-use Rattle.std.specs.Prelude.{nat_le, nat_lt, ◌==◌, if◌then◌else◌, codes, option_map, bytes_eq, IfOk}
-use Rattle.std.specs.Option.{option_and_then}
-use Rattle.std.specs.List.{list_all, find}
-use Rattle.std.proofs.lemmas.Bool.{and_parts, and_from, eqb-true}
-use Rattle.std.proofs.lemmas.Bool.Decides.{nat_tests}
-use Rattle.std.proofs.lemmas.Option.{same_Some}
+use Rattle.std.proofs.Common.{◌≡◌, ℕ, suc, zero, ◌<◌, ◌≤◌, ◌^◌, ◌&&◌, Bool, true, false, eqb, ltb, List, [], ◌∷◌, ◌++◌, length, Option, Some, None, Result, Ok, Err, refl, subst, ◌∙◌, arith, nat_le, nat_lt, ◌==◌, if◌then◌else◌, codes, option_map, bytes_eq, IfOk, option_and_then, find, eqb-true}
+use Rattle.std.specs.List.{list_all}
+use Rattle.std.proofs.{lemmas.Bool.and_parts, lemmas.Bool.and_from, lemmas.Bool.Decides.nat_tests, lemmas.Option.same_Some}
 use Rattle.std.proofs.lemmas.List.Folds.{list_all-append}
 use Rattle.line_words.specs.Number.{number_of}
 use Rattle.uuid.specs.Text.{parsed_hyphenated}
-use Rattle.pi_base.specs.GuidText.{swap_fields}
-use Rattle.pi_base.specs.declared.phase.Phase.{Phase}
-use Rattle.pi_base.specs.declared.phase.Phase.TheVariants.{Pei, Dxe}
+use Rattle.pi_base.specs.{GuidText.swap_fields, declared.phase.Phase.Phase}
+use Rattle.pi_base.specs.{declared.phase.Phase.TheVariants.Pei, declared.phase.Phase.TheVariants.Dxe, declared.guid.Guid.Guid}
 use Rattle.asm_text.specs.LineReading.{code_named}
-use Rattle.pi_base.specs.declared.guid.Guid.{Guid}
-use Rattle.act_code.specs.declared.action.Action.{Action}
-use Rattle.act_code.specs.declared.action.Action.TheVariants.{Log}
-use Rattle.act_code.specs.declared.action.GuidArg.{GuidArg}
+use Rattle.act_code.specs.{declared.action.Action.Action, declared.action.Action.TheVariants.Log, declared.action.GuidArg.GuidArg}
 use Rattle.act_code.specs.declared.action.GuidArg.TheVariants.{Inline, Register}
-use Rattle.act_code.specs.declared.code.Code.{Code}
+use Rattle.act_code.specs.{declared.code.Code.Code, declared.code.TheConstants.CODES}
 use Rattle.act_code.specs.declared.code.Code.TheVariants as code
 use Rattle.act_code.specs.Format.{Format, Value, is_within, is_hob, IsInRange, IsGuidArg, registers_in, blocks_in, guid_arg_registers, Nothing, Byte, Within, RegisterNumber, BlockNumber, Little, GuidBytes, WordNumber, Counted, Text, Registers, Descriptor, HobBody, Pair}
-use Rattle.act_code.specs.declared.code.TheConstants.{CODES}
 use Rattle.act_code.specs.Table.{name_of, is_code_of, format_of, made}
-use Rattle.source_words.specs.Words.{is_keyword, words}
-use Rattle.source_words.specs.GuidWord.{guid_of, unbraced}
-use Rattle.source_words.specs.declared.script.fault.LineFault.{LineFault}
+use Rattle.source_words.specs.{Words.is_keyword, Words.words, GuidWord.guid_of, GuidWord.unbraced}
+use Rattle.source_words.specs.{declared.script.fault.LineFault.LineFault, declared.script.fault.Stop.Stop, Script.IsSaid}
 use Rattle.source_words.specs.declared.script.fault.LineFault.TheVariants as fault
-use Rattle.source_words.specs.declared.script.fault.Stop.{Stop}
 use Rattle.source_words.specs.Reading.{◌>>=◌, only_if, there, Gives}
 use Rattle.source_words.specs.Word.{word_at, register_of, register_below, choice_of, kind_of, bytes_at}
 use Rattle.source_words.specs.Operands.{read, register_at, within_at, choice_at, little_at, guid_at, counted_at, registers_within, registers_at, block_at, guid_arg_at, last_at, descriptor_at, hob_at, small_at, operands_at}
 use Rattle.source_words.specs.Action.{action_of, code_of_name, code_or_fault, other_phase, log_of, logged, is_logged}
-use Rattle.source_words.specs.Script.{IsSaid}
 
 -- an answer came of a value
 pub bound : {A B : Type 0} (r : Result A LineFault) (f : A → Result B LineFault) (y : B) → (r >>= f) ≡ Ok y → (x : A) × (r ≡ Ok x) × (f x ≡ Ok y)

@@ -1,21 +1,15 @@
 -- A text says one expression, and says one where nothing is wrong with it.
-use Rattle.std.proofs.Common.{◌≡◌, ◌⊎◌, inl, inr, ℕ, zero, ◌<◌, ◌≤◌, true, false, List, [], ◌∷◌, length, Some, None, Result, Ok, Err, refl, sym, ap, subst, ◌∙◌, arith}
-use Rattle.std.specs.Prelude.{IfOk, IfErr}
-use Rattle.pi_base.specs.declared.guid.Guid.{Guid}
-use Rattle.pi_base.specs.declared.phase.Phase.{Phase}
+use Rattle.std.proofs.Common.{◌≡◌, ◌⊎◌, inl, inr, ℕ, zero, ◌<◌, ◌≤◌, true, false, List, [], ◌∷◌, length, Some, None, Result, Ok, Err, refl, sym, ap, subst, ◌∙◌, arith, IfOk, IfErr}
+use Rattle.pi_base.specs.{declared.guid.Guid.Guid, declared.phase.Phase.Phase}
 use Rattle.pi_base.specs.declared.phase.Phase.TheVariants.{Pei, Dxe}
-use Rattle.depex_code.specs.declared.depex.Depex.{Depex}
+use Rattle.depex_code.specs.{declared.depex.Depex.Depex, Tree.DepexTree, Expression.IsOfPhase, Expression.instructions}
 use Rattle.depex_code.specs.declared.depex.Depex.TheVariants as depex
-use Rattle.depex_code.specs.Tree.{DepexTree}
-use Rattle.depex_code.specs.Expression.{IsOfPhase, instructions}
-use Rattle.source_words.specs.declared.depex.fault.ExpressionFault.{ExpressionFault}
+use Rattle.source_words.specs.{declared.depex.fault.ExpressionFault.ExpressionFault, declared.depex.walk.Stage.TheVariants.Due}
 use Rattle.source_words.specs.declared.depex.fault.ExpressionFault.TheVariants.{NoOperand, NoGuid, Extra, Bracket, OtherPhase, TooLong, Memory}
-use Rattle.source_words.specs.declared.depex.walk.Stage.TheVariants.{Due}
 use Rattle.source_words.specs.declared.depex.token.Leaf.TheVariants as leaf
 use Rattle.source_words.specs.declared.depex.token.First.TheVariants as first
-use Rattle.source_words.specs.declared.depex.token.Token.{Token}
+use Rattle.source_words.specs.{declared.depex.token.Token.Token, Tokens.tokens}
 use Rattle.source_words.specs.declared.depex.token.Token.TheVariants as token
-use Rattle.source_words.specs.Tokens.{tokens}
 use Rattle.source_words.specs.Cause.{IsCause, tree_cause, beside_cause, expression_cause}
 use Rattle.source_words.specs.Expression.{IsGuidOf, IsTreeOf, AreOf, Says, IsRefused, GivesBack}
 use Rattle.source_words.proofs.Parts.{no_end_cause, end_has_no_cause}

@@ -1,24 +1,12 @@
 -- The tree of words.
-use Rattle.std.proofs.Common.{◌≡◌, inl, inr, zero, List, [], ◌∷◌, ◌++◌, Option, Some, None, refl, sym, ap, subst, ◌∙◌}
-use Rattle.std.proofs.Common.{rules}
-use Rattle.std.specs.Prelude.{IfNone}
-use Rattle.std.specs.Option.{IsSome}
-use Rattle.std.proofs.lemmas.List.{append-nil}
-use Rattle.depex_code.specs.declared.opcode.Opcode.{Opcode}
-use Rattle.depex_code.specs.Tree.{DepexTree, postfix}
-use Rattle.depex_code.specs.TreeCode.{tree_of-postfix}
+use Rattle.std.proofs.Common.{◌≡◌, inl, inr, zero, List, [], ◌∷◌, ◌++◌, Option, Some, None, refl, sym, ap, subst, ◌∙◌, rules, IfNone, IsSome, append-nil}
+use Rattle.depex_code.specs.{declared.opcode.Opcode.Opcode, Tree.DepexTree, Tree.postfix, TreeCode.tree_of-postfix}
 use Rattle.depex_code.specs.TreeCode as code
 use Rattle.source_words.specs.declared.depex.walk.Stage.TheVariants.{Due, Ended}
-use Rattle.source_words.specs.declared.depex.token.First.{First}
-use Rattle.source_words.specs.declared.depex.token.Token.{Token}
+use Rattle.source_words.specs.{declared.depex.token.First.First, declared.depex.token.Token.Token, Written.tree_of, Cause.tree_cause}
 use Rattle.source_words.specs.declared.depex.token.Token.TheVariants as token
-use Rattle.source_words.specs.Written.{tree_of}
-use Rattle.source_words.specs.Cause.{tree_cause}
-use Rattle.source_words.specs.Emission.{emitted}
-use Rattle.source_words.specs.Expression.{IsEnd, IsTreeOf}
-use Rattle.source_words.proofs.Passing.{passes}
-use Rattle.source_words.proofs.Writing.{IsClosing, writes}
-use Rattle.source_words.proofs.Parts.{complete}
+use Rattle.source_words.specs.{Emission.emitted, Expression.IsEnd, Expression.IsTreeOf}
+use Rattle.source_words.proofs.{Passing.passes, Writing.IsClosing, Writing.writes, Parts.complete}
 
 closing_end : (end : List Token) → IsEnd end → IsClosing end
 closing_end end (inl e) = subst IsClosing (sym e) tt

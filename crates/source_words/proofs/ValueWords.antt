@@ -1,22 +1,13 @@
 -- What is printed of a value is read as it.
-use Rattle.std.proofs.Common.{◌≡◌, ℕ, ◌+◌, ◌*◌, ◌<◌, ◌≤◌, ◌^◌, ◌&&◌, Bool, true, false, List, [], ◌∷◌, length, map, Some, refl, sym, ap, ◌∙◌, arith, decimal}
-use Rattle.std.specs.Prelude.{nat_lt, bytes_eq, codes, ◌==◌, option_map}
-use Rattle.std.specs.List.{list_all}
-use Rattle.std.specs.Fmt.{digits}
+use Rattle.std.proofs.Common.{◌≡◌, ℕ, ◌+◌, ◌*◌, ◌<◌, ◌≤◌, ◌^◌, ◌&&◌, Bool, true, false, List, [], ◌∷◌, length, map, Some, refl, sym, ap, ◌∙◌, arith, decimal, nat_lt, bytes_eq, codes, ◌==◌, option_map}
+use Rattle.std.specs.{List.list_all, Fmt.digits}
 use Rattle.std.specs.Char.{digit_value, is_digit, to_ascii_lowercase}
 use Rattle.std.specs.Str.Parse.{AllDigits, digits_value, digits_value_after}
-use Rattle.std.proofs.Math.Nat.{pow-suc, pow-zero}
-use Rattle.std.proofs.lemmas.Bool.{and_from}
-use Rattle.std.proofs.lemmas.Bool.Decides.{nat_tests}
-use Rattle.std.proofs.lemmas.List.{length-map}
-use Rattle.pi_base.specs.declared.guid.Guid.{Guid}
-use Rattle.pi_base.specs.WordText.{hexadecimal, guid_text}
+use Rattle.std.proofs.{Math.Nat.pow-suc, Math.Nat.pow-zero, lemmas.Bool.and_from, lemmas.Bool.Decides.nat_tests, lemmas.List.length-map}
+use Rattle.pi_base.specs.{declared.guid.Guid.Guid, WordText.hexadecimal, WordText.guid_text}
 use Rattle.line_words.specs.PrintedWords.{IsGuid}
-use Rattle.line_words.proofs.Comparisons.{same}
-use Rattle.line_words.proofs.GuidWords.{guid_long, guid_back}
-use Rattle.line_words.proofs.Numerals.{numeral}
+use Rattle.line_words.proofs.{Comparisons.same, GuidWords.guid_long, GuidWords.guid_back, Numerals.numeral, Values.is_number}
 use Rattle.line_words.specs.Number.{value_in, number_in, number_of}
-use Rattle.line_words.proofs.Values.{is_number}
 use Rattle.source_words.specs.Words.{is_keyword}
 use Rattle.source_words.specs.GuidWord.{unbraced, guid_spelled, guid_of}
 use Rattle.source_words.proofs.Characters.{no_brace}

@@ -1,22 +1,13 @@
 -- A draft at none of whose lines something is wrong is a script.
-use Rattle.std.proofs.Common.{◌≡◌, ◌≢◌, ℕ, suc, zero, ◌+◌, ◌-◌, ◌<◌, ◌≤◌, Bool, true, false, not, List, [], ◌∷◌, ◌++◌, length, Option, Some, None, refl, sym, ap, subst, ◌∙◌, arith, All}
-use Rattle.std.specs.Prelude.{nat_le, nat_lt, slice_get, ◌==◌, if◌then◌else◌}
-use Rattle.std.specs.List.{list_all, AllByRecursion}
-use Rattle.std.specs.Option.{option_map_or}
-use Rattle.std.proofs.lemmas.Bool.{and_parts, and_from}
-use Rattle.std.proofs.lemmas.Bool.Decides.{nat_tests}
-use Rattle.std.proofs.lemmas.List.{length-append}
-use Rattle.std.proofs.lemmas.List.Elements.{recursion_from_All}
-use Rattle.std.proofs.lemmas.Option.{slice_get-get_or}
-use Rattle.std.proofs.Math.Seq.{get_or-append_seam}
+use Rattle.std.proofs.Common.{◌≡◌, ◌≢◌, ℕ, suc, zero, ◌+◌, ◌-◌, ◌<◌, ◌≤◌, Bool, true, false, not, List, [], ◌∷◌, ◌++◌, length, Option, Some, None, refl, sym, ap, subst, ◌∙◌, arith, All, nat_le, nat_lt, slice_get, ◌==◌, if◌then◌else◌, length-append}
+use Rattle.std.specs.{List.list_all, List.AllByRecursion, Option.option_map_or}
+use Rattle.std.proofs.{lemmas.Bool.and_parts, lemmas.Bool.and_from, lemmas.Bool.Decides.nat_tests, lemmas.List.Elements.recursion_from_All}
+use Rattle.std.proofs.{lemmas.Option.slice_get-get_or, Math.Seq.get_or-append_seam}
 use Rattle.pi_base.specs.declared.phase.Phase.{Phase}
-use Rattle.act_code.specs.declared.action.Action.{Action}
-use Rattle.act_code.specs.declared.script.Script.{Script}
-use Rattle.act_code.specs.Format.{registers_in, blocks_in}
+use Rattle.act_code.specs.{declared.action.Action.Action, declared.script.Script.Script, Format.registers_in, Format.blocks_in}
 use Rattle.act_code.specs.Table.{format_of, code_of_action, operands}
-use Rattle.act_code.specs.Index.{has_room, names_below}
+use Rattle.act_code.specs.{Index.has_room, Index.names_below, ScriptReading.ends_in_ret}
 use Rattle.act_code.specs.Script.{IsSound, IsBlock, IsInGrammar, Each}
-use Rattle.act_code.specs.ScriptReading.{ends_in_ret}
 use Rattle.source_words.specs.declared.script.script.ScriptCause.{ScriptCause}
 use Rattle.source_words.specs.declared.script.script.ScriptCause.TheVariants.{NoBlock, NoRet, Jump, NoSuchBlock, Full}
 use Rattle.source_words.specs.Script.{IsSaid, AreSaid, action_cause, action_causes, may_end, block_cause, end_cause, causes_behind, line_causes, first_fault}

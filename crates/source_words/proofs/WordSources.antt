@@ -1,14 +1,10 @@
 -- What any source gives, for the words of a line.
-use Rattle.std.proofs.Common.{◌≡◌, ℕ, List, length, Result, Ok, Err, refl, ap}
-use Rattle.std.specs.Prelude.{◌==◌}
-use Rattle.act_code.specs.declared.action.Action.{Action}
-use Rattle.act_code.specs.declared.code.Code.{Code}
+use Rattle.std.proofs.Common.{◌≡◌, ℕ, List, length, Result, Ok, Err, refl, ap, ◌==◌}
+use Rattle.act_code.specs.{declared.action.Action.Action, declared.code.Code.Code, Table.format_of, Table.made}
 use Rattle.act_code.specs.Format.{Format, Value, Nothing, Byte, Pair}
-use Rattle.act_code.specs.Table.{format_of, made}
 use Rattle.act_code.specs.Source.{Stops as SourceStops, read_by, operands_by}
-use Rattle.source_words.specs.declared.script.fault.LineFault.{LineFault}
+use Rattle.source_words.specs.{declared.script.fault.LineFault.LineFault, declared.script.fault.Stop.Stop}
 use Rattle.source_words.specs.declared.script.fault.LineFault.TheVariants as fault
-use Rattle.source_words.specs.declared.script.fault.Stop.{Stop}
 use Rattle.source_words.specs.declared.script.fault.Stop.TheVariants as stop
 use Rattle.source_words.specs.Reading.{◌>>=◌, only_if, Stops, cause_of, answer_of}
 use Rattle.source_words.specs.Operands.{read, word_way, operands_at}

@@ -1,17 +1,14 @@
 -- The opcodes that are written of an expression are those of its tree.
-use Rattle.std.proofs.Common.{◌≡◌, ◌⊎◌, inl, inr, ◌&&◌, Bool, true, false, List, [], ◌∷◌, ◌++◌, refl, sym, ap, ◌∙◌}
+use Rattle.std.proofs.Common.{◌≡◌, ◌⊎◌, inl, inr, ◌&&◌, Bool, true, false, List, [], ◌∷◌, ◌++◌, refl, sym, ap, ◌∙◌, append_assoc}
 use Rattle.std.specs.Prelude.{⊤}
-use Rattle.std.proofs.lemmas.List.{append_assoc}
 use Rattle.depex_code.specs.declared.opcode.Opcode.TheVariants as opcode
 use Rattle.depex_code.specs.Tree.{DepexTree, postfix}
 use Rattle.source_words.specs.declared.depex.stack.Waiting.{Waiting}
 use Rattle.source_words.specs.declared.depex.stack.Waiting.TheVariants.{Negation, Bracket, Between}
 use Rattle.source_words.specs.declared.depex.walk.Stage.TheVariants.{Due, Ended}
-use Rattle.source_words.specs.declared.depex.token.Leaf.{Leaf}
+use Rattle.source_words.specs.{declared.depex.token.Leaf.Leaf, declared.depex.token.Operator.Operator, declared.depex.token.Token.Token}
 use Rattle.source_words.specs.declared.depex.token.Leaf.TheVariants as leaf
-use Rattle.source_words.specs.declared.depex.token.Operator.{Operator}
 use Rattle.source_words.specs.declared.depex.token.Operator.TheVariants as operator
-use Rattle.source_words.specs.declared.depex.token.Token.{Token}
 use Rattle.source_words.specs.declared.depex.token.Token.TheVariants as token
 use Rattle.source_words.specs.Written.{Written, Alone, Negated, Bracketed, Joined, is_operand, is_grouped, tokens_of, tree_of, leaf_tree, operator_tree}
 use Rattle.source_words.specs.Emission.{emitted, nots, behind_nots, leaf_opcode, operator_opcode}

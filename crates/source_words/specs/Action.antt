@@ -1,20 +1,13 @@
 -- The line of an action: its name and its operands. `log` has the rest of its line as its text (own).
 use Rattle.std.specs.Prelude.{ℕ, Bool, ◌&&◌, if◌then◌else◌, bytes_eq, codes, List, length, drop, Option, Some, None, Result, Ok, Err}
 use Rattle.std.specs.List.{list_all}
-use Rattle.pi_base.specs.declared.phase.Phase.{Phase}
-use Rattle.pi_base.specs.declared.phase.Phase.TheVariants.{Pei, Dxe}
-use Rattle.act_code.specs.declared.action.Action.{Action}
+use Rattle.pi_base.specs.{declared.phase.Phase.Phase, declared.phase.Phase.TheVariants.Pei, declared.phase.Phase.TheVariants.Dxe}
+use Rattle.act_code.specs.{declared.action.Action.Action, declared.code.Code.Code, Format.is_within}
 use Rattle.act_code.specs.declared.action.Action.TheVariants as action
-use Rattle.act_code.specs.declared.code.Code.{Code}
-use Rattle.act_code.specs.Format.{is_within}
 use Rattle.asm_text.specs.LineReading.{code_named}
-use Rattle.source_words.specs.Words.{words}
-use Rattle.source_words.specs.declared.script.fault.LineFault.{LineFault}
+use Rattle.source_words.specs.{Words.words, declared.script.fault.LineFault.LineFault, Reading.◌>>=◌, Reading.only_if}
 use Rattle.source_words.specs.declared.script.fault.LineFault.TheVariants as fault
-use Rattle.source_words.specs.Reading.{◌>>=◌, only_if}
-use Rattle.source_words.specs.Line.{unindented, behind_blank}
-use Rattle.source_words.specs.Word.{word_at}
-use Rattle.source_words.specs.Operands.{operands_at}
+use Rattle.source_words.specs.{Line.unindented, Line.behind_blank, Word.word_at, Operands.operands_at}
 
 abbrev pub other_phase : Phase → Phase
 other_phase Pei = Dxe

@@ -1,14 +1,11 @@
 -- What is wrong with the first word with which no expression goes on, or with the end of the words.
 use Rattle.std.specs.Prelude.{◌≡◌, ⊤, ℕ, zero, suc, ◌+◌, List, [], ◌∷◌, Option, Some, None}
-use Rattle.pi_base.specs.declared.phase.Phase.{Phase}
-use Rattle.pi_base.specs.declared.phase.Phase.TheVariants.{Pei, Dxe}
-use Rattle.source_words.specs.declared.depex.fault.ExpressionFault.{ExpressionFault}
+use Rattle.pi_base.specs.{declared.phase.Phase.Phase, declared.phase.Phase.TheVariants.Pei, declared.phase.Phase.TheVariants.Dxe}
+use Rattle.source_words.specs.{declared.depex.fault.ExpressionFault.ExpressionFault, declared.depex.walk.Stage.Stage}
 use Rattle.source_words.specs.declared.depex.fault.ExpressionFault.TheVariants.{NoOperand, NoGuid, Extra, Bracket, OtherPhase, Memory}
-use Rattle.source_words.specs.declared.depex.walk.Stage.{Stage}
 use Rattle.source_words.specs.declared.depex.walk.Stage.TheVariants.{Due, Ended, Over}
-use Rattle.source_words.specs.declared.depex.token.Token.{Token}
+use Rattle.source_words.specs.{declared.depex.token.Token.Token, declared.depex.token.Leaf.TheVariants.Push}
 use Rattle.source_words.specs.declared.depex.token.Token.TheVariants.{Leaf, Not, Open, Close, Operator, First, End, Other}
-use Rattle.source_words.specs.declared.depex.token.Leaf.TheVariants.{Push}
 use Rattle.source_words.specs.declared.depex.token.First.{First as FirstWord}
 use Rattle.source_words.specs.declared.depex.token.First.TheVariants.{Sor, Before, After}
 

@@ -2,17 +2,13 @@
 use Rattle.std.specs.Prelude.{◌≡◌, ◌+◌, ◌≤◌, List, [], ◌∷◌, ◌++◌, Option, Some, None, Result, Ok, Err}
 use Rattle.depex_code.specs.declared.opcode.Opcode.{Opcode}
 use Rattle.depex_code.specs.declared.opcode.Opcode.TheVariants as opcode
-use Rattle.source_words.specs.declared.depex.fault.ExpressionFault.{ExpressionFault}
-use Rattle.source_words.specs.declared.depex.stack.Waiting.{Waiting}
+use Rattle.source_words.specs.{declared.depex.fault.ExpressionFault.ExpressionFault, declared.depex.stack.Waiting.Waiting}
 use Rattle.source_words.specs.declared.depex.stack.Waiting.TheVariants as waiting
-use Rattle.source_words.specs.declared.depex.walk.Stage.{Stage}
+use Rattle.source_words.specs.{declared.depex.walk.Stage.Stage, declared.depex.walk.Walk.Walk, declared.depex.token.Leaf.Leaf as LeafWord}
 use Rattle.source_words.specs.declared.depex.walk.Stage.TheVariants.{Due, Ended, Over}
-use Rattle.source_words.specs.declared.depex.walk.Walk.{Walk}
-use Rattle.source_words.specs.declared.depex.token.Leaf.{Leaf as LeafWord}
 use Rattle.source_words.specs.declared.depex.token.Leaf.TheVariants as leaf
-use Rattle.source_words.specs.declared.depex.token.Operator.{Operator as OperatorWord}
+use Rattle.source_words.specs.{declared.depex.token.Operator.Operator as OperatorWord, declared.depex.token.Token.Token}
 use Rattle.source_words.specs.declared.depex.token.Operator.TheVariants as operator
-use Rattle.source_words.specs.declared.depex.token.Token.{Token}
 use Rattle.source_words.specs.declared.depex.token.Token.TheVariants.{Leaf, Not, Open, Close, Operator}
 use Rattle.source_words.specs.Cause.{IsCause, tree_cause}
 

@@ -1,21 +1,15 @@
 -- What the words of an expression say.
 use Rattle.std.specs.Prelude.{◌≡◌, ◌⊎◌, ℕ, zero, ◌<◌, ⊤, true, false, List, [], ◌∷◌, ◌++◌, length, Option, Some, None, Result, Ok, Err}
-use Rattle.pi_base.specs.declared.guid.Guid.{Guid}
-use Rattle.pi_base.specs.declared.phase.Phase.{Phase}
-use Rattle.depex_code.specs.declared.opcode.Opcode.{Opcode}
-use Rattle.depex_code.specs.declared.depex.Depex.{Depex}
+use Rattle.pi_base.specs.{declared.guid.Guid.Guid, declared.phase.Phase.Phase}
+use Rattle.depex_code.specs.{declared.opcode.Opcode.Opcode, declared.depex.Depex.Depex, Tree.DepexTree}
 use Rattle.depex_code.specs.declared.depex.Depex.TheVariants as depex
-use Rattle.depex_code.specs.Tree.{DepexTree}
 use Rattle.depex_code.specs.Expression.{IsOfPhase, instructions}
 use Rattle.source_words.specs.declared.depex.fault.ExpressionFault.{ExpressionFault}
 use Rattle.source_words.specs.declared.depex.fault.ExpressionFault.TheVariants.{Memory, TooLong}
-use Rattle.source_words.specs.declared.depex.walk.Stage.TheVariants.{Due}
-use Rattle.source_words.specs.declared.depex.token.Leaf.TheVariants.{Push}
-use Rattle.source_words.specs.declared.depex.token.First.{First as FirstWord}
+use Rattle.source_words.specs.{declared.depex.walk.Stage.TheVariants.Due, declared.depex.token.Leaf.TheVariants.Push}
+use Rattle.source_words.specs.{declared.depex.token.First.First as FirstWord, declared.depex.token.Token.Token, Tokens.tokens}
 use Rattle.source_words.specs.declared.depex.token.First.TheVariants.{Sor, Before, After}
-use Rattle.source_words.specs.declared.depex.token.Token.{Token}
 use Rattle.source_words.specs.declared.depex.token.Token.TheVariants.{Leaf, First, End}
-use Rattle.source_words.specs.Tokens.{tokens}
 use Rattle.source_words.specs.Written.{Written, is_grouped, tokens_of, tree_of}
 use Rattle.source_words.specs.Cause.{IsCause, tree_cause, end_cause, beside_cause, expression_cause}
 use Rattle.source_words.specs.Emission.{emitted}

@@ -1,8 +1,7 @@
 -- GUIDs as people write them (own): the usual text in either case, in braces or not, or one of seven names.
 use Rattle.std.specs.Prelude.{ℕ, ◌-◌, ◌&&◌, ◌==◌, bytes_eq, nat_lt, if◌then◌else◌, List, length, take, drop, slice_index, Option, Some, option_map, codes}
-use Rattle.pi_base.specs.declared.guid.Guid.{Guid}
+use Rattle.pi_base.specs.{declared.guid.Guid.Guid, GuidText.guid_of_text}
 use Rattle.pi_base.specs.declared.known_guid.TheConstants.{VOLUME_INFO_PPI, MEMORY_PPI, DXE_IPL_PPI}
-use Rattle.pi_base.specs.GuidText.{guid_of_text}
 use Rattle.fv_volume.specs.declared.volume_header.TheConstants.{FFS2, FFS3}
 use Rattle.source_words.specs.declared.guid.TheConstants.{PEI_APRIORI, DXE_APRIORI}
 

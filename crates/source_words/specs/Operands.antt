@@ -1,20 +1,14 @@
 -- Reading the operands of an action from left to right (own).
 use Rattle.std.specs.Prelude.{ℕ, zero, suc, ◌^◌, ◌==◌, nat_lt, if◌then◌else◌, codes, List, [], ◌∷◌, length, Result, Ok, Err}
 use Rattle.line_words.specs.Number.{number_of}
-use Rattle.pi_base.specs.declared.word.Word.{Word}
-use Rattle.pi_base.specs.declared.guid.Guid.{Guid}
-use Rattle.act_code.specs.declared.action.Action.{Action}
-use Rattle.act_code.specs.declared.action.GuidArg.{GuidArg}
+use Rattle.pi_base.specs.{declared.word.Word.Word, declared.guid.Guid.Guid}
+use Rattle.act_code.specs.{declared.action.Action.Action, declared.action.GuidArg.GuidArg}
 use Rattle.act_code.specs.declared.action.GuidArg.TheVariants.{Inline, Register}
-use Rattle.act_code.specs.declared.code.Code.{Code}
+use Rattle.act_code.specs.{declared.code.Code.Code, Table.format_of, Table.made, Source.Way}
 use Rattle.act_code.specs.declared.code.Code.TheVariants as code
 use Rattle.act_code.specs.Format.{Format, Value, is_within, is_hob, Nothing, Byte, Within, RegisterNumber, BlockNumber, Little, GuidBytes, WordNumber, Counted, Text, Registers, Descriptor, HobBody, Pair}
-use Rattle.act_code.specs.Table.{format_of, made}
-use Rattle.source_words.specs.Words.{is_keyword}
-use Rattle.source_words.specs.GuidWord.{guid_of}
-use Rattle.source_words.specs.declared.script.fault.LineFault.{LineFault}
+use Rattle.source_words.specs.{Words.is_keyword, GuidWord.guid_of, declared.script.fault.LineFault.LineFault}
 use Rattle.source_words.specs.declared.script.fault.LineFault.TheVariants as fault
-use Rattle.act_code.specs.Source.{Way}
 use Rattle.source_words.specs.Reading.{◌>>=◌, only_if, there, answer_of}
 use Rattle.source_words.specs.Word.{word_at, register_of, choice_of, kind_of, status_of, bytes_at}
 

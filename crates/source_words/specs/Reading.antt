@@ -1,8 +1,7 @@
 -- Reading a line from left to right: a value and the words behind it, or what is wrong.
 use Rattle.std.specs.Prelude.{◌≡◌, ⊤, Bool, if◌then◌else◌, Option, Some, None, Result, Ok, Err}
 pub use Rattle.act_code.specs.Source.{◌>>=◌}
-use Rattle.source_words.specs.declared.script.fault.LineFault.{LineFault}
-use Rattle.source_words.specs.declared.script.fault.Stop.{Stop}
+use Rattle.source_words.specs.{declared.script.fault.LineFault.LineFault, declared.script.fault.Stop.Stop}
 use Rattle.source_words.specs.declared.script.fault.Stop.TheVariants as stop
 
 -- a value that passes a test

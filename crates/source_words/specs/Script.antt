@@ -2,14 +2,11 @@
 use Rattle.std.specs.Prelude.{◌≡◌, ℕ, ◌+◌, ◌-◌, ◌<◌, ⊤, Bool, nat_le, ◌==◌, not, true, if◌then◌else◌, List, [], ◌∷◌, ◌++◌, length, slice_get, Option, Some, None, All}
 use Rattle.std.specs.Option.{option_map_or}
 use Rattle.pi_base.specs.declared.phase.Phase.{Phase}
-use Rattle.act_code.specs.declared.action.Action.{Action}
-use Rattle.act_code.specs.declared.script.Script.{Script}
+use Rattle.act_code.specs.{declared.action.Action.Action, declared.script.Script.Script, ScriptReading.ends_in_ret}
 use Rattle.act_code.specs.Index.{is_indexed, names_below, has_room}
 use Rattle.act_code.specs.Script.{IsAction, IsInGrammar, IsScript, script_bytes}
-use Rattle.act_code.specs.ScriptReading.{ends_in_ret}
-use Rattle.source_words.specs.declared.script.script.ScriptCause.{ScriptCause}
+use Rattle.source_words.specs.{declared.script.script.ScriptCause.ScriptCause, declared.script.script.ScriptFault.ScriptFault}
 use Rattle.source_words.specs.declared.script.script.ScriptCause.TheVariants.{NoBlock, NoRet, Jump, NoSuchBlock, Full}
-use Rattle.source_words.specs.declared.script.script.ScriptFault.{ScriptFault}
 use Rattle.source_words.specs.declared.script.script.ScriptFault.TheVariants.{Bad, TooLong, Memory}
 
 -- an action that a line can say: of the phase, its operands in their ranges, registers below 16 and blocks below 64

@@ -1,9 +1,7 @@
 -- The words of an expression (EDK2's INF files, `[Depex]`): keywords in any case, brackets, GUIDs and their names.
 use Rattle.std.specs.Prelude.{ℕ, if◌then◌else◌, List, map, codes, Option, Some, None}
 use Rattle.pi_base.specs.declared.guid.Guid.{Guid}
-use Rattle.source_words.specs.Words.{words, is_keyword}
-use Rattle.source_words.specs.GuidWord.{guid_of}
-use Rattle.source_words.specs.declared.depex.token.Token.{Token}
+use Rattle.source_words.specs.{Words.words, Words.is_keyword, GuidWord.guid_of, declared.depex.token.Token.Token}
 use Rattle.source_words.specs.declared.depex.token.Token.TheVariants as token
 use Rattle.source_words.specs.declared.depex.token.Leaf.TheVariants as leaf
 use Rattle.source_words.specs.declared.depex.token.Operator.TheVariants as operator

@@ -1,16 +1,10 @@
 -- The words of a line, each as the value that it shows (own).
-use Rattle.std.specs.Prelude.{ℕ, ◌==◌, nat_lt, if◌then◌else◌, codes, List, [], ◌∷◌, Option, Some, None, Result, Ok, Err}
-use Rattle.std.specs.Option.{option_and_then}
-use Rattle.std.specs.List.{find, flat_map}
-use Rattle.hex.specs.Hex.{decode_of}
-use Rattle.hex.specs.declared.error.FromHexError.{FromHexError}
+use Rattle.std.specs.Prelude.{ℕ, ◌==◌, nat_lt, if◌then◌else◌, codes, List, [], ◌∷◌, Option, Some, None, Result, Ok, Err, option_and_then, find, flat_map}
+use Rattle.hex.specs.{Hex.decode_of, declared.error.FromHexError.FromHexError}
 use Rattle.line_words.specs.Number.{number_of}
-use Rattle.pi_base.specs.declared.word.Word.{Word}
-use Rattle.pi_base.specs.WordText.{word_text}
-use Rattle.source_words.specs.Words.{is_keyword}
-use Rattle.source_words.specs.declared.script.fault.LineFault.{LineFault}
+use Rattle.pi_base.specs.{declared.word.Word.Word, WordText.word_text}
+use Rattle.source_words.specs.{Words.is_keyword, declared.script.fault.LineFault.LineFault, declared.script.word.TheConstants.STATUSES}
 use Rattle.source_words.specs.declared.script.fault.LineFault.TheVariants as fault
-use Rattle.source_words.specs.declared.script.word.TheConstants.{STATUSES}
 
 -- the first word, and the others
 abbrev pub word_at : List (List ℕ) → Result (List ℕ × List (List ℕ)) LineFault

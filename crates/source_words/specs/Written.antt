@@ -1,11 +1,9 @@
 -- An expression as it is written, with its brackets: NOT binds first, AND and OR alike, and both are grouped from the right (EDK2, `GenDepex`).
 use Rattle.std.specs.Prelude.{Bool, true, false, ◌&&◌, List, [], ◌∷◌, ◌++◌}
 use Rattle.depex_code.specs.Tree.{DepexTree, True, False, Push, Not, And, Or}
-use Rattle.source_words.specs.declared.depex.token.Leaf.{Leaf}
+use Rattle.source_words.specs.{declared.depex.token.Leaf.Leaf, declared.depex.token.Operator.Operator, declared.depex.token.Token.Token}
 use Rattle.source_words.specs.declared.depex.token.Leaf.TheVariants as leaf
-use Rattle.source_words.specs.declared.depex.token.Operator.{Operator}
 use Rattle.source_words.specs.declared.depex.token.Operator.TheVariants as operator
-use Rattle.source_words.specs.declared.depex.token.Token.{Token}
 use Rattle.source_words.specs.declared.depex.token.Token.TheVariants as token
 
 pub data Written : Type 0 where

@@ -1,17 +1,10 @@
 -- The answers about a state are those of its image.
-use Rattle.std.proofs.Common.{◌≡◌, ℕ, zero, suc, Bool, true, false, cond, ◌||◌, List, [], ◌∷◌, ap, refl, sym, ◌∙◌}
-use Rattle.std.specs.Prelude.{map, filter, option_map, slice_get}
+use Rattle.std.proofs.Common.{◌≡◌, ℕ, zero, suc, Bool, true, false, cond, ◌||◌, List, [], ◌∷◌, ap, refl, sym, ◌∙◌, map, filter, option_map, slice_get}
 use Rattle.std.specs.List.{list_any}
-use Rattle.pi_base.specs.declared.guid.Guid.{Guid}
-use Rattle.pi_base.specs.Field.{ReadsWhatItSpells}
+use Rattle.pi_base.specs.{declared.guid.Guid.Guid, Field.ReadsWhatItSpells, Guids.same_guid}
 use Rattle.phys_mem.specs.declared.rom.Rom.{Rom}
-use Rattle.store_model.specs.declared.state.Entry.{Entry}
-use Rattle.store_model.specs.declared.state.Pending.{Pending}
-use Rattle.pi_base.specs.Guids.{same_guid}
-use Rattle.store_model.specs.StoreState.{StoreState}
-use Rattle.store_model.specs.HeapImage.{heap_image}
-use Rattle.store_model.specs.Service.Descriptor.{guid_at, number_at}
-use Rattle.store_model.specs.declared.store_handle.EntryList.{EntryList}
+use Rattle.store_model.specs.{declared.state.Entry.Entry, declared.state.Pending.Pending, StoreState.StoreState, HeapImage.heap_image}
+use Rattle.store_model.specs.{Service.Descriptor.guid_at, Service.Descriptor.number_at, declared.store_handle.EntryList.EntryList}
 use Rattle.store_model.specs.declared.store_handle.EntryList.TheVariants.{Ppis, Callbacks, Dispatches, Pendings}
 use Rattle.store_laws.specs.Items.{items, first_address}
 use Rattle.store_laws.specs.Told.{Told, list_told, queue_told, image_told, entry_said}

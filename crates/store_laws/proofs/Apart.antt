@@ -1,15 +1,10 @@
 -- The nodes of the four lists of a state differ, and are nodes.
-use Rattle.std.proofs.Common.{◌≡◌, ◌≢◌, ℕ, ◌≤◌, List, ◌∷◌, ◌++◌, drop, arith, ap, sym, subst, ◌∙◌, Some, append_assoc}
-use Rattle.std.specs.Prelude.{map}
-use Rattle.store_model.specs.declared.state.Entry.{Entry}
-use Rattle.store_model.specs.declared.state.Pending.{Pending}
-use Rattle.store_model.specs.declared.state.Body.TheVariants.{Node}
-use Rattle.store_model.specs.declared.store_handle.DescKind.{DescKind}
+use Rattle.std.proofs.Common.{◌≡◌, ◌≢◌, ℕ, ◌≤◌, List, ◌∷◌, ◌++◌, drop, arith, ap, sym, subst, ◌∙◌, Some, append_assoc, map}
+use Rattle.store_model.specs.{declared.state.Entry.Entry, declared.state.Pending.Pending, declared.state.Body.TheVariants.Node}
+use Rattle.store_model.specs.{declared.store_handle.DescKind.DescKind, StoreState.StoreState, StoreState.end_place, HeapImage.links_at}
 use Rattle.store_model.specs.declared.store_handle.DescKind.TheVariants.{Ppi, Callback, Dispatch}
 use Rattle.pi_base.specs.Lists.{Each, Ordered}
-use Rattle.store_model.specs.StoreState.{StoreState, end_place}
 use Rattle.store_model.specs.StateFacts.{IsStoreState, IsEntry, IsPending, IsNodeAt, nodes}
-use Rattle.store_model.specs.HeapImage.{links_at}
 use Rattle.store_model.specs.declared.store_handle.EntryList.{EntryList}
 use Rattle.store_model.specs.declared.store_handle.EntryList.TheVariants.{Ppis, Callbacks, Dispatches, Pendings}
 use Rattle.store_laws.specs.Items.{Item, item_of, queued_item, items, places_of, first_address, links_before, links_of_lists, earlier_lists, later_lists}

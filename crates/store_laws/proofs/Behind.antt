@@ -1,31 +1,22 @@
 -- The entries of a list are told one behind the other, each once, since their nodes differ.
-use Rattle.std.proofs.Common.{◌≡◌, ◌≢◌, ℕ, ◌+◌, ◌<◌, ◌≤◌, ◌^◌, Bool, true, false, cond, List, [], ◌∷◌, ◌++◌, length, ap, arith, refl, sym, subst, ◌∙◌, Option, Some, None, ◌==◌, eqb}
-use Rattle.std.specs.Prelude.{map, ◌||◌, slice_get}
+use Rattle.std.proofs.Common.{◌≡◌, ◌≢◌, ℕ, ◌+◌, ◌<◌, ◌≤◌, ◌^◌, Bool, true, false, cond, List, [], ◌∷◌, ◌++◌, length, ap, arith, refl, sym, subst, ◌∙◌, Option, Some, None, ◌==◌, eqb, map, ◌||◌, slice_get}
 use Rattle.std.specs.List.{list_any}
-use Rattle.std.proofs.lemmas.Bool.Decides.{Decides-eqb, nat_tests}
-use Rattle.std.proofs.lemmas.Map.Made.{IsDistinct-from_AllPairs}
-use Rattle.std.proofs.lemmas.Map.Steps.{length-le_from_distinct_below}
-use Rattle.std.proofs.lemmas.List.{length-map, map-append}
+use Rattle.std.proofs.{lemmas.Bool.Decides.Decides-eqb, lemmas.Bool.Decides.nat_tests, lemmas.Map.Made.IsDistinct-from_AllPairs}
+use Rattle.std.proofs.{lemmas.Map.Steps.length-le_from_distinct_below, lemmas.List.length-map, lemmas.List.map-append}
 use Rattle.pi_base.specs.Lists.{Each}
 use Rattle.pi_base.proofs.ListFacts.{each_more, each_of_map}
-use Rattle.store_model.specs.declared.limits.TheConstants.{NOTE_NUMBERS}
-use Rattle.store_model.specs.declared.store_handle.EntryList.{EntryList}
+use Rattle.store_model.specs.{declared.limits.TheConstants.NOTE_NUMBERS, declared.store_handle.EntryList.EntryList}
 use Rattle.store_model.specs.declared.store_handle.EntryList.TheVariants.{Ppis, Callbacks, Dispatches, Pendings}
-use Rattle.store_model.specs.declared.store_handle.EntryTold.{EntryTold}
-use Rattle.store_model.specs.declared.store_handle.DescKind.{DescKind}
+use Rattle.store_model.specs.{declared.store_handle.EntryTold.EntryTold, declared.store_handle.DescKind.DescKind}
 use Rattle.store_model.specs.declared.store_handle.DescKind.TheVariants.{Ppi, Callback, Dispatch}
-use Rattle.store_model.specs.declared.state.Body.TheVariants.{Node}
-use Rattle.store_model.specs.declared.state.Entry.{Entry}
-use Rattle.store_model.specs.declared.state.Pending.{Pending}
+use Rattle.store_model.specs.{declared.state.Body.TheVariants.Node, declared.state.Entry.Entry, declared.state.Pending.Pending}
 use Rattle.store_model.specs.StoreState.{StoreState, end_place, handoff_len}
 use Rattle.store_model.specs.StateFacts.{IsDescriptorAt, IsEntry, IsNodeAt, IsPending, IsStoreState}
 use Rattle.store_model.specs.Service.Descriptor.{number_at}
 use Rattle.store_model.specs.Service.Reading.{behind_node, entry_behind, entry_told, pending_told, told_behind, told_of}
 use Rattle.store_laws.specs.Behind.{EntriesAreTold, IsToldFirst, left_behind}
 use Rattle.store_laws.proofs.Items.{differ_from, each_left, each_right, each_to_map, ordered_left, ordered_right, pairs_of_ordered}
-use Rattle.store_laws.proofs.Bodies.{body_before}
-use Rattle.store_laws.proofs.Fits.{all_fit}
-use Rattle.store_laws.proofs.Named.{entry_of, named}
+use Rattle.store_laws.proofs.{Bodies.body_before, Fits.all_fit, Named.entry_of, Named.named}
 use Rattle.store_laws.proofs.Sound.{Differ, node_of, pending_node, sound_of}
 
 abbrev told_node : EntryTold → ℕ

@@ -1,10 +1,8 @@
 -- Where bodies stand after a HOB was added, and after one body was changed.
 use Rattle.std.proofs.Common.{◌≡◌, ◌≢◌, ℕ, ◌+◌, ◌<◌, Bool, true, false, cond, List, [], ◌∷◌, ◌++◌, arith, sym, refl, ap, subst, ◌∙◌, Option, Some, ◌==◌, sum_by}
-use Rattle.std.proofs.lemmas.List.Sums.{sum_by-cons}
-use Rattle.std.proofs.lemmas.Bool.Decides.{nat_tests}
+use Rattle.std.proofs.{lemmas.List.Sums.sum_by-cons, lemmas.Bool.Decides.nat_tests}
 use Rattle.pi_base.specs.Lists.{Each}
-use Rattle.store_model.specs.declared.state.Body.{Body}
-use Rattle.store_model.specs.declared.state.HobEntry.{HobEntry}
+use Rattle.store_model.specs.{declared.state.Body.Body, declared.state.HobEntry.HobEntry}
 use Rattle.store_model.specs.StoreState.{StoreState, appended, body_from, body_len, handoff_len, hob_len, with_body}
 use Rattle.store_laws.specs.Bodies.{IsGrown}
 use Rattle.store_laws.proofs.Places.{apart, past}

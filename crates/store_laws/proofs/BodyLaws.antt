@@ -1,12 +1,9 @@
 -- Bodies stay where they stand, and stand between the hand-off HOB and the end HOB.
 use Rattle.std.proofs.Common.{◌≡◌, ℕ, ◌+◌, ◌%◌, ◌≤◌, Bool, true, false, cond, List, [], ◌∷◌, ap, arith, refl, Some, ◌==◌, sum_by}
-use Rattle.std.proofs.lemmas.Bool.Decides.{nat_tests}
-use Rattle.std.proofs.lemmas.List.Sums.{sum_by-cons}
+use Rattle.std.proofs.{lemmas.Bool.Decides.nat_tests, lemmas.List.Sums.sum_by-cons}
 use Rattle.pi_base.specs.Lists.{Each}
-use Rattle.store_model.specs.declared.state.Body.{Body}
-use Rattle.store_model.specs.declared.state.HobEntry.{HobEntry}
+use Rattle.store_model.specs.{declared.state.Body.Body, declared.state.HobEntry.HobEntry, StateFacts.IsHobEntry}
 use Rattle.store_model.specs.StoreState.{Board, body_from, body_len, end_place, handoff_len, header_len, hob_len, next_body}
-use Rattle.store_model.specs.StateFacts.{IsHobEntry}
 use Rattle.store_laws.specs.Bodies.{BodiesStay, BodiesAreInside}
 use Rattle.store_laws.proofs.Bodies.{elsewhere, grown_by, here, new_body}
 use Rattle.store_laws.proofs.Moved.{moved_at}

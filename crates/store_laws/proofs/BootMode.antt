@@ -1,21 +1,14 @@
 -- The hand-off HOB changed alone.
-use Rattle.std.proofs.Common.{◌≡◌, ℕ, ◌+◌, ◌-◌, ◌≤◌, List, ◌++◌, length, arith, ap, refl, sym, ◌∙◌, append_assoc, length-append}
-use Rattle.std.specs.Prelude.{replicate}
+use Rattle.std.proofs.Common.{◌≡◌, ℕ, ◌+◌, ◌-◌, ◌≤◌, List, ◌++◌, length, arith, ap, refl, sym, ◌∙◌, append_assoc, length-append, replicate}
 use Rattle.pi_base.specs.Field.{little_bytes}
 use Rattle.phys_mem.specs.Region.{replaced}
 use Rattle.hob_codec.specs.declared.kind.TheConstants.{END}
-use Rattle.store_model.specs.declared.state.Body.{Body}
+use Rattle.store_model.specs.{declared.state.Body.Body, declared.state.HobEntry.HobEntry, StoreState.StoreState}
 use Rattle.store_model.specs.declared.state.Body.TheVariants.{Bytes, Descriptor, Node, Allocation}
-use Rattle.store_model.specs.declared.state.HobEntry.{HobEntry}
-use Rattle.store_model.specs.StoreState.{StoreState}
 use Rattle.store_model.specs.HeapImage.{header_bytes, hobs_bytes, body_bytes}
 use Rattle.store_model.specs.Service.Memory.{with_boot_mode}
-use Rattle.store_laws.specs.Growing.{front_bytes}
-use Rattle.store_laws.specs.Changes.{BootModesAreWritten}
-use Rattle.store_laws.proofs.HeapBodies.{is_spelled}
-use Rattle.store_laws.proofs.Mapped.{replaced_front}
-use Rattle.store_laws.proofs.Parts.{replaced_len}
-use Rattle.store_laws.proofs.Growing.{same_spelled}
+use Rattle.store_laws.specs.{Growing.front_bytes, Changes.BootModesAreWritten}
+use Rattle.store_laws.proofs.{HeapBodies.is_spelled, Mapped.replaced_front, Parts.replaced_len, Growing.same_spelled}
 
 fronted : (old new hobs end text : List ℕ) (len at : ℕ) → new ≡ replaced old at text → at + length text ≤ length old
     → new ++ hobs ++ end ++ replicate (len - length (new ++ hobs ++ end)) 0 ≡ replaced (old ++ hobs ++ end ++ replicate (len - length (old ++ hobs ++ end)) 0) at text

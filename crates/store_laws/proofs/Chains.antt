@@ -1,9 +1,7 @@
 -- The nodes that are linked are those of the list.
 use Rattle.std.proofs.Common.{◌≡◌, ℕ, zero, suc, ◌+◌, ◌-◌, ◌≤◌, false, List, [], ◌∷◌, length, drop, arith, ap, refl, ◌∙◌, ◌==◌}
 use Rattle.pi_base.specs.Field.{ReadsWhatItSpells}
-use Rattle.store_model.specs.StoreState.{StoreState}
-use Rattle.store_model.specs.StateFacts.{IsStoreState}
-use Rattle.store_model.specs.HeapImage.{heap_image}
+use Rattle.store_model.specs.{StoreState.StoreState, StateFacts.IsStoreState, HeapImage.heap_image}
 use Rattle.store_model.specs.declared.store_handle.EntryList.{EntryList}
 use Rattle.store_laws.specs.Items.{Item, items, first_address}
 use Rattle.store_laws.specs.Word.{word_in}

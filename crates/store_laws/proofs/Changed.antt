@@ -1,21 +1,15 @@
 -- What holds of every state is kept where bytes are written into a pool, and where the first queued pair leaves the queue.
-use Rattle.std.proofs.Common.{◌≡◌, ◌≢◌, ℕ, ◌+◌, ◌≤◌, ◌%◌, List, ◌∷◌, ◌++◌, length, take, drop, arith, sym, refl, ap, subst, ◌∙◌, Some, append_assoc, length-append, length-take, length-drop}
-use Rattle.std.specs.Prelude.{map}
+use Rattle.std.proofs.Common.{◌≡◌, ◌≢◌, ℕ, ◌+◌, ◌≤◌, ◌%◌, List, ◌∷◌, ◌++◌, length, take, drop, arith, sym, refl, ap, subst, ◌∙◌, Some, append_assoc, length-append, length-take, length-drop, map}
 use Rattle.hob_codec.specs.declared.kind.TheConstants.{POOL, ALLOCATION}
 use Rattle.pi_base.specs.Lists.{Each}
 use Rattle.pi_base.proofs.ListFacts.{each_both, each_more, each_of_map}
-use Rattle.store_model.specs.declared.store_handle.DescKind.{DescKind}
+use Rattle.store_model.specs.{declared.store_handle.DescKind.DescKind, declared.store_handle.Pool.Pool, declared.state.Entry.Entry}
 use Rattle.store_model.specs.declared.store_handle.DescKind.TheVariants.{Ppi, Callback, Dispatch}
-use Rattle.store_model.specs.declared.store_handle.Pool.{Pool}
-use Rattle.store_model.specs.declared.state.Entry.{Entry}
-use Rattle.store_model.specs.declared.state.Pending.{Pending}
-use Rattle.store_model.specs.declared.state.Body.{Body}
+use Rattle.store_model.specs.{declared.state.Pending.Pending, declared.state.Body.Body, declared.state.HobEntry.HobEntry}
 use Rattle.store_model.specs.declared.state.Body.TheVariants.{Bytes, Descriptor, Node}
-use Rattle.store_model.specs.declared.state.HobEntry.{HobEntry}
 use Rattle.store_model.specs.StoreState.{Board, StoreState, body_at, body_len, handoff_len, header_len, hob_len, with_body}
 use Rattle.store_model.specs.StateFacts.{HasTypesLength, IsBodyOf, IsDescriptorAt, IsEntry, IsHobEntry, IsNodeAt, IsPending, IsPool}
-use Rattle.store_model.specs.Service.Pool.{written}
-use Rattle.store_model.specs.Service.Queue.{zeroed}
+use Rattle.store_model.specs.{Service.Pool.written, Service.Queue.zeroed}
 use Rattle.store_laws.specs.Bodies.{changed}
 use Rattle.store_laws.proofs.Items.{differ_from, each_left, each_right, ordered_drop}
 use Rattle.store_laws.proofs.Bodies.{each_changed, elsewhere}

@@ -1,30 +1,20 @@
 -- What is read from a descriptor in the image.
-use Rattle.std.proofs.Common.{◌≡◌, ◌⊎◌, ℕ, ◌+◌, ◌-◌, ◌≤◌, ◌<◌, ◌^◌, Bool, true, false, cond, List, [], ◌∷◌, length, take, drop, arith, ap, refl, sym, ◌∙◌, Option, Some, None}
-use Rattle.std.specs.Prelude.{unwrap_or, IfSome}
+use Rattle.std.proofs.Common.{◌≡◌, ◌⊎◌, ℕ, ◌+◌, ◌-◌, ◌≤◌, ◌<◌, ◌^◌, Bool, true, false, cond, List, [], ◌∷◌, length, take, drop, arith, ap, refl, sym, ◌∙◌, Option, Some, None, unwrap_or, IfSome, take_at}
 use Rattle.std.specs.Option.{option_or}
 use Rattle.std.proofs.lemmas.Bool.Decides.{nat_tests}
-use Rattle.std.proofs.lemmas.List.{take_at}
-use Rattle.pi_base.specs.declared.guid.Guid.{Guid}
-use Rattle.pi_base.specs.Field.{little_bytes, ReadsWhatItSpells}
-use Rattle.phys_mem.specs.Region.{is_inside}
-use Rattle.phys_mem.specs.declared.rom.Rom.{Rom}
-use Rattle.store_model.specs.declared.state.Body.TheVariants.{Descriptor}
-use Rattle.store_model.specs.declared.state.DescriptorBody.{DescriptorBody}
-use Rattle.store_model.specs.declared.store_handle.DescKind.{DescKind}
+use Rattle.pi_base.specs.{declared.guid.Guid.Guid, Field.little_bytes, Field.ReadsWhatItSpells, Lists.Each}
+use Rattle.phys_mem.specs.{Region.is_inside, declared.rom.Rom.Rom}
+use Rattle.store_model.specs.{declared.state.Body.TheVariants.Descriptor, declared.state.DescriptorBody.DescriptorBody}
+use Rattle.store_model.specs.{declared.store_handle.DescKind.DescKind, StateFacts.IsStoreState, StateFacts.IsGuidOf}
 use Rattle.store_model.specs.declared.store_handle.DescKind.TheVariants.{Ppi, Callback, Dispatch}
-use Rattle.pi_base.specs.Lists.{Each}
 use Rattle.store_model.specs.StoreState.{StoreState, body_at, body_len, descriptor_len, end_place}
-use Rattle.store_model.specs.StateFacts.{IsStoreState, IsGuidOf}
 use Rattle.store_model.specs.HeapImage.{heap_image, kind_flags, guid_address, guid_behind, descriptor_bytes}
 use Rattle.store_model.specs.MemoryReading.{rom_bytes}
-use Rattle.store_laws.specs.Fitting.{IsFittingDescriptor}
-use Rattle.store_laws.proofs.Fits.{all_fit, body_is_of}
-use Rattle.store_laws.specs.Word.{word_in}
+use Rattle.store_laws.specs.{Fitting.IsFittingDescriptor, Word.word_in}
+use Rattle.store_laws.proofs.{Fits.all_fit, Fits.body_is_of, Outside.roms_are_apart, Reading.image_at}
 use Rattle.store_laws.specs.Descriptors.{AreRomsApart, guid_read, FlagsAreRead, AddressesAreRead, GuidsAreRead, NumbersAreRead}
 use Rattle.store_laws.proofs.Facts.{bodies_are_spelled, places_are_inside, images_fill, has_room}
-use Rattle.store_laws.proofs.Outside.{roms_are_apart}
 use Rattle.store_laws.proofs.Front.{number_is, low_word, append_nil}
-use Rattle.store_laws.proofs.Reading.{image_at}
 use Rattle.store_laws.proofs.Nodes.{piece_of, descriptor_long}
 
 guid_fact : (s : StoreState) (place : ℕ) (d : DescriptorBody) → IsStoreState s → body_at s place ≡ Some (Descriptor d) → IsGuidOf s.board d d.stands

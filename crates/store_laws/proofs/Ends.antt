@@ -1,13 +1,11 @@
 -- A list of items with one more behind the others.
 use Rattle.std.proofs.Common.{◌≡◌, ◌≢◌, ℕ, ◌+◌, Bool, true, false, cond, List, [], ◌∷◌, ◌++◌, length, drop, ap, refl, sym, Some, ◌==◌}
-use Rattle.pi_base.specs.Field.{little_bytes}
+use Rattle.pi_base.specs.{Field.little_bytes, Lists.Ordered}
 use Rattle.phys_mem.specs.Region.{replaced}
-use Rattle.pi_base.specs.Lists.{Ordered}
 use Rattle.store_model.specs.HeapImage.{links_bytes}
 use Rattle.store_laws.specs.Items.{Item, places_of, links_before, links_among}
 use Rattle.store_laws.specs.Linking.{last_place}
-use Rattle.store_laws.proofs.Lists.{each_append}
-use Rattle.store_laws.proofs.HeapItems.{Lacks, other_is}
+use Rattle.store_laws.proofs.{Lists.each_append, HeapItems.Lacks, HeapItems.other_is}
 
 -- a list is empty, or it has a last item
 pub data Ends (list : List Item) : Type 0 where

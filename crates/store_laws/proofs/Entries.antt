@@ -1,22 +1,16 @@
 -- What holds of every state is kept where the entries and pairs of a whole call are added, one after the other.
-use Rattle.std.proofs.Common.{◌≡◌, ◌≢◌, ℕ, Bool, true, false, List, [], ◌∷◌, sym, refl, ap, subst, ◌∙◌}
-use Rattle.std.specs.Prelude.{map, fold, not, if◌then◌else◌, ◌&&◌, ◌||◌}
+use Rattle.std.proofs.Common.{◌≡◌, ◌≢◌, ℕ, Bool, true, false, List, [], ◌∷◌, sym, refl, ap, subst, ◌∙◌, map, fold, not, if◌then◌else◌, ◌&&◌, ◌||◌}
 use Rattle.std.specs.List.{list_all, list_any}
-use Rattle.pi_base.specs.Guids.{same_guid}
-use Rattle.pi_base.specs.Lists.{Each}
+use Rattle.pi_base.specs.{Guids.same_guid, Lists.Each}
 use Rattle.pi_base.proofs.ListFacts.{each_append, each_filter, each_more}
-use Rattle.store_model.specs.declared.store_handle.DescKind.{DescKind}
+use Rattle.store_model.specs.{declared.store_handle.DescKind.DescKind, declared.store_handle.Desc.Desc, declared.state.Entry.Entry}
 use Rattle.store_model.specs.declared.store_handle.DescKind.TheVariants.{Ppi, Callback, Dispatch}
-use Rattle.store_model.specs.declared.store_handle.Desc.{Desc}
-use Rattle.store_model.specs.declared.state.Entry.{Entry}
 use Rattle.store_model.specs.StoreState.{StoreState}
 use Rattle.store_model.specs.StateFacts.{IsDesc, IsDescriptorAt, IsEntry}
 use Rattle.store_model.specs.Service.Descriptor.{descriptors, guid_at, is_callback, is_ppi, kind_at, offsets}
 use Rattle.store_model.specs.Service.Install.{install_pairs, installed, pairs_of, reinstall_pairs, reinstalled, renamed, with_pending, with_ppi}
 use Rattle.store_model.specs.Service.Notify.{new_dispatches, notified, notify_pairs, with_note}
-use Rattle.store_laws.specs.Bodies.{IsGrown}
-use Rattle.store_laws.specs.Keeping.{IsWord}
-use Rattle.store_laws.specs.Steps.{IsPair}
+use Rattle.store_laws.specs.{Bodies.IsGrown, Keeping.IsWord, Steps.IsPair}
 use Rattle.store_laws.proofs.Sound.{IsSound, descriptor_grows}
 use Rattle.store_laws.proofs.Steps.{grown_node, kind_is, renamed_sound, with_note_sound, with_pending_sound, with_ppi_sound}
 

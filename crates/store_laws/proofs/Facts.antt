@@ -1,19 +1,14 @@
 -- What the facts of a state say of its image.
-use Rattle.std.proofs.Common.{◌≡◌, ℕ, ◌+◌, ◌-◌, ◌≤◌, List, ◌++◌, length, arith, ap, refl, ◌∙◌, Option, Some, None, length-append}
-use Rattle.std.specs.Prelude.{replicate}
+use Rattle.std.proofs.Common.{◌≡◌, ℕ, ◌+◌, ◌-◌, ◌≤◌, List, ◌++◌, length, arith, ap, refl, ◌∙◌, Option, Some, None, length-append, replicate}
 use Rattle.std.proofs.lemmas.List.{length-replicate}
 use Rattle.hob_codec.specs.declared.kind.TheConstants.{END}
 use Rattle.boot_plan.specs.declared.limits.TheConstants.{MOST_END}
-use Rattle.store_model.specs.declared.state.Body.{Body}
+use Rattle.store_model.specs.{declared.state.Body.Body, StateFacts.IsStoreState}
 use Rattle.store_model.specs.StoreState.{StoreState, end_place, body_at, body_len}
-use Rattle.store_model.specs.StateFacts.{IsStoreState}
 use Rattle.store_model.specs.HeapImage.{header_bytes, body_bytes, hobs_bytes, heap_image, links_bytes, Links}
-use Rattle.store_laws.proofs.Fits.{all_fit}
-use Rattle.store_laws.specs.Spelling.{AreSpelled}
-use Rattle.store_laws.specs.Growing.{front_bytes}
-use Rattle.store_laws.specs.Facts.{ImagesFill}
+use Rattle.store_laws.proofs.{Fits.all_fit, Growing.spelled_len}
+use Rattle.store_laws.specs.{Spelling.AreSpelled, Growing.front_bytes, Facts.ImagesFill}
 use Rattle.store_laws.proofs.HeapBodies.{is_spelled, body_behind, body_inside}
-use Rattle.store_laws.proofs.Growing.{spelled_len}
 
 pub node_is_32 : (links : Option Links) → length (links_bytes links) ≡ 32
 node_is_32 None = refl

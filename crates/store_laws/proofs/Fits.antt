@@ -1,13 +1,11 @@
 -- Descriptors fit their fields, and the heap lies where a plan lets it.
-use Rattle.std.proofs.Common.{◌≡◌, ℕ, ◌+◌, ◌*◌, ◌≤◌, ◌<◌, ◌^◌, Bool, true, false, cond, List, [], ◌∷◌, length, arith, refl, subst, Option, Some, None, ◌==◌, sum_by}
+use Rattle.std.proofs.Common.{◌≡◌, ℕ, ◌+◌, ◌*◌, ◌≤◌, ◌<◌, ◌^◌, Bool, true, false, cond, List, [], ◌∷◌, length, arith, refl, subst, Option, Some, None, ◌==◌, sum_by, IfSome}
 use Rattle.std.proofs.lemmas.List.Sums.{sum_by-cons}
-use Rattle.std.specs.Prelude.{IfSome}
 use Rattle.pi_base.specs.Lists.{Each}
 use Rattle.pi_base.proofs.ListFacts.{each_more}
 use Rattle.store_model.specs.HeapImage.{Links, body_bytes, links_bytes}
-use Rattle.store_model.specs.declared.state.Body.{Body}
+use Rattle.store_model.specs.{declared.state.Body.Body, declared.state.HobEntry.HobEntry}
 use Rattle.store_model.specs.declared.state.Body.TheVariants.{Allocation, Bytes, Descriptor, Node}
-use Rattle.store_model.specs.declared.state.HobEntry.{HobEntry}
 use Rattle.store_model.specs.StoreState.{Range, StoreState, body_at, body_from, body_len, handoff_len, header_len, hob_len}
 use Rattle.store_model.specs.StateFacts.{IsBoard, IsBodyOf, IsHeap, IsHobEntry, IsPlanned, IsStoreState}
 use Rattle.store_laws.specs.Fitting.{IsFittingHeap, IsSpelled, StatesFit}

@@ -1,21 +1,17 @@
 -- The hand-off HOB: what is read there, the fields that a HOB more changes, and the first image.
-use Rattle.std.proofs.Common.{◌≡◌, ℕ, ◌+◌, ◌-◌, ◌≤◌, ◌<◌, ◌^◌, List, [], ◌∷◌, ◌++◌, length, take, drop, arith, ap, refl, sym, ◌∙◌, append_assoc, length-append}
-use Rattle.std.specs.Prelude.{replicate}
+use Rattle.std.proofs.Common.{◌≡◌, ℕ, ◌+◌, ◌-◌, ◌≤◌, ◌<◌, ◌^◌, List, [], ◌∷◌, ◌++◌, length, take, drop, arith, ap, refl, sym, ◌∙◌, append_assoc, length-append, replicate}
 use Rattle.std.proofs.lemmas.List.{drop-replicate}
 use Rattle.pi_base.specs.Field.{little_bytes, little_number, ReadsWhatItSpells}
 use Rattle.phys_mem.specs.Region.{replaced}
 use Rattle.hob_codec.specs.declared.kind.TheConstants.{END}
-use Rattle.store_model.specs.declared.state.HobEntry.{HobEntry}
+use Rattle.store_model.specs.{declared.state.HobEntry.HobEntry, StateFacts.IsStoreState}
 use Rattle.store_model.specs.StoreState.{StoreState, empty_store, end_place, next_body, body_len, page_bytes}
-use Rattle.store_model.specs.StateFacts.{IsStoreState}
 use Rattle.store_model.specs.HeapImage.{header_bytes, hobs_bytes, hob_list, body_bytes, heap_image}
 use Rattle.store_laws.specs.Growing.{front_bytes, free_fields, grown, HasHobRoom}
 use Rattle.store_laws.specs.Word.{word_in}
 use Rattle.store_laws.specs.Front.{BootModesAreRead, FreeTopsAreRead, FreeBottomsAreRead, EndsAreRead, FreeIsRead, FirstImages}
-use Rattle.store_laws.proofs.Growing.{heaps_grow, hob_and_end}
+use Rattle.store_laws.proofs.{Growing.heaps_grow, Growing.hob_and_end, Parts.part_replaced, Reading.front_read}
 use Rattle.store_laws.proofs.Facts.{bodies_are_spelled, images_fill, has_room, heaps_are_low}
-use Rattle.store_laws.proofs.Parts.{part_replaced}
-use Rattle.store_laws.proofs.Reading.{front_read}
 
 pub append_nil : (xs : List ℕ) → xs ++ [] ≡ xs
 append_nil [] = refl

@@ -1,19 +1,14 @@
 -- The image of a heap with a HOB more.
-use Rattle.std.proofs.Common.{◌≡◌, ℕ, ◌+◌, ◌-◌, ◌≤◌, List, [], ◌∷◌, ◌++◌, length, drop, arith, ap, refl, sym, ◌∙◌, append_assoc, length-append, sum_by}
-use Rattle.std.specs.Prelude.{replicate}
-use Rattle.std.proofs.lemmas.List.{drop-drop, drop_at, drop-replicate}
-use Rattle.std.proofs.lemmas.List.Sums.{sum_by-cons}
+use Rattle.std.proofs.Common.{◌≡◌, ℕ, ◌+◌, ◌-◌, ◌≤◌, List, [], ◌∷◌, ◌++◌, length, drop, arith, ap, refl, sym, ◌∙◌, append_assoc, length-append, sum_by, replicate, drop-drop, drop_at}
+use Rattle.std.proofs.{lemmas.List.drop-replicate, lemmas.List.Sums.sum_by-cons}
 use Rattle.phys_mem.specs.Region.{replaced}
 use Rattle.hob_codec.specs.declared.kind.TheConstants.{END}
-use Rattle.store_model.specs.declared.state.Body.{Body}
+use Rattle.store_model.specs.{declared.state.Body.Body, declared.state.HobEntry.HobEntry}
 use Rattle.store_model.specs.declared.state.Body.TheVariants.{Bytes, Descriptor, Node, Allocation}
-use Rattle.store_model.specs.declared.state.HobEntry.{HobEntry}
 use Rattle.store_model.specs.StoreState.{StoreState, end_place, hob_len, body_len}
 use Rattle.store_model.specs.HeapImage.{header_bytes, body_bytes, hobs_bytes, heap_image}
-use Rattle.store_laws.specs.Spelling.{spelled, AreSpelled}
-use Rattle.store_laws.specs.Growing.{front_bytes, grown}
-use Rattle.store_laws.proofs.Pieces.{replaced_here, replaced_later}
-use Rattle.store_laws.proofs.HeapBodies.{is_spelled, hobs_are_appended}
+use Rattle.store_laws.specs.{Spelling.spelled, Spelling.AreSpelled, Growing.front_bytes, Growing.grown}
+use Rattle.store_laws.proofs.{Pieces.replaced_here, Pieces.replaced_later, HeapBodies.is_spelled, HeapBodies.hobs_are_appended}
 
 -- the HOB and an end HOB behind it
 abbrev pub hob_and_end : StoreState → HobEntry → List ℕ

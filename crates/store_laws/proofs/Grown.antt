@@ -1,15 +1,11 @@
 -- A state with a HOB more: its bodies stand where they stood, and the new one behind them.
 use Rattle.std.proofs.Common.{◌≡◌, ◌≢◌, ℕ, ◌+◌, Bool, true, false, cond, List, [], ◌∷◌, ◌++◌, length, arith, ap, refl, ◌∙◌, Option, Some, ◌==◌, sum_by}
-use Rattle.std.proofs.lemmas.Bool.Decides.{nat_tests}
-use Rattle.std.proofs.lemmas.List.Sums.{sum_by-cons, sum_by_push}
-use Rattle.store_model.specs.declared.state.Body.{Body}
+use Rattle.std.proofs.{lemmas.Bool.Decides.nat_tests, lemmas.List.Sums.sum_by-cons, lemmas.List.Sums.sum_by_push}
+use Rattle.store_model.specs.{declared.state.Body.Body, declared.state.HobEntry.HobEntry, HeapImage.body_bytes}
 use Rattle.store_model.specs.declared.state.Body.TheVariants.{Bytes, Descriptor, Node, Allocation}
-use Rattle.store_model.specs.declared.state.HobEntry.{HobEntry}
 use Rattle.store_model.specs.StoreState.{StoreState, appended, end_place, hob_len, body_len, body_from}
-use Rattle.store_model.specs.HeapImage.{body_bytes}
 use Rattle.store_laws.specs.Spelling.{AreSpelled}
-use Rattle.store_laws.proofs.Lists.{each_append, each_more}
-use Rattle.store_laws.proofs.HeapItems.{other_is}
+use Rattle.store_laws.proofs.{Lists.each_append, Lists.each_more, HeapItems.other_is}
 
 before_on : (b : Bool) (here : Body) (x y : Option Body) (body : Body) → (x ≡ Some body → y ≡ Some body) → cond b (Some here) x ≡ Some body → cond b (Some here) y ≡ Some body
 before_on true here x y body f h = h

@@ -1,20 +1,14 @@
 -- Each GUID has sixteen bytes: one behind its descriptor by what holds of every state, and one in a volume since sixteen were read there; and its address is low.
-use Rattle.std.proofs.Common.{◌≡◌, ℕ, ◌+◌, ◌-◌, ◌≤◌, ◌<◌, ◌^◌, true, List, [], ◌∷◌, length, take, drop, Option, Some, None, sym, ap, refl, ◌∙◌, arith, length-take, length-drop}
-use Rattle.std.specs.Prelude.{IfSome}
+use Rattle.std.proofs.Common.{◌≡◌, ℕ, ◌+◌, ◌-◌, ◌≤◌, ◌<◌, ◌^◌, true, List, [], ◌∷◌, length, take, drop, Option, Some, None, sym, ap, refl, ◌∙◌, arith, length-take, length-drop, IfSome}
 use Rattle.std.specs.Option.{option_or}
-use Rattle.std.proofs.lemmas.Option.{cond_some}
-use Rattle.std.proofs.lemmas.Bool.Decides.{nat_tests}
+use Rattle.std.proofs.{lemmas.Option.cond_some, lemmas.Bool.Decides.nat_tests}
 use Rattle.boot_plan.specs.declared.limits.TheConstants.{MOST_END}
-use Rattle.phys_mem.specs.declared.rom.Rom.{Rom}
-use Rattle.phys_mem.specs.Region.{is_inside, part_of}
+use Rattle.phys_mem.specs.{declared.rom.Rom.Rom, Region.is_inside, Region.part_of}
 use Rattle.pi_base.specs.Lists.{Each}
-use Rattle.store_model.specs.declared.store_handle.DescKind.{DescKind}
+use Rattle.store_model.specs.{declared.store_handle.DescKind.DescKind, declared.state.DescriptorBody.DescriptorBody}
 use Rattle.store_model.specs.declared.store_handle.DescKind.TheVariants.{Ppi, Callback, Dispatch}
-use Rattle.store_model.specs.declared.state.DescriptorBody.{DescriptorBody}
-use Rattle.store_model.specs.declared.state.Body.TheVariants.{Descriptor}
-use Rattle.store_model.specs.HeapImage.{descriptor_bytes, guid_behind}
-use Rattle.store_model.specs.MemoryReading.{rom_bytes}
-use Rattle.store_model.specs.StoreState.{Board, descriptor_len}
+use Rattle.store_model.specs.{declared.state.Body.TheVariants.Descriptor, HeapImage.descriptor_bytes, HeapImage.guid_behind}
+use Rattle.store_model.specs.{MemoryReading.rom_bytes, StoreState.Board, StoreState.descriptor_len}
 use Rattle.store_model.specs.StateFacts.{IsBoard, IsBodyOf, IsGuidOf, IsMapped, IsNumberOf}
 use Rattle.store_laws.specs.Fitting.{IsFittingDescriptor}
 

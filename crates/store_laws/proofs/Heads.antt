@@ -1,24 +1,15 @@
 -- The addresses of the first and the last node of a list.
-use Rattle.std.proofs.Common.{◌≢◌, ◌≤◌, ◌≡◌, ℕ, ◌+◌, ◌-◌, Bool, true, false, cond, List, [], ◌∷◌, ◌++◌, length, drop, arith, ap, refl, sym, ◌∙◌, ◌==◌}
-use Rattle.std.specs.Prelude.{map}
+use Rattle.std.proofs.Common.{◌≢◌, ◌≤◌, ◌≡◌, ℕ, ◌+◌, ◌-◌, Bool, true, false, cond, List, [], ◌∷◌, ◌++◌, length, drop, arith, ap, refl, sym, ◌∙◌, ◌==◌, map}
 use Rattle.pi_base.specs.Field.{little_bytes, ReadsWhatItSpells}
 use Rattle.phys_mem.specs.Region.{replaced}
-use Rattle.store_model.specs.declared.state.Entry.{Entry}
-use Rattle.store_model.specs.declared.state.Pending.{Pending}
-use Rattle.store_model.specs.StoreState.{StoreState, end_place}
-use Rattle.store_model.specs.StateFacts.{IsStoreState}
-use Rattle.store_model.specs.HeapImage.{heap_image}
-use Rattle.store_model.specs.Service.Install.{renamed}
-use Rattle.store_model.specs.declared.store_handle.EntryList.{EntryList}
-use Rattle.store_model.specs.declared.store_handle.EntryList.TheVariants.{Pendings}
+use Rattle.store_model.specs.{declared.state.Entry.Entry, declared.state.Pending.Pending, StoreState.StoreState, StoreState.end_place}
+use Rattle.store_model.specs.{StateFacts.IsStoreState, HeapImage.heap_image, Service.Install.renamed}
+use Rattle.store_model.specs.{declared.store_handle.EntryList.EntryList, declared.store_handle.EntryList.TheVariants.Pendings}
 use Rattle.store_laws.specs.Items.{Item, item_of, queued_item, items, places_of, first_address}
-use Rattle.store_laws.specs.Linking.{last_place, named_by}
-use Rattle.store_laws.specs.Word.{word_in}
+use Rattle.store_laws.specs.{Linking.last_place, Linking.named_by, Word.word_in}
 use Rattle.store_laws.specs.Heads.{last_address, named_at, LastIsNamed, LastIsInside, FirstIsPushed, LastIsPushed, ItemsArePushed, FirstIsPopped, LastIsPopped, PlacesAreKept, EndsAreKept}
-use Rattle.store_laws.proofs.Lists.{map_append}
-use Rattle.store_laws.proofs.HeapItems.{other_is}
+use Rattle.store_laws.proofs.{Lists.map_append, HeapItems.other_is, Nodes.node_place, Nodes.next_is_read}
 use Rattle.store_laws.proofs.Ends.{Ends, ends_none, ends_at, ends_of, last_is, drop_front}
-use Rattle.store_laws.proofs.Nodes.{node_place, next_is_read}
 
 pub last_is_pushed : LastIsPushed
 last_is_pushed base [] new = refl

@@ -1,10 +1,8 @@
 -- Each body stands where its HOB is.
 use Rattle.std.proofs.Common.{◌≡◌, ℕ, ◌+◌, ◌-◌, ◌≤◌, ◌<◌, Bool, true, false, cond, List, [], ◌∷◌, ◌++◌, length, take, drop, arith, ap, refl, sym, ◌∙◌, Option, Some, ◌==◌, sum_by, append_assoc, length-append}
-use Rattle.std.proofs.lemmas.Bool.Decides.{nat_tests}
-use Rattle.std.proofs.lemmas.List.Sums.{sum_by-cons}
+use Rattle.std.proofs.{lemmas.Bool.Decides.nat_tests, lemmas.List.Sums.sum_by-cons}
 use Rattle.phys_mem.specs.Region.{replaced}
-use Rattle.store_model.specs.declared.state.Body.{Body}
-use Rattle.store_model.specs.declared.state.HobEntry.{HobEntry}
+use Rattle.store_model.specs.{declared.state.Body.Body, declared.state.HobEntry.HobEntry}
 use Rattle.store_model.specs.StoreState.{StoreState, hob_len, body_len, body_from, with_body}
 use Rattle.store_model.specs.HeapImage.{header_bytes, body_bytes, hobs_bytes}
 use Rattle.store_laws.specs.Spelling.{spelled, AgreeBut, BodiesAreRead, BodiesAreWritten, HobsAreAppended}

@@ -1,28 +1,16 @@
 -- What is read from the header of a HOB.
-use Rattle.std.proofs.Common.{◌≡◌, ◌≢◌, ◌⊎◌, ℕ, ◌+◌, ◌-◌, ◌≤◌, ◌<◌, ◌^◌, Bool, true, false, cond, List, [], ◌∷◌, ◌++◌, length, take, drop, arith, ap, refl, sym, subst, ◌∙◌, Option, Some, None, ◌==◌, append_assoc, sum_by}
-use Rattle.std.specs.Prelude.{replicate, is_some}
-use Rattle.std.proofs.lemmas.Bool.Decides.{nat_tests}
-use Rattle.std.proofs.lemmas.List.{drop_at, drop-drop, take_at}
-use Rattle.std.proofs.lemmas.List.Sums.{sum_by-cons}
-use Rattle.pi_base.specs.Field.{little_bytes, ReadsWhatItSpells}
+use Rattle.std.proofs.Common.{◌≡◌, ◌≢◌, ◌⊎◌, ℕ, ◌+◌, ◌-◌, ◌≤◌, ◌<◌, ◌^◌, Bool, true, false, cond, List, [], ◌∷◌, ◌++◌, length, take, drop, arith, ap, refl, sym, subst, ◌∙◌, Option, Some, None, ◌==◌, append_assoc, sum_by, replicate, is_some, drop_at, drop-drop, take_at}
+use Rattle.std.proofs.{lemmas.Bool.Decides.nat_tests, lemmas.List.Sums.sum_by-cons}
+use Rattle.pi_base.specs.{Field.little_bytes, Field.ReadsWhatItSpells, Lists.Each}
 use Rattle.hob_codec.specs.declared.kind.TheConstants.{HANDOFF, END}
-use Rattle.store_model.specs.declared.state.Body.{Body}
-use Rattle.store_model.specs.declared.state.HobEntry.{HobEntry}
-use Rattle.store_model.specs.declared.store_handle.HobSpan.{HobSpan}
-use Rattle.pi_base.specs.Lists.{Each}
+use Rattle.store_model.specs.{declared.state.Body.Body, declared.state.HobEntry.HobEntry, declared.store_handle.HobSpan.HobSpan}
 use Rattle.store_model.specs.StoreState.{StoreState, end_place, hob_len, body_len}
-use Rattle.store_model.specs.StateFacts.{IsHobEntry, IsStoreState}
+use Rattle.store_model.specs.{StateFacts.IsHobEntry, StateFacts.IsStoreState, Service.Reading.span_from}
 use Rattle.store_model.specs.HeapImage.{header_bytes, hobs_bytes, hob_list, body_bytes, heap_image}
-use Rattle.store_model.specs.Service.Reading.{span_from}
-use Rattle.store_laws.specs.Spelling.{spelled, AreSpelled}
-use Rattle.store_laws.specs.Growing.{front_bytes}
-use Rattle.store_laws.specs.Word.{short_in}
+use Rattle.store_laws.specs.{Spelling.spelled, Spelling.AreSpelled, Growing.front_bytes, Word.short_in}
 use Rattle.store_laws.specs.Hobs.{span_told, HobsAreTold, HobPlacesAreInside}
-use Rattle.store_laws.proofs.Pieces.{piece_later}
-use Rattle.store_laws.proofs.HeapBodies.{is_spelled}
+use Rattle.store_laws.proofs.{Pieces.piece_later, HeapBodies.is_spelled, Front.number_is, Front.front_piece, Nodes.piece_of}
 use Rattle.store_laws.proofs.Facts.{bodies_are_spelled, bodies_len, has_room}
-use Rattle.store_laws.proofs.Front.{number_is, front_piece}
-use Rattle.store_laws.proofs.Nodes.{piece_of}
 use Rattle.store_laws.proofs.HeapItems.{other_is}
 
 -- a HOB among others: its type and length fit, its header stands at its place, and the next is behind it

@@ -1,12 +1,9 @@
 -- The node at a place, by a search among the items of the four lists.
-use Rattle.std.proofs.Common.{◌≡◌, ◌≢◌, ℕ, zero, suc, true, false, cond, List, [], ◌∷◌, ◌++◌, drop, arith, ap, refl, sym, subst, ◌∙◌, Option, Some, None, ◌==◌}
-use Rattle.std.specs.Prelude.{map}
+use Rattle.std.proofs.Common.{◌≡◌, ◌≢◌, ℕ, zero, suc, true, false, cond, List, [], ◌∷◌, ◌++◌, drop, arith, ap, refl, sym, subst, ◌∙◌, Option, Some, None, ◌==◌, map}
 use Rattle.std.specs.Option.{option_or}
 use Rattle.std.proofs.lemmas.Bool.Decides.{nat_tests}
-use Rattle.store_model.specs.declared.state.Entry.{Entry}
-use Rattle.store_model.specs.declared.state.Pending.{Pending}
+use Rattle.store_model.specs.{declared.state.Entry.Entry, declared.state.Pending.Pending, StoreState.StoreState}
 use Rattle.pi_base.specs.Lists.{Each, Ordered}
-use Rattle.store_model.specs.StoreState.{StoreState}
 use Rattle.store_model.specs.HeapImage.{Links, links_in, pending_links_in, links_at, first_node, first_pending}
 use Rattle.store_model.specs.declared.store_handle.EntryList.{EntryList}
 use Rattle.store_model.specs.declared.store_handle.EntryList.TheVariants.{Ppis, Callbacks, Dispatches, Pendings}

@@ -1,31 +1,21 @@
 -- The bytes of a state's heap are a HOB list: each HOB is read at its place without a fault, and the next stands behind it.
-use Rattle.std.proofs.Common.{◌≡◌, ◌≢◌, ℕ, ◌+◌, ◌-◌, ◌%◌, ◌≤◌, ◌<◌, ◌^◌, Bool, true, false, cond, List, [], ◌∷◌, ◌++◌, length, take, drop, arith, ap, refl, sym, subst, ◌∙◌, Option, Some, None, Ok, ◌==◌, ◌&&◌, ◌||◌, append_assoc, length-append, length-drop, length-take, sum_by}
-use Rattle.std.specs.Prelude.{replicate, not, is_some, nat_lt, nat_le}
-use Rattle.std.proofs.lemmas.Bool.Decides.{nat_tests}
-use Rattle.std.proofs.lemmas.List.{drop_at, drop-drop, take_at, take-append-drop}
-use Rattle.std.proofs.lemmas.List.Sums.{sum_by-cons}
+use Rattle.std.proofs.Common.{◌≡◌, ◌≢◌, ℕ, ◌+◌, ◌-◌, ◌%◌, ◌≤◌, ◌<◌, ◌^◌, Bool, true, false, cond, List, [], ◌∷◌, ◌++◌, length, take, drop, arith, ap, refl, sym, subst, ◌∙◌, Option, Some, None, Ok, ◌==◌, ◌&&◌, ◌||◌, append_assoc, length-append, length-drop, length-take, sum_by, replicate, not, is_some, nat_lt, nat_le, drop_at, drop-drop, take_at, take-append-drop}
+use Rattle.std.proofs.{lemmas.Bool.Decides.nat_tests, lemmas.List.Sums.sum_by-cons}
 use Rattle.pi_base.proofs.FieldLaws.{little_number-append}
-use Rattle.pi_base.specs.Field.{little_number, ReadsWhatItSpells}
-use Rattle.pi_base.specs.Lists.{Each}
+use Rattle.pi_base.specs.{Field.little_number, Field.ReadsWhatItSpells, Lists.Each}
 use Rattle.hob_codec.specs.declared.fault.HobFault.TheVariants.{Short, Length, Form}
 use Rattle.hob_codec.specs.declared.kind.TheConstants.{HANDOFF, ALLOCATION, RESOURCE, NAMED, VOLUME, CPU, POOL, VOLUME2, END}
-use Rattle.hob_codec.specs.declared.list.HobPlace.{HobPlace}
-use Rattle.hob_codec.specs.HobValue.{HobValue}
+use Rattle.hob_codec.specs.{declared.list.HobPlace.HobPlace, HobValue.HobValue}
 use Rattle.hob_codec.specs.HobList.{place_at, first_fault, fault_at, Leads, AreHobs}
 use Rattle.hob_codec.specs.HobReading.{of_length, hob_of, kind_at, length_at, body_at, header_fault, formed, behind, reading}
-use Rattle.store_model.specs.declared.state.Body.{Body}
+use Rattle.store_model.specs.{declared.state.Body.Body, declared.state.HobEntry.HobEntry}
 use Rattle.store_model.specs.declared.state.Body.TheVariants.{Bytes, Descriptor, Node, Allocation}
-use Rattle.store_model.specs.declared.state.HobEntry.{HobEntry}
 use Rattle.store_model.specs.StoreState.{StoreState, body_len, end_place, hob_len}
 use Rattle.store_model.specs.StateFacts.{HasTypesLength, IsBodyOf, IsHobEntry, IsStoreState}
 use Rattle.store_model.specs.HeapImage.{body_bytes, handoff_body, header_bytes, heap_image, hob_list, hobs_bytes}
-use Rattle.store_laws.specs.Spelling.{AreSpelled, spelled}
-use Rattle.store_laws.specs.Growing.{front_bytes}
+use Rattle.store_laws.specs.{Spelling.AreSpelled, Spelling.spelled, Growing.front_bytes}
 use Rattle.store_laws.specs.HobWalk.{places_from, hob_places, HaveBodies, WalksGiveHobs}
-use Rattle.store_laws.proofs.HeapBodies.{is_spelled}
-use Rattle.store_laws.proofs.Facts.{bodies_are_spelled, bodies_len}
-use Rattle.store_laws.proofs.HeapHobs.{header_tells}
-use Rattle.store_laws.proofs.HeapItems.{other_is}
+use Rattle.store_laws.proofs.{HeapBodies.is_spelled, Facts.bodies_are_spelled, Facts.bodies_len, HeapHobs.header_tells, HeapItems.other_is}
 
 -- a HOB stands at a place of these bytes
 record StandsAt (heap : List ℕ) (at kind : ℕ) (body : List ℕ) : Type 0 where

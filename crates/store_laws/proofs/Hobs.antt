@@ -6,13 +6,10 @@ use Rattle.hob_codec.specs.HobValue.{HobValue, HandoffHob, AllocationHob, Resour
 use Rattle.hob_codec.specs.HobValue as V
 use Rattle.hob_codec.specs.HobBytes.{length_of}
 use Rattle.store_model.specs.declared.state.Body.TheVariants.{Bytes, Descriptor}
-use Rattle.store_model.specs.declared.state.DescriptorBody.{DescriptorBody}
+use Rattle.store_model.specs.{declared.state.DescriptorBody.DescriptorBody, StoreCall.IsScriptHob, Service.Pool.most_pool}
 use Rattle.store_model.specs.StoreState.{Board, body_len, descriptor_len, header_len, hob_len, most_hob, pool_of, rounded}
 use Rattle.store_model.specs.StateFacts.{HasTypesLength, IsGuidOf, IsHobEntry, IsNumberOf}
-use Rattle.store_model.specs.StoreCall.{IsScriptHob}
-use Rattle.store_model.specs.Service.Pool.{most_pool}
-use Rattle.store_model.specs.Service.Hob.{hob_entry}
-use Rattle.store_model.specs.Service.Memory.{allocation_hob, page_len}
+use Rattle.store_model.specs.{Service.Hob.hob_entry, Service.Memory.allocation_hob, Service.Memory.page_len}
 use Rattle.store_laws.specs.Keeping.{IsScripted, IsWord}
 
 -- a pool and pages are of types whose body has any length

@@ -1,17 +1,11 @@
 -- The image by its parts, and a body of it written.
-use Rattle.std.proofs.Common.{◌≡◌, ℕ, ◌+◌, ◌-◌, ◌≤◌, List, ◌++◌, length, arith, ap, refl, sym, ◌∙◌, append_assoc, length-append}
-use Rattle.std.specs.Prelude.{replicate}
+use Rattle.std.proofs.Common.{◌≡◌, ℕ, ◌+◌, ◌-◌, ◌≤◌, List, ◌++◌, length, arith, ap, refl, sym, ◌∙◌, append_assoc, length-append, replicate}
 use Rattle.phys_mem.specs.Region.{replaced}
 use Rattle.hob_codec.specs.declared.kind.TheConstants.{END}
 use Rattle.store_model.specs.StoreState.{StoreState, end_place}
 use Rattle.store_model.specs.HeapImage.{header_bytes, body_bytes, hobs_bytes, heap_image}
-use Rattle.store_laws.specs.Spelling.{spelled, AreSpelled}
-use Rattle.store_laws.specs.Growing.{front_bytes}
-use Rattle.store_laws.proofs.HeapBodies.{is_spelled}
-use Rattle.store_laws.proofs.Mapped.{replaced_middle}
-use Rattle.store_laws.proofs.Facts.{bodies_len}
-use Rattle.store_laws.proofs.Growing.{spelled_len}
-use Rattle.store_laws.proofs.Parts.{replaced_len}
+use Rattle.store_laws.specs.{Spelling.spelled, Spelling.AreSpelled, Growing.front_bytes}
+use Rattle.store_laws.proofs.{HeapBodies.is_spelled, Mapped.replaced_middle, Facts.bodies_len, Growing.spelled_len, Parts.replaced_len}
 
 -- the end HOB and the zeros behind it
 abbrev tail_bytes : ℕ → ℕ → List ℕ

@@ -1,6 +1,5 @@
 -- Items put into a list and left out of it, beside what the list facts of `pi_base` say.
-use Rattle.std.proofs.Common.{◌≡◌, ◌≢◌, ℕ, zero, suc, ◌<◌, List, [], ◌∷◌, ◌++◌, length, arith, sym, subst, Some}
-use Rattle.std.specs.Prelude.{AllPairs, slice_index_or, slice_get, map}
+use Rattle.std.proofs.Common.{◌≡◌, ◌≢◌, ℕ, zero, suc, ◌<◌, List, [], ◌∷◌, ◌++◌, length, arith, sym, subst, Some, AllPairs, slice_index_or, slice_get, map}
 use Rattle.pi_base.specs.Lists.{Each, Ordered}
 use Rattle.pi_base.proofs.ListFacts.{each_more}
 

@@ -1,25 +1,18 @@
 -- An entry more in one of the four lists.
 use Rattle.std.proofs.Common.{◌≡◌, ◌≢◌, ℕ, ◌+◌, ◌≤◌, List, [], ◌∷◌, ◌++◌, length, take, drop, arith, ap, refl, sym, ◌∙◌, Some, None}
-use Rattle.pi_base.specs.Field.{little_bytes}
+use Rattle.pi_base.specs.{Field.little_bytes, Lists.Each}
 use Rattle.phys_mem.specs.Region.{replaced}
-use Rattle.store_model.specs.declared.state.Body.TheVariants.{Node}
-use Rattle.store_model.specs.declared.state.Entry.{Entry}
-use Rattle.store_model.specs.declared.state.Pending.{Pending}
-use Rattle.pi_base.specs.Lists.{Each}
+use Rattle.store_model.specs.{declared.state.Body.TheVariants.Node, declared.state.Entry.Entry, declared.state.Pending.Pending}
 use Rattle.store_model.specs.StoreState.{StoreState, end_place, next_body, pool_of}
-use Rattle.store_model.specs.StateFacts.{IsStoreState, IsNodeAt}
+use Rattle.store_model.specs.{StateFacts.IsStoreState, StateFacts.IsNodeAt, Service.Install.with_node, Service.Notify.note_entry}
 use Rattle.store_model.specs.HeapImage.{header_bytes, links_at, links_bytes, body_bytes, heap_image}
-use Rattle.store_model.specs.Service.Install.{with_node}
-use Rattle.store_model.specs.Service.Notify.{note_entry}
-use Rattle.store_laws.specs.Spelling.{AreSpelled}
+use Rattle.store_laws.specs.{Spelling.AreSpelled, Growing.NodesAreTexts}
 use Rattle.store_model.specs.declared.store_handle.EntryList.{EntryList}
 use Rattle.store_model.specs.declared.store_handle.EntryList.TheVariants.{Ppis, Callbacks, Dispatches, Pendings}
 use Rattle.store_laws.specs.Items.{Item, item_of, queued_item, items, places_of, links_before, links_of_lists, all_lists, earlier_lists, later_lists}
 use Rattle.hob_codec.specs.declared.kind.TheConstants.{POOL}
-use Rattle.store_laws.specs.Growing.{NodesAreTexts}
 use Rattle.store_laws.specs.Linking.{HasNodeRoom, last_place, named_by, with_last, PpisAreLinked, CallbacksAreLinked, DispatchesAreLinked, PairsAreLinked}
-use Rattle.store_laws.proofs.Lists.{each_behind, map_append}
-use Rattle.store_laws.proofs.Parts.{part_replaced, replaced_len}
+use Rattle.store_laws.proofs.{Lists.each_behind, Lists.map_append, Parts.part_replaced, Parts.replaced_len}
 use Rattle.store_laws.proofs.Facts.{bodies_are_spelled, places_are_inside, node_is_32, image_len}
 use Rattle.store_laws.proofs.HeapItems.{Lacks, links_are, split_lists, lists_here, lists_same, found_among, lists_none}
 use Rattle.store_laws.proofs.Apart.{list_differs, earlier_lack, items_have_nodes, lacks_next, links_of_item}

@@ -1,6 +1,5 @@
 -- Words on lists: a fact of each item, and of each pair in order.
-use Rattle.std.proofs.Common.{◌≡◌, ℕ, zero, suc, ◌<◌, List, [], ◌∷◌, ◌++◌, length, drop, arith, ap, refl, subst}
-use Rattle.std.specs.Prelude.{AllPairs, slice_index_or, map}
+use Rattle.std.proofs.Common.{◌≡◌, ℕ, zero, suc, ◌<◌, List, [], ◌∷◌, ◌++◌, length, drop, arith, ap, refl, subst, AllPairs, slice_index_or, map}
 use Rattle.pi_base.specs.Lists.{Each, Ordered}
 pub use Rattle.pi_base.proofs.ListFacts.{each_more, each_append}
 

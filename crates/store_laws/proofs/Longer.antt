@@ -1,15 +1,10 @@
 -- A service's new state has room: what is put behind the HOBs is no more than what was free.
-use Rattle.std.proofs.Common.{◌≡◌, ℕ, ◌+◌, ◌-◌, ◌*◌, ◌≤◌, false, List, [], ◌∷◌, length, arith, refl, ◌∙◌, nat_lt}
-use Rattle.std.specs.Prelude.{fold}
-use Rattle.std.proofs.lemmas.List.Sums.{sum_by_push}
-use Rattle.std.proofs.lemmas.Bool.Decides.{nat_tests}
-use Rattle.store_model.specs.declared.store_handle.DescKind.{DescKind}
+use Rattle.std.proofs.Common.{◌≡◌, ℕ, ◌+◌, ◌-◌, ◌*◌, ◌≤◌, false, List, [], ◌∷◌, length, arith, refl, ◌∙◌, nat_lt, fold}
+use Rattle.std.proofs.{lemmas.List.Sums.sum_by_push, lemmas.Bool.Decides.nat_tests}
+use Rattle.store_model.specs.{declared.store_handle.DescKind.DescKind, declared.store_handle.Desc.Desc}
 use Rattle.store_model.specs.declared.store_handle.DescKind.TheVariants.{Ppi, Callback, Dispatch}
-use Rattle.store_model.specs.declared.store_handle.Desc.{Desc}
-use Rattle.store_model.specs.declared.state.Body.TheVariants.{Node}
-use Rattle.store_model.specs.declared.state.HobEntry.{HobEntry}
+use Rattle.store_model.specs.{declared.state.Body.TheVariants.Node, declared.state.HobEntry.HobEntry, Service.Descriptor.kind_at}
 use Rattle.store_model.specs.StoreState.{StoreState, appended, end_place, free, hob_len, page_bytes, pool_of}
-use Rattle.store_model.specs.Service.Descriptor.{kind_at}
 use Rattle.store_model.specs.Service.Install.{install_pairs, installed, reinstall_pairs, reinstalled, renamed, with_node, with_pending, with_ppi}
 use Rattle.store_model.specs.Service.Notify.{notified, notify_pairs, with_note, with_note_of}
 use Rattle.store_laws.proofs.Sound.{IsRoomy}

@@ -1,8 +1,7 @@
 -- A read and a write inside the heap.
-use Rattle.std.proofs.Common.{◌≡◌, ℕ, ◌+◌, ◌-◌, ◌≤◌, Bool, true, false, List, ◌∷◌, ◌++◌, length, take, drop, arith, ap, refl, sym, subst, ◌∙◌, Some, append_assoc, length-append}
-use Rattle.std.specs.Prelude.{replicate, map}
+use Rattle.std.proofs.Common.{◌≡◌, ℕ, ◌+◌, ◌-◌, ◌≤◌, Bool, true, false, List, ◌∷◌, ◌++◌, length, take, drop, arith, ap, refl, sym, subst, ◌∙◌, Some, append_assoc, length-append, replicate, map, drop_at, drop-drop, length-drop}
 use Rattle.std.proofs.lemmas.Bool.Decides.{nat_tests}
-use Rattle.std.proofs.lemmas.List.{drop_at, drop-drop, take-append-le, drop-append-le, length-drop, length-replicate}
+use Rattle.std.proofs.lemmas.List.{take-append-le, drop-append-le, length-replicate}
 use Rattle.phys_mem.specs.Region.{Region, replaced, is_inside}
 use Rattle.phys_mem.specs.Regions.{rom_region, bytes_at, written}
 use Rattle.store_laws.specs.Mapped.{Layout, regions_by, IsPlacedBy}

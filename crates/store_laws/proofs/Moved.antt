@@ -1,29 +1,21 @@
 -- The move keeps what holds of every state.
-use Rattle.std.proofs.Common.{◌≡◌, ℕ, ◌+◌, ◌-◌, ◌%◌, ◌≤◌, ◌<◌, ◌^◌, Bool, true, false, cond, List, [], ◌∷◌, ◌++◌, length, arith, sym, refl, ap, subst, ◌∙◌, Option, Some, None, ◌==◌, sum_by}
-use Rattle.std.specs.Prelude.{option_map, ◌||◌, ◌&&◌, if◌then◌else◌, nat_le, nat_lt}
+use Rattle.std.proofs.Common.{◌≡◌, ℕ, ◌+◌, ◌-◌, ◌%◌, ◌≤◌, ◌<◌, ◌^◌, Bool, true, false, cond, List, [], ◌∷◌, ◌++◌, length, arith, sym, refl, ap, subst, ◌∙◌, Option, Some, None, ◌==◌, sum_by, option_map, ◌||◌, ◌&&◌, if◌then◌else◌, nat_le, nat_lt}
 use Rattle.std.specs.List.{list_any}
-use Rattle.std.proofs.lemmas.Bool.Decides.{nat_tests}
-use Rattle.std.proofs.lemmas.List.Sums.{sum_by-cons}
+use Rattle.std.proofs.{lemmas.Bool.Decides.nat_tests, lemmas.List.Sums.sum_by-cons}
 use Rattle.boot_plan.specs.declared.limits.TheConstants.{MOST_END}
 use Rattle.hob_codec.specs.declared.kind.TheConstants.{POOL, ALLOCATION}
 use Rattle.pi_base.specs.Lists.{Each}
 use Rattle.pi_base.proofs.ListFacts.{each_both, each_more}
-use Rattle.store_model.specs.declared.store_handle.DescKind.{DescKind}
+use Rattle.store_model.specs.{declared.store_handle.DescKind.DescKind, declared.state.Entry.Entry, declared.state.Pending.Pending}
 use Rattle.store_model.specs.declared.store_handle.DescKind.TheVariants.{Ppi, Callback, Dispatch}
-use Rattle.store_model.specs.declared.state.Entry.{Entry}
-use Rattle.store_model.specs.declared.state.Pending.{Pending}
-use Rattle.store_model.specs.declared.state.DescriptorBody.{DescriptorBody}
-use Rattle.store_model.specs.declared.state.Body.{Body}
+use Rattle.store_model.specs.{declared.state.DescriptorBody.DescriptorBody, declared.state.Body.Body, declared.state.HobEntry.HobEntry}
 use Rattle.store_model.specs.declared.state.Body.TheVariants.{Bytes, Descriptor, Node, Allocation}
-use Rattle.store_model.specs.declared.state.HobEntry.{HobEntry}
-use Rattle.store_model.specs.HeapImage.{descriptor_bytes}
+use Rattle.store_model.specs.{HeapImage.descriptor_bytes, Service.Descriptor.is_named, Service.Descriptor.descriptors}
 use Rattle.store_model.specs.StoreState.{Board, StoreState, Range, body_from, body_len, handoff_len, header_len, hob_len}
 use Rattle.store_model.specs.StateFacts.{HasTypesLength, IsBoard, IsBodyOf, IsDescriptorAt, IsEntry, IsGuidOf, IsHeap, IsHobEntry, IsNodeAt, IsNumberOf, IsPending, IsPlanned}
-use Rattle.store_model.specs.Service.Descriptor.{is_named, descriptors}
 use Rattle.store_model.specs.Migration.{migrated_to, moved_body, moved_descriptor, moved_hobs, moved_value}
 use Rattle.store_laws.specs.Fitting.{IsFittingDescriptor}
-use Rattle.store_laws.proofs.Guids.{descriptor_fits}
-use Rattle.store_laws.proofs.Sound.{IsSound}
+use Rattle.store_laws.proofs.{Guids.descriptor_fits, Sound.IsSound}
 
 -- a body keeps its length
 descriptor_moves : (s : StoreState) (to : Range) (place : ℕ) (d : DescriptorBody) (b : Bool) → IsFittingDescriptor d

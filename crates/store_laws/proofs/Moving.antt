@@ -1,21 +1,16 @@
 -- The heap while it is moved.
 use Rattle.std.proofs.Common.{◌≡◌, ℕ, ◌+◌, ◌-◌, Bool, true, false, cond, [], ◌∷◌, ◌++◌, length, ap, refl, sym, ◌∙◌, ◌==◌, ◌||◌}
 use Rattle.phys_mem.specs.Region.{replaced}
-use Rattle.store_model.specs.declared.state.Body.{Body}
+use Rattle.store_model.specs.{declared.state.Body.Body, declared.state.DescriptorBody.DescriptorBody, Service.Descriptor.is_named}
 use Rattle.store_model.specs.declared.state.Body.TheVariants.{Bytes, Descriptor, Node, Allocation}
-use Rattle.store_model.specs.declared.state.DescriptorBody.{DescriptorBody}
 use Rattle.store_model.specs.StoreState.{Range, StoreState, body_len, hob_len}
-use Rattle.store_model.specs.HeapImage.{header_bytes, body_bytes, descriptor_bytes, hobs_bytes}
+use Rattle.store_model.specs.HeapImage.{header_bytes, body_bytes, descriptor_bytes, hobs_bytes, node_bytes, allocation_bytes, links_at}
 use Rattle.store_model.specs.Migration.{migrated_to, moved_descriptor, moved_body, moved_hobs}
-use Rattle.store_model.specs.Service.Descriptor.{is_named}
 use Rattle.store_laws.specs.Spelling.{spelled, AgreeBut}
 use Rattle.store_laws.specs.Moving.{Done, half, with_descriptor, with_node_done, with_pages_done, NodesAreMoved, PagesAreMoved, all_done, DescriptorsAreMoved, HeapsAreMoved}
-use Rattle.store_laws.proofs.HeapBodies.{bodies_are_written}
-use Rattle.store_laws.proofs.HeapItems.{same_is, other_is}
-use Rattle.store_laws.proofs.Facts.{node_is_32}
+use Rattle.store_laws.proofs.{HeapBodies.bodies_are_written, HeapItems.same_is, HeapItems.other_is, Facts.node_is_32}
 use Rattle.store_laws.proofs.Writing.{unchanged, written_once}
 use Rattle.store_model.specs.declared.state.AllocationBody.{AllocationBody}
-use Rattle.store_model.specs.HeapImage.{node_bytes, allocation_bytes, links_at}
 
 or_false : (b : Bool) → (b || false) ≡ b
 or_false true = refl

@@ -1,22 +1,14 @@
 -- What an entry or a queued pair names is a descriptor, and a notification's number is an entry.
-use Rattle.std.proofs.Common.{◌≡◌, ◌≢◌, ℕ, ◌<◌, true, refl, subst, ap, Some, sym}
-use Rattle.std.specs.Prelude.{option_map, slice_get, is_some, unwrap_or}
-use Rattle.store_model.specs.declared.limits.TheConstants.{NOTE_NUMBERS}
-use Rattle.store_model.specs.declared.store_handle.Desc.{Desc}
-use Rattle.store_model.specs.declared.store_handle.DescKind.{DescKind}
+use Rattle.std.proofs.Common.{◌≡◌, ◌≢◌, ℕ, ◌<◌, true, refl, subst, ap, Some, sym, option_map, slice_get, is_some, unwrap_or}
+use Rattle.store_model.specs.{declared.limits.TheConstants.NOTE_NUMBERS, declared.store_handle.Desc.Desc}
+use Rattle.store_model.specs.{declared.store_handle.DescKind.DescKind, declared.state.Entry.Entry, declared.state.Pending.Pending}
 use Rattle.store_model.specs.declared.store_handle.DescKind.TheVariants.{Ppi, Callback, Dispatch}
-use Rattle.store_model.specs.declared.state.Entry.{Entry}
-use Rattle.store_model.specs.declared.state.Pending.{Pending}
-use Rattle.store_model.specs.declared.state.DescriptorBody.{DescriptorBody}
-use Rattle.store_model.specs.declared.state.Body.TheVariants.{Descriptor}
-use Rattle.store_model.specs.StoreState.{StoreState}
+use Rattle.store_model.specs.{declared.state.DescriptorBody.DescriptorBody, declared.state.Body.TheVariants.Descriptor}
+use Rattle.store_model.specs.{StoreState.StoreState, Service.Reading.notes_of}
 use Rattle.store_model.specs.StateFacts.{IsDesc, IsDescriptorAt, IsEntry, IsPending, IsNumberOf, IsStoreState}
 use Rattle.store_model.specs.Service.Descriptor.{descriptor_at, descriptor_in, kind_at, number_at}
-use Rattle.store_model.specs.Service.Reading.{notes_of}
 use Rattle.store_laws.specs.Named.{IsNamed, NamedAreThere}
-use Rattle.store_laws.proofs.Items.{each_at}
-use Rattle.store_laws.proofs.Fits.{body_is_of}
-use Rattle.store_laws.proofs.Steps.{kind_is}
+use Rattle.store_laws.proofs.{Items.each_at, Fits.body_is_of, Steps.kind_is}
 
 pub named : (s : StoreState) (kind : DescKind) (place : ℕ) → IsStoreState s → IsDescriptorAt s kind place → IsNamed s kind place
 named s kind place facts h =

@@ -1,14 +1,10 @@
 -- The fields of a node, where bytes are the image of a state.
-use Rattle.std.proofs.Common.{◌≡◌, ℕ, zero, suc, ◌+◌, ◌-◌, ◌≤◌, ◌<◌, ◌^◌, List, [], ◌∷◌, take, drop, arith, ap, refl, sym, ◌∙◌, Option, Some, None}
-use Rattle.std.specs.Prelude.{map}
-use Rattle.std.proofs.lemmas.List.{drop-drop, drop-take, take-take}
-use Rattle.pi_base.specs.Field.{little_bytes, ReadsWhatItSpells}
-use Rattle.store_model.specs.declared.state.Body.TheVariants.{Node, Descriptor}
-use Rattle.store_model.specs.declared.state.Entry.{Entry}
-use Rattle.store_model.specs.declared.state.Pending.{Pending}
-use Rattle.store_model.specs.declared.store_handle.DescKind.{DescKind}
+use Rattle.std.proofs.Common.{◌≡◌, ℕ, zero, suc, ◌+◌, ◌-◌, ◌≤◌, ◌<◌, ◌^◌, List, [], ◌∷◌, take, drop, arith, ap, refl, sym, ◌∙◌, Option, Some, None, map, drop-drop, take-take}
+use Rattle.std.proofs.lemmas.List.{drop-take}
+use Rattle.pi_base.specs.{Field.little_bytes, Field.ReadsWhatItSpells, Lists.Each}
+use Rattle.store_model.specs.{declared.state.Body.TheVariants.Node, declared.state.Body.TheVariants.Descriptor, declared.state.Entry.Entry}
+use Rattle.store_model.specs.{declared.state.Pending.Pending, declared.store_handle.DescKind.DescKind}
 use Rattle.store_model.specs.declared.store_handle.DescKind.TheVariants.{Ppi, Callback, Dispatch}
-use Rattle.pi_base.specs.Lists.{Each}
 use Rattle.store_model.specs.StoreState.{StoreState, end_place, descriptor_len}
 use Rattle.store_model.specs.StateFacts.{IsStoreState, IsNodeAt, IsEntry, IsPending, IsDescriptorAt}
 use Rattle.store_model.specs.HeapImage.{Links, links_bytes, heap_image}
@@ -19,9 +15,7 @@ use Rattle.store_laws.specs.Word.{word_in}
 use Rattle.store_laws.specs.Chain.{NextIsRead, DescriptorIsRead, SecondIsRead, NumberIsRead, NodesAreInside}
 use Rattle.store_laws.proofs.Lists.{each_more, each_to_map, each_behind}
 use Rattle.store_laws.proofs.Facts.{bodies_are_spelled, places_are_inside, has_room}
-use Rattle.store_laws.proofs.Apart.{items_have_nodes, links_of_item}
-use Rattle.store_laws.proofs.Front.{number_is, low_word}
-use Rattle.store_laws.proofs.Reading.{image_at}
+use Rattle.store_laws.proofs.{Apart.items_have_nodes, Apart.links_of_item, Front.number_is, Front.low_word, Reading.image_at}
 
 -- bytes inside a piece of a list
 pub piece_of : (xs piece : List ℕ) (p n k m : ℕ) → take n (drop p xs) ≡ piece → k + m ≤ n → take m (drop (p + k) xs) ≡ take m (drop k piece)

@@ -1,6 +1,5 @@
 -- No volume has an address of the heap.
-use Rattle.std.proofs.Common.{◌⊎◌, ℕ, ◌+◌, ◌≤◌, Bool, true, false, length, arith, subst, Option, Some}
-use Rattle.std.specs.Prelude.{IfSome}
+use Rattle.std.proofs.Common.{◌⊎◌, ℕ, ◌+◌, ◌≤◌, Bool, true, false, length, arith, subst, Option, Some, IfSome}
 use Rattle.phys_mem.specs.declared.rom.Rom.{Rom}
 use Rattle.store_model.specs.StoreState.{Range, StoreState}
 use Rattle.store_model.specs.StateFacts.{AreApart, IsBoard, IsHeap, IsMapped, IsPlanned, IsStoreState, rom_range}

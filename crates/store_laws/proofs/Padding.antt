@@ -1,17 +1,14 @@
 -- A HOB whose body ends in zeros.
-use Rattle.std.proofs.Common.{◌≡◌, ℕ, zero, suc, ◌+◌, ◌-◌, ◌≤◌, List, ◌∷◌, ◌++◌, length, take, drop, arith, ap, refl, sym, ◌∙◌, length-append}
-use Rattle.std.specs.Prelude.{replicate}
-use Rattle.std.proofs.lemmas.List.{drop-drop, drop_at, length-replicate, drop-replicate}
+use Rattle.std.proofs.Common.{◌≡◌, ℕ, zero, suc, ◌+◌, ◌-◌, ◌≤◌, List, ◌∷◌, ◌++◌, length, take, drop, arith, ap, refl, sym, ◌∙◌, length-append, replicate, drop-drop, drop_at}
+use Rattle.std.proofs.lemmas.List.{length-replicate, drop-replicate}
 use Rattle.phys_mem.specs.Region.{replaced}
 use Rattle.hob_codec.specs.declared.kind.TheConstants.{END}
 use Rattle.store_model.specs.StoreState.{end_place, next_body, hob_len, body_len}
 use Rattle.store_model.specs.HeapImage.{header_bytes, hobs_bytes, hob_list, body_bytes, heap_image}
 use Rattle.store_laws.specs.Growing.{front_bytes, free_fields, grown, HobsAreAdded}
 use Rattle.store_laws.specs.Padding.{TailsAreZero}
-use Rattle.store_laws.proofs.Parts.{take_len, replaced_len}
+use Rattle.store_laws.proofs.{Parts.take_len, Parts.replaced_len, Front.added_by, Skipping.zeros_are_skipped}
 use Rattle.store_laws.proofs.Facts.{bodies_are_spelled, bodies_len, images_fill}
-use Rattle.store_laws.proofs.Front.{added_by}
-use Rattle.store_laws.proofs.Skipping.{zeros_are_skipped}
 
 -- behind the HOB list
 -- zeros

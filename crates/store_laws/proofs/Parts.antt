@@ -1,9 +1,7 @@
 -- A text written inside a part of a list.
-use Rattle.std.proofs.Common.{◌≡◌, ℕ, ◌+◌, ◌≤◌, List, ◌++◌, length, take, drop, arith, ap, sym, ◌∙◌, append_assoc, length-append, length-take, length-drop}
-use Rattle.std.proofs.lemmas.List.{take-append-drop, drop-drop}
+use Rattle.std.proofs.Common.{◌≡◌, ℕ, ◌+◌, ◌≤◌, List, ◌++◌, length, take, drop, arith, ap, sym, ◌∙◌, append_assoc, length-append, length-take, length-drop, take-append-drop, drop-drop}
 use Rattle.phys_mem.specs.Region.{replaced}
-use Rattle.store_laws.proofs.Pieces.{replaced_here}
-use Rattle.store_laws.proofs.Mapped.{replaced_middle}
+use Rattle.store_laws.proofs.{Pieces.replaced_here, Mapped.replaced_middle}
 
 pub replaced_len : (xs text : List ℕ) (k : ℕ) → k + length text ≤ length xs → length (replaced xs k text) ≡ length xs
 replaced_len xs text k le = grind (arith, length-append, length-take, length-drop, le)

@@ -1,19 +1,14 @@
 -- What memory reads where its heap is the image of a state.
-use Rattle.std.proofs.Common.{◌≡◌, ◌⊎◌, ℕ, zero, suc, ◌+◌, ◌-◌, ◌≤◌, ◌<◌, Bool, true, false, cond, List, [], ◌∷◌, ◌++◌, length, take, drop, get_or, arith, ap, refl, sym, ◌∙◌, Option, Some, None, length-append}
-use Rattle.std.specs.Prelude.{⊤, replicate, map, slice_get, unwrap_or, nat_lt}
-use Rattle.std.specs.Option.{option_or}
+use Rattle.std.proofs.Common.{◌≡◌, ◌⊎◌, ℕ, zero, suc, ◌+◌, ◌-◌, ◌≤◌, ◌<◌, Bool, true, false, cond, List, [], ◌∷◌, ◌++◌, length, take, drop, get_or, arith, ap, refl, sym, ◌∙◌, Option, Some, None, length-append, replicate, map, slice_get, unwrap_or, nat_lt}
+use Rattle.std.specs.{Prelude.⊤, Option.option_or}
 use Rattle.std.proofs.lemmas.Bool.Decides.{nat_tests}
 use Rattle.std.proofs.lemmas.List.{length-replicate, get_or_append_left, get_or-append_right}
-use Rattle.phys_mem.specs.Region.{is_inside, part_of}
-use Rattle.phys_mem.specs.Regions.{rom_region, regions}
+use Rattle.phys_mem.specs.{Region.is_inside, Region.part_of, Regions.rom_region, Regions.regions, declared.rom.Rom.Rom}
 use Rattle.phys_mem.specs.Regions as R
-use Rattle.phys_mem.specs.declared.rom.Rom.{Rom}
 use Rattle.pi_base.specs.Lists.{numbers}
-use Rattle.store_model.specs.StoreState.{StoreState}
-use Rattle.store_model.specs.HeapImage.{hob_list, heap_image}
+use Rattle.store_model.specs.{StoreState.StoreState, HeapImage.hob_list, HeapImage.heap_image, StateFacts.AreApart, StateFacts.IsHeap}
 use Rattle.store_model.specs.MemoryReading.{rom_bytes, heap_byte, region_bytes}
 use Rattle.store_laws.specs.Mapped.{layout_of, regions_by, IsPlacedBy}
-use Rattle.store_model.specs.StateFacts.{AreApart, IsHeap}
 use Rattle.store_laws.specs.Peeking.{MemoryIsRead}
 
 pub roms_same : (roms : List Rom) (at n : ℕ) → R.bytes_at (map rom_region roms) at n ≡ rom_bytes roms at n

@@ -1,16 +1,12 @@
 -- Bytes written into a pool.
 use Rattle.std.proofs.Common.{◌≡◌, ℕ, List, length, arith, refl, ◌∙◌}
 use Rattle.phys_mem.specs.Region.{replaced}
-use Rattle.store_model.specs.declared.state.Body.{Body}
+use Rattle.store_model.specs.{declared.state.Body.Body, StoreState.StoreState, StoreState.body_len}
 use Rattle.store_model.specs.declared.state.Body.TheVariants.{Bytes, Descriptor, Node, Allocation}
-use Rattle.store_model.specs.StoreState.{StoreState, body_len}
-use Rattle.store_model.specs.HeapImage.{body_bytes, heap_image}
-use Rattle.store_model.specs.Service.Pool.{written}
+use Rattle.store_model.specs.{HeapImage.body_bytes, HeapImage.heap_image, Service.Pool.written}
 use Rattle.store_laws.specs.Changes.{PoolsAreWritten}
 use Rattle.store_laws.proofs.Facts.{bodies_are_spelled, places_are_inside, images_fill, has_room}
-use Rattle.store_laws.proofs.Parts.{part_replaced, replaced_len}
-use Rattle.store_laws.proofs.Reading.{image_at}
-use Rattle.store_laws.proofs.Rebodied.{rebodied, body_written}
+use Rattle.store_laws.proofs.{Parts.part_replaced, Parts.replaced_len, Reading.image_at, Rebodied.rebodied, Rebodied.body_written}
 
 written_len : (s : StoreState) (at : ℕ) (bytes : List ℕ) (body : Body) → ((place : ℕ) → length (body_bytes s place body) ≡ body_len body) → (place : ℕ) → length (body_bytes s place (written at bytes body)) ≡ body_len (written at bytes body)
 written_len s at bytes (Bytes old) h place = refl

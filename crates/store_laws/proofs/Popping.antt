@@ -1,19 +1,13 @@
 -- The queue without its first pair.
-use Rattle.std.proofs.Common.{◌≡◌, ◌≢◌, ℕ, false, List, [], ◌∷◌, ap, refl, sym, subst, ◌∙◌, ◌==◌}
-use Rattle.std.specs.Prelude.{map}
-use Rattle.store_model.specs.declared.state.Body.TheVariants.{Node}
-use Rattle.store_model.specs.declared.state.Pending.{Pending}
+use Rattle.std.proofs.Common.{◌≡◌, ◌≢◌, ℕ, false, List, [], ◌∷◌, ap, refl, sym, subst, ◌∙◌, ◌==◌, map}
+use Rattle.store_model.specs.{declared.state.Body.TheVariants.Node, declared.state.Pending.Pending, StoreState.StoreState}
 use Rattle.pi_base.specs.Lists.{Each}
-use Rattle.store_model.specs.StoreState.{StoreState}
-use Rattle.store_model.specs.StateFacts.{IsStoreState, IsNodeAt}
-use Rattle.store_model.specs.HeapImage.{links_at}
-use Rattle.store_model.specs.Service.Queue.{zeroed}
+use Rattle.store_model.specs.{StateFacts.IsStoreState, StateFacts.IsNodeAt, HeapImage.links_at, Service.Queue.zeroed}
 use Rattle.store_model.specs.declared.store_handle.EntryList.TheVariants.{Ppis, Callbacks, Dispatches, Pendings}
 use Rattle.store_laws.specs.Items.{Item, queued_item, items, links_among}
 use Rattle.store_laws.specs.Changes.{without_first, PairsArePopped}
 use Rattle.store_laws.proofs.HeapItems.{other_is, links_are, lists_same}
-use Rattle.store_laws.proofs.Apart.{items_have_nodes}
-use Rattle.store_laws.proofs.Rebodied.{body_written}
+use Rattle.store_laws.proofs.{Apart.items_have_nodes, Rebodied.body_written}
 
 pop_on : (s : StoreState) (first : Pending) (rest : List Pending) (place : ℕ) → s.pendings ≡ first ∷ rest → place ≢ first.node → links_at (without_first s first rest) place ≡ links_at s place
 pop_on s first rest place e n =

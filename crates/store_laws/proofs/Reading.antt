@@ -1,14 +1,12 @@
 -- A body read from the image, and from the image with a text behind it.
-use Rattle.std.proofs.Common.{◌≡◌, ℕ, ◌+◌, ◌-◌, ◌≤◌, List, ◌++◌, length, take, drop, arith, ap, refl, sym, ◌∙◌, Some, append_assoc, length-take, length-drop}
-use Rattle.std.specs.Prelude.{replicate}
-use Rattle.std.proofs.lemmas.List.{drop-drop, drop_at, take-append-drop, take-append-le, drop-append-le}
+use Rattle.std.proofs.Common.{◌≡◌, ℕ, ◌+◌, ◌-◌, ◌≤◌, List, ◌++◌, length, take, drop, arith, ap, refl, sym, ◌∙◌, Some, append_assoc, length-take, length-drop, replicate, drop-drop, drop_at, take-append-drop}
+use Rattle.std.proofs.lemmas.List.{take-append-le, drop-append-le}
 use Rattle.phys_mem.specs.Region.{replaced}
 use Rattle.hob_codec.specs.declared.kind.TheConstants.{END}
 use Rattle.store_model.specs.declared.state.Body.{Body}
 use Rattle.store_model.specs.StoreState.{StoreState, body_at, body_len}
 use Rattle.store_model.specs.HeapImage.{header_bytes, hobs_bytes, hob_list, body_bytes, heap_image}
-use Rattle.store_laws.specs.Spelling.{AreSpelled}
-use Rattle.store_laws.specs.Growing.{front_bytes}
+use Rattle.store_laws.specs.{Spelling.AreSpelled, Growing.front_bytes}
 use Rattle.store_laws.proofs.HeapBodies.{is_spelled, bodies_are_read, body_behind}
 
 front_is_56 : (s : StoreState) → length (front_bytes s) ≡ 56

@@ -1,24 +1,16 @@
 -- A state with other lists and one other body.
 use Rattle.std.proofs.Common.{◌≡◌, ◌≢◌, ℕ, ◌+◌, ◌-◌, Bool, true, false, cond, List, [], ◌∷◌, ◌++◌, length, arith, ap, refl, sym, ◌∙◌, Some, ◌==◌, sum_by}
-use Rattle.std.proofs.lemmas.Bool.Decides.{nat_tests}
-use Rattle.std.proofs.lemmas.List.Sums.{sum_by-cons}
+use Rattle.std.proofs.{lemmas.Bool.Decides.nat_tests, lemmas.List.Sums.sum_by-cons}
 use Rattle.phys_mem.specs.Region.{replaced}
-use Rattle.hob_codec.specs.declared.kind.TheConstants.{HANDOFF}
-use Rattle.hob_codec.specs.HobValue.{HandoffHob}
-use Rattle.hob_codec.specs.HobBytes.{joined, fields_of}
-use Rattle.store_model.specs.declared.state.Body.{Body}
+use Rattle.hob_codec.specs.{declared.kind.TheConstants.HANDOFF, HobValue.HandoffHob, HobBytes.joined, HobBytes.fields_of}
+use Rattle.store_model.specs.{declared.state.Body.Body, declared.state.Entry.Entry, declared.state.Pending.Pending}
 use Rattle.store_model.specs.declared.state.Body.TheVariants.{Bytes, Descriptor, Node, Allocation}
-use Rattle.store_model.specs.declared.state.Entry.{Entry}
-use Rattle.store_model.specs.declared.state.Pending.{Pending}
-use Rattle.store_model.specs.declared.state.HobEntry.{HobEntry}
+use Rattle.store_model.specs.{declared.state.HobEntry.HobEntry, StateFacts.IsStoreState}
 use Rattle.store_model.specs.StoreState.{StoreState, end_place, hob_len, body_len, body_from, body_at, with_body, page_bytes}
-use Rattle.store_model.specs.StateFacts.{IsStoreState}
 use Rattle.store_model.specs.HeapImage.{header_bytes, body_bytes, links_at, links_bytes, heap_image}
-use Rattle.store_laws.specs.Spelling.{AreSpelled}
-use Rattle.store_laws.specs.Growing.{front_bytes}
-use Rattle.store_laws.proofs.HeapBodies.{past, bodies_are_written}
+use Rattle.store_laws.specs.{Spelling.AreSpelled, Growing.front_bytes}
+use Rattle.store_laws.proofs.{HeapBodies.past, HeapBodies.bodies_are_written, Image.image_written}
 use Rattle.store_laws.proofs.Facts.{bodies_are_spelled, places_are_inside, node_is_32}
-use Rattle.store_laws.proofs.Image.{image_written}
 
 -- the HOBs are as long as before
 sum_on : (change : Body → Body) (hob : HobEntry) (hobs : List HobEntry) (at p : ℕ) (body : Body) (b : Bool) → (at + 8 == p) ≡ b → cond b (Some hob.body) (body_from (at + hob_len hob) hobs p) ≡ Some body → body_len (change body) ≡ body_len body

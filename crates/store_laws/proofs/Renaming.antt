@@ -1,24 +1,17 @@
 -- A PPI that names another descriptor.
-use Rattle.std.proofs.Common.{◌≡◌, ◌≢◌, ℕ, suc, ◌+◌, Bool, true, false, cond, List, [], ◌∷◌, ◌++◌, take, drop, arith, ap, refl, sym, subst, ◌∙◌, Option, Some, ◌==◌}
-use Rattle.std.specs.Prelude.{map}
+use Rattle.std.proofs.Common.{◌≡◌, ◌≢◌, ℕ, suc, ◌+◌, Bool, true, false, cond, List, [], ◌∷◌, ◌++◌, take, drop, arith, ap, refl, sym, subst, ◌∙◌, Option, Some, ◌==◌, map}
 use Rattle.std.proofs.lemmas.Bool.Decides.{nat_tests}
-use Rattle.pi_base.specs.Field.{little_bytes}
+use Rattle.pi_base.specs.{Field.little_bytes, Lists.Each, Lists.Ordered}
 use Rattle.phys_mem.specs.Region.{replaced}
-use Rattle.store_model.specs.declared.state.Body.TheVariants.{Node}
-use Rattle.store_model.specs.declared.state.Entry.{Entry}
-use Rattle.pi_base.specs.Lists.{Each, Ordered}
-use Rattle.store_model.specs.StoreState.{StoreState}
-use Rattle.store_model.specs.StateFacts.{IsStoreState, IsNodeAt}
+use Rattle.store_model.specs.{declared.state.Body.TheVariants.Node, declared.state.Entry.Entry, StoreState.StoreState}
+use Rattle.store_model.specs.{StateFacts.IsStoreState, StateFacts.IsNodeAt, Service.Install.renamed, Service.Install.place_of}
 use Rattle.store_model.specs.HeapImage.{Links, links_at, links_bytes, heap_image}
-use Rattle.store_model.specs.Service.Install.{renamed, place_of}
 use Rattle.store_model.specs.declared.store_handle.EntryList.TheVariants.{Ppis, Callbacks, Dispatches, Pendings}
 use Rattle.store_laws.specs.Items.{Item, item_of, items, first_address, links_before, links_among}
 use Rattle.store_laws.specs.Changes.{PpisAreRenamed}
 use Rattle.store_laws.proofs.Facts.{bodies_are_spelled, places_are_inside, images_fill, has_room}
 use Rattle.store_laws.proofs.HeapItems.{Lacks, other_is, links_are, lists_same, lists_here}
-use Rattle.store_laws.proofs.Apart.{items_have_nodes, list_differs}
-use Rattle.store_laws.proofs.Parts.{part_replaced}
-use Rattle.store_laws.proofs.Reading.{image_at}
+use Rattle.store_laws.proofs.{Apart.items_have_nodes, Apart.list_differs, Parts.part_replaced, Reading.image_at}
 use Rattle.store_laws.proofs.Writing.{altered, node_written}
 use Rattle.store_laws.proofs.Lists.{each_more, each_right, ordered_across, map_append}
 

@@ -1,37 +1,25 @@
 -- Each service keeps what holds of every state, since its own test leaves room.
-use Rattle.std.proofs.Common.{◌≡◌, ℕ, ◌+◌, ◌-◌, ◌*◌, ◌≤◌, ◌<◌, ◌^◌, Bool, true, false, List, [], ◌∷◌, length, arith, sym, refl, subst, ◌∙◌, Option, Some, None, Ok, Err, nat_le, nat_lt, ◌==◌}
-use Rattle.std.specs.Prelude.{if◌then◌else◌, not, ◌&&◌, is_none, option_map, IfSome}
+use Rattle.std.proofs.Common.{◌≡◌, ℕ, ◌+◌, ◌-◌, ◌*◌, ◌≤◌, ◌<◌, ◌^◌, Bool, true, false, List, [], ◌∷◌, length, arith, sym, refl, subst, ◌∙◌, Option, Some, None, Ok, Err, nat_le, nat_lt, ◌==◌, if◌then◌else◌, not, ◌&&◌, is_none, option_map, IfSome}
 use Rattle.std.specs.List.{list_all, list_any}
 use Rattle.std.proofs.lemmas.Bool.Decides.{nat_tests}
-use Rattle.hob_codec.specs.HobValue.{HobValue}
-use Rattle.hob_codec.specs.HobBytes.{length_of}
-use Rattle.pi_base.specs.Lists.{Each}
+use Rattle.hob_codec.specs.{HobValue.HobValue, HobBytes.length_of}
+use Rattle.pi_base.specs.{Lists.Each, declared.known_guid.TheConstants.MEMORY_PPI}
 use Rattle.pi_base.proofs.ListFacts.{each_more}
 use Rattle.store_model.specs.declared.store_handle.StoreFault.TheVariants as F
-use Rattle.store_model.specs.declared.store_handle.DescKind.{DescKind}
-use Rattle.store_model.specs.declared.store_handle.DescKind.TheVariants.{Ppi}
-use Rattle.store_model.specs.declared.store_handle.Desc.{Desc}
-use Rattle.store_model.specs.declared.store_handle.Pool.{Pool}
-use Rattle.store_model.specs.declared.store_handle.Sweep.{Sweep}
+use Rattle.store_model.specs.{declared.store_handle.DescKind.DescKind, declared.store_handle.DescKind.TheVariants.Ppi}
+use Rattle.store_model.specs.{declared.store_handle.Desc.Desc, declared.store_handle.Pool.Pool, declared.store_handle.Sweep.Sweep}
 use Rattle.store_model.specs.declared.store_handle.GuidFrom.{GuidFrom}
 use Rattle.store_model.specs.declared.store_handle.GuidFrom.TheVariants.{Inline, At}
-use Rattle.store_model.specs.declared.state.Pending.{Pending}
-use Rattle.store_model.specs.declared.state.DescriptorBody.{DescriptorBody}
-use Rattle.store_model.specs.declared.state.Body.{Body}
+use Rattle.store_model.specs.{declared.state.Pending.Pending, declared.state.DescriptorBody.DescriptorBody, declared.state.Body.Body}
 use Rattle.store_model.specs.declared.state.Body.TheVariants.{Allocation, Bytes, Descriptor, Node}
-use Rattle.store_model.specs.declared.state.HobEntry.{HobEntry}
-use Rattle.pi_base.specs.declared.known_guid.TheConstants.{MEMORY_PPI}
-use Rattle.store_model.specs.declared.state.TheConstants.{CORE}
-use Rattle.store_model.specs.MemoryReading.{rom_bytes}
+use Rattle.store_model.specs.{declared.state.HobEntry.HobEntry, declared.state.TheConstants.CORE, MemoryReading.rom_bytes}
 use Rattle.store_model.specs.StoreState.{Board, Range, StoreState, appended, empty_store, end_place, free, handoff_len, hob_len, next_body, page_bytes, pool_of, rounded}
 use Rattle.store_model.specs.StateFacts.{ArePages, IsBoard, IsBodyOf, IsDesc, IsHeap, IsHobEntry, IsPending, IsPlanned, IsPool, IsStoreState}
-use Rattle.store_model.specs.Migration.{migrated_to}
-use Rattle.store_model.specs.Service.{Service, in_room}
+use Rattle.store_model.specs.{Migration.migrated_to, Service.Service, Service.in_room, Service.Queue.popped, Service.Queue.zeroed}
 use Rattle.store_model.specs.Service.Pool.{most_pool, pool, written}
 use Rattle.store_model.specs.Service.Descriptor.{desc, desc_of, is_ppi, kind_at}
 use Rattle.store_model.specs.Service.Install.{both_or_full, core_install, core_of, install, install_pairs, install_sweep, installed, is_installed, node_need, reinstall, reinstall_pairs, reinstall_sweep, reinstalled}
 use Rattle.store_model.specs.Service.Notify.{notified, notify, notify_pairs, notify_sweep}
-use Rattle.store_model.specs.Service.Queue.{popped, zeroed}
 use Rattle.store_model.specs.Service.Hob.{create_hob, hob_entry}
 use Rattle.store_model.specs.Service.Memory.{allocation_hob, early_pages, is_memory, page_len, pages, pages_taken, set_memory, with_boot_mode, with_pages}
 use Rattle.store_laws.specs.Bodies.{changed}

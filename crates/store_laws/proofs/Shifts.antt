@@ -1,9 +1,7 @@
 -- A number is shifted once: what was shifted lies in RAM, and stays.
-use Rattle.std.proofs.Common.{◌≡◌, ◌⊎◌, ℕ, ◌+◌, ◌-◌, ◌≤◌, ◌<◌, Bool, true, false, arith, ap, refl, sym, subst, ◌∙◌, Option}
-use Rattle.std.specs.Prelude.{IfSome, nat_le, nat_lt, ◌&&◌, if◌then◌else◌}
+use Rattle.std.proofs.Common.{◌≡◌, ◌⊎◌, ℕ, ◌+◌, ◌-◌, ◌≤◌, ◌<◌, Bool, true, false, arith, ap, refl, sym, subst, ◌∙◌, Option, IfSome, nat_le, nat_lt, ◌&&◌, if◌then◌else◌}
 use Rattle.std.proofs.lemmas.Bool.Decides.{nat_tests}
-use Rattle.store_model.specs.StoreState.{Range}
-use Rattle.store_model.specs.StateFacts.{IsHeap, IsPlanned}
+use Rattle.store_model.specs.{StoreState.Range, StateFacts.IsHeap, StateFacts.IsPlanned}
 use Rattle.store_laws.specs.Moving.{ShiftsAreOnce}
 
 -- the model's moved_number over plain numbers

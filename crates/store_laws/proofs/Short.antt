@@ -1,16 +1,12 @@
 -- A list is no longer than the heap: its nodes differ and lie below its end.
 use Rattle.std.proofs.Common.{◌≡◌, ◌≢◌, ℕ, suc, ◌<◌, ◌==◌, Bool, true, false, ◌||◌, List, [], ◌∷◌, length, refl, ap, arith, eqb}
 use Rattle.std.specs.List.{list_any, AllByRecursion, IsDistinct}
-use Rattle.std.proofs.lemmas.Bool.Decides.{nat_tests}
-use Rattle.std.proofs.lemmas.Map.Steps.{length-le_from_distinct_below}
-use Rattle.store_model.specs.declared.state.Body.TheVariants.{Node}
+use Rattle.std.proofs.{lemmas.Bool.Decides.nat_tests, lemmas.Map.Steps.length-le_from_distinct_below}
+use Rattle.store_model.specs.{declared.state.Body.TheVariants.Node, StateFacts.IsNodeAt}
 use Rattle.pi_base.specs.Lists.{Each, Ordered}
-use Rattle.store_model.specs.StateFacts.{IsNodeAt}
 use Rattle.store_laws.specs.Items.{Item, items, places_of}
 use Rattle.store_laws.specs.Chain.{ListsAreShort}
-use Rattle.store_laws.proofs.Lists.{each_more}
-use Rattle.store_laws.proofs.Facts.{places_are_inside, has_room}
-use Rattle.store_laws.proofs.Apart.{items_have_nodes, list_differs}
+use Rattle.store_laws.proofs.{Lists.each_more, Facts.places_are_inside, Facts.has_room, Apart.items_have_nodes, Apart.list_differs}
 
 apart : (list : List Item) (n : ℕ) → Each (λ (item : Item). n ≢ item.node) list → AllByRecursion (λ m. eqb n m ≡ false) (places_of list)
 apart [] n h = tt

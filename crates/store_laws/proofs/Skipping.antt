@@ -1,12 +1,9 @@
 -- Texts written one behind another, and zeros that are there already.
-use Rattle.std.proofs.Common.{◌≡◌, ℕ, ◌+◌, ◌-◌, ◌≤◌, List, ◌++◌, length, take, drop, arith, ap, refl, sym, ◌∙◌, append_assoc, length-append, length-take, length-drop}
-use Rattle.std.specs.Prelude.{replicate}
-use Rattle.std.proofs.lemmas.List.{take-append-drop, drop-drop, length-replicate}
+use Rattle.std.proofs.Common.{◌≡◌, ℕ, ◌+◌, ◌-◌, ◌≤◌, List, ◌++◌, length, take, drop, arith, ap, refl, sym, ◌∙◌, append_assoc, length-append, length-take, length-drop, replicate, take-append-drop, drop-drop}
+use Rattle.std.proofs.lemmas.List.{length-replicate}
 use Rattle.phys_mem.specs.Region.{replaced}
 use Rattle.store_laws.specs.Padding.{WritesAreJoined}
-use Rattle.store_laws.proofs.Pieces.{replaced_here}
-use Rattle.store_laws.proofs.Parts.{by_place, take_len}
-use Rattle.store_laws.proofs.Front.{append_nil}
+use Rattle.store_laws.proofs.{Pieces.replaced_here, Parts.by_place, Parts.take_len, Front.append_nil}
 
 piece_len : (xs : List ℕ) (p n : ℕ) → p + n ≤ length xs → length (take n (drop p xs)) ≡ n
 piece_len xs p n le = grind (arith, length-take, length-drop, le)

@@ -1,13 +1,10 @@
 -- What holds of every state but its room, and how it is kept where a HOB, an entry or a queued pair is added.
-use Rattle.std.proofs.Common.{◌≡◌, ◌≢◌, ℕ, ◌+◌, ◌≤◌, ◌<◌, ◌^◌, Bool, true, false, List, [], ◌∷◌, ◌++◌, arith, sym, refl, subst, append_assoc}
-use Rattle.std.specs.Prelude.{map, IfSome, AllPairs}
-use Rattle.std.proofs.lemmas.List.{map-append, append-nil}
+use Rattle.std.proofs.Common.{◌≡◌, ◌≢◌, ℕ, ◌+◌, ◌≤◌, ◌<◌, ◌^◌, Bool, true, false, List, [], ◌∷◌, ◌++◌, arith, sym, refl, subst, append_assoc, map, IfSome, AllPairs, append-nil}
+use Rattle.std.proofs.lemmas.List.{map-append}
 use Rattle.pi_base.specs.Lists.{Each, Ordered}
 use Rattle.pi_base.proofs.ListFacts.{each_append, each_more, ordered_of_pairs}
-use Rattle.store_model.specs.declared.store_handle.DescKind.{DescKind}
+use Rattle.store_model.specs.{declared.store_handle.DescKind.DescKind, declared.state.Entry.Entry, declared.state.Pending.Pending}
 use Rattle.store_model.specs.declared.store_handle.DescKind.TheVariants.{Ppi, Callback, Dispatch}
-use Rattle.store_model.specs.declared.state.Entry.{Entry}
-use Rattle.store_model.specs.declared.state.Pending.{Pending}
 use Rattle.store_model.specs.declared.state.Body.TheVariants.{Descriptor, Node}
 use Rattle.store_model.specs.declared.state.HobEntry.{HobEntry}
 use Rattle.store_model.specs.StoreState.{StoreState, appended, end_place, handoff_len, next_body, page_bytes}

@@ -1,17 +1,13 @@
 -- Each step of a service keeps what holds of every state where it has room, and takes what its HOB has.
 use Rattle.std.proofs.Common.{◌≡◌, ◌≢◌, ℕ, ◌+◌, ◌-◌, ◌≤◌, arith, refl}
 use Rattle.std.proofs.lemmas.List.Sums.{sum_by_push}
-use Rattle.store_model.specs.declared.store_handle.DescKind.{DescKind}
+use Rattle.store_model.specs.{declared.store_handle.DescKind.DescKind, declared.store_handle.Desc.Desc}
 use Rattle.store_model.specs.declared.store_handle.DescKind.TheVariants.{Ppi, Callback, Dispatch}
-use Rattle.store_model.specs.declared.store_handle.Desc.{Desc}
-use Rattle.store_model.specs.declared.state.Body.TheVariants.{Node}
-use Rattle.store_model.specs.declared.state.HobEntry.{HobEntry}
+use Rattle.store_model.specs.{declared.state.Body.TheVariants.Node, declared.state.HobEntry.HobEntry}
 use Rattle.store_model.specs.StoreState.{StoreState, appended, end_place, free, hob_len, page_bytes, pool_of}
-use Rattle.store_model.specs.StateFacts.{IsDescOf, IsHobEntry}
+use Rattle.store_model.specs.{StateFacts.IsDescOf, StateFacts.IsHobEntry, Service.Notify.with_note, Service.Notify.with_note_of}
 use Rattle.store_model.specs.Service.Install.{renamed, with_node, with_pending, with_ppi}
-use Rattle.store_model.specs.Service.Notify.{with_note, with_note_of}
-use Rattle.store_laws.specs.Bodies.{IsGrown}
-use Rattle.store_laws.specs.Keeping.{IsWord}
+use Rattle.store_laws.specs.{Bodies.IsGrown, Keeping.IsWord}
 use Rattle.store_laws.specs.Steps.{HasRoom, IsPair, IsStep, StepsKeepFacts}
 use Rattle.store_laws.proofs.Bodies.{grown_by}
 use Rattle.store_laws.proofs.Sound.{IsRoomy, IsSound, appended_sound, facts_of, sound_of}

@@ -1,23 +1,15 @@
 -- What holds of every state is kept where an entry or a queued pair is added, and where a PPI names another descriptor.
-use Rattle.std.proofs.Common.{◌≡◌, ◌≢◌, ℕ, ◌==◌, Bool, true, false, cond, List, [], ◌∷◌, ◌++◌, arith, sym, refl, ap, subst}
-use Rattle.std.specs.Prelude.{map}
+use Rattle.std.proofs.Common.{◌≡◌, ◌≢◌, ℕ, ◌==◌, Bool, true, false, cond, List, [], ◌∷◌, ◌++◌, arith, sym, refl, ap, subst, map}
 use Rattle.pi_base.specs.Lists.{Each}
-use Rattle.store_model.specs.declared.store_handle.DescKind.{DescKind}
+use Rattle.store_model.specs.{declared.store_handle.DescKind.DescKind, declared.store_handle.Desc.Desc, declared.state.Entry.Entry}
 use Rattle.store_model.specs.declared.store_handle.DescKind.TheVariants.{Ppi, Callback, Dispatch}
-use Rattle.store_model.specs.declared.store_handle.Desc.{Desc}
-use Rattle.store_model.specs.declared.state.Entry.{Entry}
-use Rattle.store_model.specs.declared.state.Pending.{Pending}
-use Rattle.store_model.specs.declared.state.Body.TheVariants.{Node}
+use Rattle.store_model.specs.{declared.state.Pending.Pending, declared.state.Body.TheVariants.Node, Service.Descriptor.kind_at}
 use Rattle.store_model.specs.StoreState.{Board, StoreState, handoff_len, next_body, pool_of}
 use Rattle.store_model.specs.StateFacts.{IsDescriptorAt, IsEntry, IsHobEntry, IsNodeAt}
-use Rattle.store_model.specs.Service.Descriptor.{kind_at}
 use Rattle.store_model.specs.Service.Install.{renamed, with_node, with_pending, with_ppi}
 use Rattle.store_model.specs.Service.Notify.{note_entry, with_note, with_note_of}
-use Rattle.store_laws.specs.Bodies.{IsGrown}
-use Rattle.store_laws.specs.Keeping.{IsWord}
-use Rattle.store_laws.specs.Steps.{IsPair}
-use Rattle.store_laws.proofs.Bodies.{grown_by, new_body}
-use Rattle.store_laws.proofs.Hobs.{of_pool}
+use Rattle.store_laws.specs.{Bodies.IsGrown, Keeping.IsWord, Steps.IsPair}
+use Rattle.store_laws.proofs.{Bodies.grown_by, Bodies.new_body, Hobs.of_pool}
 use Rattle.store_laws.proofs.Sound.{Differ, IsSound, all_new, appended_sound, callback_sound, descriptor_grows, dispatch_sound, node_of, pending_node, pending_sound, ppi_sound}
 
 -- a node

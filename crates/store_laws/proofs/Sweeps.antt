@@ -1,15 +1,10 @@
 -- The first pair of two lists that fires, and how the pairs that are left go on.
-use Rattle.std.proofs.Common.{◌≡◌, ℕ, zero, suc, ◌+◌, ◌-◌, ◌≤◌, ◌<◌, Bool, true, false, cond, List, [], ◌∷◌, ◌++◌, length, arith, sym, refl, ap, ◌∙◌, Option, Some, None, nat_le}
-use Rattle.std.specs.Prelude.{map, flat_map, slice_get, slice_index_or, is_some}
+use Rattle.std.proofs.Common.{◌≡◌, ℕ, zero, suc, ◌+◌, ◌-◌, ◌≤◌, ◌<◌, Bool, true, false, cond, List, [], ◌∷◌, ◌++◌, length, arith, sym, refl, ap, ◌∙◌, Option, Some, None, nat_le, map, flat_map, slice_get, slice_index_or, is_some}
 use Rattle.std.specs.Option.{option_or}
 use Rattle.std.proofs.lemmas.Bool.Decides.{nat_tests}
-use Rattle.store_model.specs.declared.store_handle.Sweep.{Sweep}
-use Rattle.store_model.specs.declared.store_handle.Firing.{Firing}
-use Rattle.store_model.specs.declared.state.Entry.{Entry}
-use Rattle.pi_base.specs.Guids.{same_guid}
-use Rattle.store_model.specs.Service.Descriptor.{guid_at}
-use Rattle.pi_base.specs.Lists.{numbers}
-use Rattle.store_model.specs.StoreState.{StoreState}
+use Rattle.store_model.specs.{declared.store_handle.Sweep.Sweep, declared.store_handle.Firing.Firing, declared.state.Entry.Entry}
+use Rattle.pi_base.specs.{Guids.same_guid, Lists.numbers}
+use Rattle.store_model.specs.{Service.Descriptor.guid_at, StoreState.StoreState}
 use Rattle.store_laws.specs.Sweeps.{SweepsGoOn, standing}
 use Rattle.store_model.specs.Service.Sweep.{first_firing, firing_at, have_one_guid, places_at, pairs_left, pairs_with, firing_of}
 

@@ -1,31 +1,19 @@
 -- What the bytes of a heap tell of its lists.
-use Rattle.std.proofs.Common.{◌≡◌, ℕ, ◌+◌, ◌-◌, List, [], ◌∷◌, length, drop, arith, ap, refl, sym, ◌∙◌, Option}
-use Rattle.std.specs.Prelude.{map, option_map, unwrap_or}
-use Rattle.pi_base.specs.declared.guid.Guid.{Guid}
-use Rattle.pi_base.specs.Field.{ReadsWhatItSpells}
-use Rattle.store_model.specs.declared.state.Entry.{Entry}
-use Rattle.store_model.specs.declared.state.Pending.{Pending}
-use Rattle.store_model.specs.declared.state.Body.{Body}
-use Rattle.store_model.specs.declared.state.DescriptorBody.{DescriptorBody}
-use Rattle.store_model.specs.declared.store_handle.DescKind.{DescKind}
+use Rattle.std.proofs.Common.{◌≡◌, ℕ, ◌+◌, ◌-◌, List, [], ◌∷◌, length, drop, arith, ap, refl, sym, ◌∙◌, Option, map, option_map, unwrap_or}
+use Rattle.pi_base.specs.{declared.guid.Guid.Guid, Field.ReadsWhatItSpells, Lists.Each}
+use Rattle.store_model.specs.{declared.state.Entry.Entry, declared.state.Pending.Pending, declared.state.Body.Body}
+use Rattle.store_model.specs.{declared.state.DescriptorBody.DescriptorBody, declared.store_handle.DescKind.DescKind, StoreState.StoreState}
 use Rattle.store_model.specs.declared.store_handle.DescKind.TheVariants.{Ppi, Callback, Dispatch}
-use Rattle.pi_base.specs.Lists.{Each}
-use Rattle.store_model.specs.StoreState.{StoreState}
 use Rattle.store_model.specs.StateFacts.{IsStoreState, IsEntry, IsPending, IsDescriptorAt}
-use Rattle.store_model.specs.HeapImage.{heap_image}
+use Rattle.store_model.specs.{HeapImage.heap_image, declared.store_handle.EntryList.EntryList}
 use Rattle.store_model.specs.Service.Descriptor.{guid_at, number_at, descriptor_in, no_guid}
-use Rattle.store_model.specs.declared.store_handle.EntryList.{EntryList}
 use Rattle.store_model.specs.declared.store_handle.EntryList.TheVariants.{Ppis, Callbacks, Dispatches, Pendings}
-use Rattle.store_laws.specs.Descriptors.{guid_told, number_told}
+use Rattle.store_laws.specs.{Descriptors.guid_told, Descriptors.number_told, Walk.chain_from, Walk.addresses, Word.word_in}
 use Rattle.store_laws.specs.Items.{Item, item_of, queued_item, items, first_address}
-use Rattle.store_laws.specs.Walk.{chain_from, addresses}
-use Rattle.store_laws.specs.Word.{word_in}
 use Rattle.store_laws.specs.Told.{told_by, node_told, pair_told, queue_told, image_told, entry_said}
 use Rattle.store_laws.specs.Accessors.{ListsAreTold}
-use Rattle.store_laws.proofs.Facts.{images_fill}
+use Rattle.store_laws.proofs.{Facts.images_fill, Chains.chains_are_lists, Short.lists_are_short}
 use Rattle.store_laws.proofs.Nodes.{descriptor_is_read, second_is_read, number_is_read, drop_next}
-use Rattle.store_laws.proofs.Chains.{chains_are_lists}
-use Rattle.store_laws.proofs.Short.{lists_are_short}
 use Rattle.store_laws.proofs.Descriptors.{guids_are_read, numbers_are_read}
 
 -- the descriptor at a place, by the state

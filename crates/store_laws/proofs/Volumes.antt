@@ -1,26 +1,16 @@
 -- The bases of the volumes that HOBs tell of.
-use Rattle.std.proofs.Common.{◌≡◌, ℕ, zero, suc, ◌+◌, ◌-◌, ◌≤◌, ◌<◌, Bool, true, false, cond, List, [], ◌∷◌, ◌++◌, length, take, drop, arith, ap, refl, sym, ◌∙◌, ◌==◌, append_assoc, length-append, length-take}
-use Rattle.std.specs.Prelude.{map, filter, replicate}
-use Rattle.std.proofs.lemmas.Bool.Decides.{nat_tests}
-use Rattle.std.proofs.lemmas.List.{drop_at, drop-drop, take_at, take-append-drop, take-append-le}
+use Rattle.std.proofs.Common.{◌≡◌, ℕ, zero, suc, ◌+◌, ◌-◌, ◌≤◌, ◌<◌, Bool, true, false, cond, List, [], ◌∷◌, ◌++◌, length, take, drop, arith, ap, refl, sym, ◌∙◌, ◌==◌, append_assoc, length-append, length-take, map, filter, replicate, drop_at, drop-drop, take_at, take-append-drop}
+use Rattle.std.proofs.{lemmas.Bool.Decides.nat_tests, lemmas.List.take-append-le}
 use Rattle.pi_base.proofs.FieldLaws.{little_number-append}
-use Rattle.pi_base.specs.Field.{little_number, ReadsWhatItSpells}
+use Rattle.pi_base.specs.{Field.little_number, Field.ReadsWhatItSpells, Lists.Each}
 use Rattle.hob_codec.specs.declared.kind.TheConstants.{END, VOLUME}
-use Rattle.store_model.specs.declared.state.Body.{Body}
+use Rattle.store_model.specs.{declared.state.Body.Body, declared.state.HobEntry.HobEntry, StateFacts.IsBodyOf, StateFacts.IsHobEntry}
 use Rattle.store_model.specs.declared.state.Body.TheVariants.{Bytes, Descriptor, Node, Allocation}
-use Rattle.store_model.specs.declared.state.HobEntry.{HobEntry}
-use Rattle.pi_base.specs.Lists.{Each}
 use Rattle.store_model.specs.StoreState.{StoreState, hob_len, body_len}
-use Rattle.store_model.specs.StateFacts.{IsBodyOf, IsHobEntry}
 use Rattle.store_model.specs.HeapImage.{header_bytes, hobs_bytes, hob_list, body_bytes, heap_image}
-use Rattle.store_laws.specs.Spelling.{spelled, AreSpelled}
-use Rattle.store_laws.specs.Growing.{front_bytes}
-use Rattle.store_laws.specs.Word.{short_in, word_in}
+use Rattle.store_laws.specs.{Spelling.spelled, Spelling.AreSpelled, Growing.front_bytes, Word.short_in, Word.word_in}
 use Rattle.store_laws.specs.Volumes.{volumes_told, VolumesAreTold}
-use Rattle.store_laws.proofs.HeapBodies.{is_spelled}
-use Rattle.store_laws.proofs.Facts.{bodies_are_spelled}
-use Rattle.store_laws.proofs.HeapItems.{other_is}
-use Rattle.store_laws.proofs.HeapHobs.{header_tells}
+use Rattle.store_laws.proofs.{HeapBodies.is_spelled, Facts.bodies_are_spelled, HeapItems.other_is, HeapHobs.header_tells}
 
 -- the first number of a body of bytes stands anywhere
 number_of : (bytes : List ℕ) → 8 ≤ length bytes → little_number 8 (take 8 bytes) ≡ little_number 8 bytes

@@ -1,15 +1,10 @@
 -- A read and a write at an address of the heap.
-use Rattle.std.proofs.Common.{◌≡◌, ℕ, zero, suc, ◌+◌, ◌-◌, ◌≤◌, Bool, true, false, List, [], ◌∷◌, ◌++◌, length, take, drop, arith, ap, refl, sym, ◌∙◌, Some, None}
-use Rattle.std.specs.Prelude.{replicate, map}
+use Rattle.std.proofs.Common.{◌≡◌, ℕ, zero, suc, ◌+◌, ◌-◌, ◌≤◌, Bool, true, false, List, [], ◌∷◌, ◌++◌, length, take, drop, arith, ap, refl, sym, ◌∙◌, Some, None, replicate, map}
 use Rattle.std.proofs.lemmas.List.{length-replicate}
-use Rattle.phys_mem.specs.Regions.{rom_region}
-use Rattle.phys_mem.specs.Region.{replaced}
-use Rattle.phys_mem.specs.Regions.{regions, bytes_at, written, Becomes}
-use Rattle.phys_mem.specs.declared.memory.PhysMem.{PhysMem}
-use Rattle.store_laws.specs.Mapped.{Layout, HasHeap, regions_with}
-use Rattle.store_laws.specs.Mapped.{FirstMemories, HeapsAreRead}
-use Rattle.store_laws.proofs.Mapped.{write_by, read_by}
-use Rattle.store_laws.proofs.Parts.{replaced_len}
+use Rattle.phys_mem.specs.Regions.{rom_region, regions, bytes_at, written, Becomes}
+use Rattle.phys_mem.specs.{Region.replaced, declared.memory.PhysMem.PhysMem}
+use Rattle.store_laws.specs.Mapped.{Layout, HasHeap, regions_with, FirstMemories, HeapsAreRead}
+use Rattle.store_laws.proofs.{Mapped.write_by, Mapped.read_by, Parts.replaced_len}
 
 written_is : (l : Layout) (heap text : List ℕ) (memory : PhysMem) (at : ℕ) → HasHeap l heap memory → l.base ≤ at → at + length text ≤ l.base + l.len
     → written (regions memory) at text ≡ Some (regions_with l (replaced heap (at - l.base) text))

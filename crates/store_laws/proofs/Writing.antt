@@ -2,19 +2,14 @@
 use Rattle.std.proofs.Common.{◌≡◌, ◌≢◌, ℕ, ◌+◌, ◌-◌, ◌≤◌, Bool, true, false, cond, List, [], ◌∷◌, length, arith, ap, refl, sym, ◌∙◌, Some, ◌==◌}
 use Rattle.std.proofs.lemmas.Bool.Decides.{nat_tests}
 use Rattle.phys_mem.specs.Region.{replaced}
-use Rattle.store_model.specs.declared.state.Body.{Body}
+use Rattle.store_model.specs.{declared.state.Body.Body, declared.state.Entry.Entry, declared.state.Pending.Pending}
 use Rattle.store_model.specs.declared.state.Body.TheVariants.{Bytes, Descriptor, Node, Allocation}
-use Rattle.store_model.specs.declared.state.Entry.{Entry}
-use Rattle.store_model.specs.declared.state.Pending.{Pending}
-use Rattle.store_model.specs.declared.state.HobEntry.{HobEntry}
+use Rattle.store_model.specs.{declared.state.HobEntry.HobEntry, StateFacts.IsNodeAt}
 use Rattle.store_model.specs.StoreState.{StoreState, body_from, with_body, hob_len, body_len, end_place}
-use Rattle.store_model.specs.StateFacts.{IsNodeAt}
 use Rattle.store_model.specs.HeapImage.{links_at, links_bytes, body_bytes, heap_image}
 use Rattle.store_laws.specs.Spelling.{spelled, AreSpelled, AgreeBut}
 use Rattle.store_laws.proofs.HeapBodies.{bodies_are_written, body_behind, body_inside}
-use Rattle.store_laws.proofs.Facts.{node_is_32}
-use Rattle.store_laws.proofs.HeapItems.{same_is, other_is}
-use Rattle.store_laws.proofs.Image.{image_written, image_written_twice}
+use Rattle.store_laws.proofs.{Facts.node_is_32, HeapItems.same_is, HeapItems.other_is, Image.image_written, Image.image_written_twice}
 
 -- the same HOBs, and other lists
 abbrev pub altered : StoreState → List Entry → List Entry → List Entry → List Pending → StoreState

@@ -2,13 +2,9 @@
 -- Own.
 use Rattle.std.specs.Prelude.{◌≡◌, ℕ, map, filter, option_map, slice_get}
 use Rattle.std.specs.List.{list_any}
-use Rattle.pi_base.specs.declared.guid.Guid.{Guid}
+use Rattle.pi_base.specs.{declared.guid.Guid.Guid, Guids.same_guid}
 use Rattle.store_model.specs.declared.store_handle.DescKind.TheVariants.{Callback, Dispatch}
-use Rattle.pi_base.specs.Guids.{same_guid}
-use Rattle.store_model.specs.StoreState.{StoreState}
-use Rattle.store_model.specs.StateFacts.{IsStoreState}
-use Rattle.store_model.specs.HeapImage.{heap_image}
-use Rattle.store_model.specs.Service.Install.{has_ppi}
+use Rattle.store_model.specs.{StoreState.StoreState, StateFacts.IsStoreState, HeapImage.heap_image, Service.Install.has_ppi}
 use Rattle.store_model.specs.Service.Reading.{nth_ppi, ppi_at, note_at, pending_at}
 use Rattle.store_model.specs.declared.store_handle.EntryList.{EntryList}
 use Rattle.store_model.specs.declared.store_handle.EntryList.TheVariants.{Ppis, Callbacks, Dispatches, Pendings}

@@ -1,13 +1,9 @@
 -- The entries of a list, told one behind the other by their nodes.
 -- Own.
 use Rattle.std.specs.Prelude.{◌≡◌, ◌≢◌, ℕ, ◌<◌, ◌^◌, List, [], ◌∷◌, length, Option, Some, None}
-use Rattle.store_model.specs.declared.limits.TheConstants.{NOTE_NUMBERS}
-use Rattle.store_model.specs.declared.store_handle.EntryList.{EntryList}
-use Rattle.store_model.specs.declared.store_handle.EntryList.TheVariants.{Ppis}
-use Rattle.store_model.specs.declared.store_handle.EntryTold.{EntryTold}
-use Rattle.store_model.specs.StoreState.{StoreState}
-use Rattle.store_model.specs.StateFacts.{IsStoreState}
-use Rattle.store_model.specs.StoreCall.{IsNodeIn}
+use Rattle.store_model.specs.{declared.limits.TheConstants.NOTE_NUMBERS, declared.store_handle.EntryList.EntryList}
+use Rattle.store_model.specs.{declared.store_handle.EntryList.TheVariants.Ppis, declared.store_handle.EntryTold.EntryTold}
+use Rattle.store_model.specs.{StoreState.StoreState, StateFacts.IsStoreState, StoreCall.IsNodeIn}
 use Rattle.store_model.specs.Service.Reading.{entry_behind, told_behind, told_of}
 
 -- those of a list that stand behind a node, or all

@@ -1,10 +1,8 @@
 -- Where bodies stand: behind those that were there, and in the same place where another one changes or where the store moves.
 -- Own.
 use Rattle.std.specs.Prelude.{◌≡◌, ◌≢◌, ℕ, ◌+◌, ◌%◌, ◌≤◌, Some, option_map}
-use Rattle.store_model.specs.declared.state.Body.{Body}
-use Rattle.store_model.specs.declared.state.HobEntry.{HobEntry}
+use Rattle.store_model.specs.{declared.state.Body.Body, declared.state.HobEntry.HobEntry, StateFacts.IsStoreState}
 use Rattle.store_model.specs.StoreState.{Range, StoreState, appended, body_at, body_len, end_place, handoff_len, header_len, next_body, with_body}
-use Rattle.store_model.specs.StateFacts.{IsStoreState}
 use Rattle.store_model.specs.Migration.{migrated_to, moved_body}
 
 -- every body of s stands in the same place of t

@@ -3,16 +3,10 @@
 use Rattle.std.specs.Prelude.{◌≡◌, ℕ, ◌+◌, ◌≤◌, List, ◌∷◌, length, drop, replicate, Some}
 use Rattle.pi_base.specs.Field.{little_bytes}
 use Rattle.phys_mem.specs.Region.{replaced}
-use Rattle.store_model.specs.declared.state.Entry.{Entry}
-use Rattle.store_model.specs.declared.state.Pending.{Pending}
-use Rattle.store_model.specs.declared.state.Body.TheVariants.{Bytes}
+use Rattle.store_model.specs.{declared.state.Entry.Entry, declared.state.Pending.Pending, declared.state.Body.TheVariants.Bytes}
 use Rattle.store_model.specs.StoreState.{StoreState, body_at, handoff_len, with_body}
-use Rattle.store_model.specs.StateFacts.{IsStoreState}
-use Rattle.store_model.specs.HeapImage.{heap_image}
-use Rattle.store_model.specs.Service.Install.{renamed, place_of}
-use Rattle.store_model.specs.Service.Memory.{with_boot_mode}
-use Rattle.store_model.specs.Service.Pool.{written}
-use Rattle.store_model.specs.Service.Queue.{zeroed}
+use Rattle.store_model.specs.{StateFacts.IsStoreState, HeapImage.heap_image, Service.Install.renamed, Service.Install.place_of}
+use Rattle.store_model.specs.{Service.Memory.with_boot_mode, Service.Pool.written, Service.Queue.zeroed}
 
 -- the first pair leaves the queue, and its node becomes zeros
 abbrev pub without_first : StoreState → Pending → List Pending → StoreState

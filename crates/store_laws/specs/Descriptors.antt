@@ -1,16 +1,11 @@
 -- What is read from a descriptor in the image.
 -- Own.
 use Rattle.std.specs.Prelude.{◌≡◌, ◌⊎◌, ℕ, ◌+◌, ◌-◌, ◌≤◌, List, [], length, take, drop, if◌then◌else◌, unwrap_or, Some}
-use Rattle.pi_base.specs.declared.guid.Guid.{Guid}
-use Rattle.phys_mem.specs.Region.{is_inside}
-use Rattle.phys_mem.specs.declared.rom.Rom.{Rom}
-use Rattle.store_model.specs.declared.state.Body.TheVariants.{Descriptor}
-use Rattle.store_model.specs.declared.state.DescriptorBody.{DescriptorBody}
-use Rattle.pi_base.specs.Lists.{Each}
-use Rattle.store_model.specs.StoreState.{StoreState, body_at}
-use Rattle.store_model.specs.StateFacts.{IsStoreState}
+use Rattle.pi_base.specs.{declared.guid.Guid.Guid, Lists.Each}
+use Rattle.phys_mem.specs.{Region.is_inside, declared.rom.Rom.Rom}
+use Rattle.store_model.specs.{declared.state.Body.TheVariants.Descriptor, declared.state.DescriptorBody.DescriptorBody}
+use Rattle.store_model.specs.{StoreState.StoreState, StoreState.body_at, StateFacts.IsStoreState, MemoryReading.rom_bytes}
 use Rattle.store_model.specs.HeapImage.{guid_address, heap_image, kind_flags}
-use Rattle.store_model.specs.MemoryReading.{rom_bytes}
 use Rattle.store_laws.specs.Word.{word_in}
 
 -- no volume has an address of the heap

@@ -2,13 +2,10 @@
 -- Own.
 use Rattle.std.specs.Prelude.{◌≡◌, ℕ, ◌+◌, ◌<◌, ◌≤◌, ◌^◌, length, Some, IfSome}
 use Rattle.boot_plan.specs.declared.limits.TheConstants.{MOST_END, MOST_RAM}
-use Rattle.store_model.specs.declared.state.Body.TheVariants.{Descriptor}
+use Rattle.store_model.specs.{declared.state.Body.TheVariants.Descriptor, declared.state.DescriptorBody.DescriptorBody}
 use Rattle.pi_base.specs.Lists.{Each}
-use Rattle.store_model.specs.declared.state.DescriptorBody.{DescriptorBody}
-use Rattle.store_model.specs.declared.state.HobEntry.{HobEntry}
+use Rattle.store_model.specs.{declared.state.HobEntry.HobEntry, HeapImage.body_bytes, HeapImage.descriptor_bytes, StateFacts.IsStoreState}
 use Rattle.store_model.specs.StoreState.{StoreState, body_at, body_len, descriptor_len}
-use Rattle.store_model.specs.HeapImage.{body_bytes, descriptor_bytes}
-use Rattle.store_model.specs.StateFacts.{IsStoreState}
 
 -- a descriptor's GUID has sixteen bytes, wherever it stands; its address and the number fit 64 bits; and it spells as many bytes as it has
 pub record IsFittingDescriptor (d : DescriptorBody) : Type 0 where

@@ -4,10 +4,8 @@ use Rattle.std.specs.Prelude.{◌≡◌, ◌+◌, ◌-◌, ◌≤◌, ◌++◌, 
 use Rattle.phys_mem.specs.Region.{replaced}
 use Rattle.hob_codec.specs.declared.kind.TheConstants.{END}
 use Rattle.store_model.specs.StoreState.{Board, StoreState, empty_store, end_place, free, page_bytes}
-use Rattle.store_model.specs.StateFacts.{IsStoreState}
-use Rattle.store_model.specs.HeapImage.{header_bytes, heap_image}
-use Rattle.store_laws.specs.Growing.{front_bytes}
-use Rattle.store_laws.specs.Word.{word_in, half_word_in}
+use Rattle.store_model.specs.{StateFacts.IsStoreState, HeapImage.header_bytes, HeapImage.heap_image}
+use Rattle.store_laws.specs.{Growing.front_bytes, Word.word_in, Word.half_word_in}
 
 abbrev pub BootModesAreRead : Type 0
 BootModesAreRead = (s : StoreState) → IsStoreState s → half_word_in (heap_image s) 12 ≡ s.boot_mode

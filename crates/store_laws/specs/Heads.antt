@@ -3,20 +3,15 @@
 use Rattle.std.specs.Prelude.{◌≡◌, ◌≢◌, ℕ, ◌+◌, ◌-◌, ◌≤◌, ◌==◌, if◌then◌else◌, List, [], ◌∷◌, ◌++◌}
 use Rattle.pi_base.specs.Field.{little_bytes}
 use Rattle.phys_mem.specs.Region.{replaced}
-use Rattle.store_model.specs.declared.state.Pending.{Pending}
-use Rattle.store_model.specs.declared.store_handle.Desc.{Desc}
+use Rattle.store_model.specs.{declared.state.Pending.Pending, declared.store_handle.Desc.Desc}
 use Rattle.store_model.specs.declared.store_handle.DescKind.TheVariants.{Callback, Dispatch}
 use Rattle.store_model.specs.StoreState.{StoreState, end_place, next_body}
-use Rattle.store_model.specs.StateFacts.{IsStoreState}
-use Rattle.store_model.specs.HeapImage.{heap_image}
+use Rattle.store_model.specs.{StateFacts.IsStoreState, HeapImage.heap_image, Service.Notify.with_note_of, Service.Notify.note_entry}
 use Rattle.store_model.specs.Service.Install.{with_ppi, with_pending, renamed}
-use Rattle.store_model.specs.Service.Notify.{with_note_of, note_entry}
 use Rattle.store_model.specs.declared.store_handle.EntryList.{EntryList}
 use Rattle.store_model.specs.declared.store_handle.EntryList.TheVariants.{Ppis, Callbacks, Dispatches, Pendings}
-use Rattle.store_laws.specs.Changes.{without_first}
+use Rattle.store_laws.specs.{Changes.without_first, Linking.last_place, Linking.named_by, Word.word_in}
 use Rattle.store_laws.specs.Items.{Item, item_of, queued_item, items, places_of, first_address}
-use Rattle.store_laws.specs.Linking.{last_place, named_by}
-use Rattle.store_laws.specs.Word.{word_in}
 
 -- the address of the last of these nodes, or 0
 abbrev pub last_address : ℕ → List Item → ℕ

@@ -2,13 +2,11 @@
 -- and ends at the end HOB.
 -- PI 1.8, volume 3, "HOB List".
 use Rattle.std.specs.Prelude.{◌≡◌, ℕ, ◌+◌, List, [], ◌∷◌, None, ⊤}
-use Rattle.hob_codec.specs.declared.kind.TheConstants.{HANDOFF, END}
-use Rattle.hob_codec.specs.declared.list.HobPlace.{HobPlace}
+use Rattle.hob_codec.specs.{declared.kind.TheConstants.HANDOFF, declared.kind.TheConstants.END, declared.list.HobPlace.HobPlace}
 use Rattle.hob_codec.specs.HobList.{Leads, AreHobs, fault_at}
 use Rattle.hob_codec.specs.HobReading.{kind_at, body_at}
-use Rattle.store_model.specs.declared.state.HobEntry.{HobEntry}
+use Rattle.store_model.specs.{declared.state.HobEntry.HobEntry, StateFacts.IsStoreState}
 use Rattle.store_model.specs.StoreState.{StoreState, end_place, handoff_len, header_len, hob_len}
-use Rattle.store_model.specs.StateFacts.{IsStoreState}
 use Rattle.store_model.specs.HeapImage.{body_bytes, handoff_body, heap_image}
 
 -- the HOBs by their places, types and lengths, where the first stands at `at`

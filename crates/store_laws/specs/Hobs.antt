@@ -2,12 +2,8 @@
 -- Own.
 use Rattle.std.specs.Prelude.{◌≡◌, ℕ, ◌+◌, ◌≤◌, ◌==◌, if◌then◌else◌, List, Option, Some, None}
 use Rattle.hob_codec.specs.declared.kind.TheConstants.{END}
-use Rattle.store_model.specs.declared.store_handle.HobSpan.{HobSpan}
-use Rattle.store_model.specs.StoreState.{StoreState, header_len}
-use Rattle.store_model.specs.StateFacts.{IsStoreState}
-use Rattle.store_model.specs.StoreCall.{IsHobPlace}
-use Rattle.store_model.specs.HeapImage.{heap_image}
-use Rattle.store_model.specs.Service.Reading.{hob_at}
+use Rattle.store_model.specs.{declared.store_handle.HobSpan.HobSpan, StoreState.StoreState, StoreState.header_len, StateFacts.IsStoreState}
+use Rattle.store_model.specs.{StoreCall.IsHobPlace, HeapImage.heap_image, Service.Reading.hob_at}
 use Rattle.store_laws.specs.Word.{short_in}
 
 -- the HOB at a place, by its type and length; none at the end HOB

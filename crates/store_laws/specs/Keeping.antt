@@ -4,16 +4,12 @@ use Rattle.std.specs.Prelude.{◌≡◌, ℕ, ◌+◌, ◌<◌, ◌^◌, List, l
 use Rattle.hob_codec.specs.HobBytes.{fields_of, joined, length_of}
 use Rattle.hob_codec.specs.HobValue.{HobValue}
 use Rattle.pi_base.specs.Lists.{Each}
-use Rattle.store_model.specs.declared.store_handle.Desc.{Desc}
-use Rattle.store_model.specs.declared.store_handle.DescKind.{DescKind}
+use Rattle.store_model.specs.{declared.store_handle.Desc.Desc, declared.store_handle.DescKind.DescKind}
 use Rattle.store_model.specs.declared.store_handle.GuidFrom.{GuidFrom}
 use Rattle.store_model.specs.declared.store_handle.GuidFrom.TheVariants.{Inline, At}
-use Rattle.store_model.specs.declared.store_handle.Pool.{Pool}
+use Rattle.store_model.specs.{declared.store_handle.Pool.Pool, StoreCall.IsScriptHob, Migration.migration, Service.Service}
 use Rattle.store_model.specs.StoreState.{Board, StoreState, empty_store, header_len}
 use Rattle.store_model.specs.StateFacts.{IsBoard, IsStoreState, IsDesc, IsPool, IsNumberOf}
-use Rattle.store_model.specs.StoreCall.{IsScriptHob}
-use Rattle.store_model.specs.Migration.{migration}
-use Rattle.store_model.specs.Service.{Service}
 use Rattle.store_model.specs.Service.Pool as P
 use Rattle.store_model.specs.Service.Descriptor as D
 use Rattle.store_model.specs.Service.Install as I

@@ -6,11 +6,9 @@ use Rattle.phys_mem.specs.Region.{replaced}
 use Rattle.store_model.specs.declared.store_handle.Desc.{Desc}
 use Rattle.store_model.specs.declared.store_handle.DescKind.TheVariants.{Callback, Dispatch}
 use Rattle.store_model.specs.StoreState.{StoreState, end_place, next_body}
-use Rattle.store_model.specs.StateFacts.{IsStoreState}
-use Rattle.store_model.specs.HeapImage.{links_bytes, heap_image}
+use Rattle.store_model.specs.{StateFacts.IsStoreState, HeapImage.links_bytes, HeapImage.heap_image}
 use Rattle.store_model.specs.Service.Install.{with_node, with_ppi, with_pending}
-use Rattle.store_model.specs.Service.Notify.{with_note_of, note_entry}
-use Rattle.store_model.specs.declared.store_handle.EntryList.{EntryList}
+use Rattle.store_model.specs.{Service.Notify.with_note_of, Service.Notify.note_entry, declared.store_handle.EntryList.EntryList}
 use Rattle.store_model.specs.declared.store_handle.EntryList.TheVariants.{Ppis, Callbacks, Dispatches, Pendings}
 use Rattle.store_laws.specs.Items.{Item, item_of, queued_item, items, places_of, links_before}
 

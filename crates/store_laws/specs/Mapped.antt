@@ -1,9 +1,8 @@
 -- The regions of memory whose heap has these bytes: temporary RAM with the page region behind the heap, or RAM with zeros round it.
 -- Own.
 use Rattle.std.specs.Prelude.{◌≡◌, ℕ, ◌+◌, ◌-◌, ◌≤◌, Bool, true, false, List, ◌∷◌, ◌++◌, length, map, replicate, take, drop, Some}
-use Rattle.phys_mem.specs.Region.{Region}
+use Rattle.phys_mem.specs.{Region.Region, declared.memory.PhysMem.PhysMem}
 use Rattle.phys_mem.specs.Regions.{rom_region, regions, bytes_at}
-use Rattle.phys_mem.specs.declared.memory.PhysMem.{PhysMem}
 use Rattle.store_model.specs.StoreState.{Board, StoreState, empty_store}
 use Rattle.store_model.specs.HeapImage.{heap_image}
 

@@ -2,16 +2,13 @@
 -- Own.
 use Rattle.std.specs.Prelude.{◌≡◌, ℕ, ◌+◌, ◌-◌, Bool, true, false, ◌==◌, ◌||◌, if◌then◌else◌, List, length, Some}
 use Rattle.phys_mem.specs.Region.{replaced}
-use Rattle.store_model.specs.declared.state.Body.{Body}
+use Rattle.store_model.specs.{declared.state.Body.Body, declared.state.DescriptorBody.DescriptorBody}
 use Rattle.store_model.specs.declared.state.Body.TheVariants.{Bytes, Descriptor, Node, Allocation}
-use Rattle.store_model.specs.declared.state.DescriptorBody.{DescriptorBody}
-use Rattle.store_model.specs.declared.state.AllocationBody.{AllocationBody}
-use Rattle.store_model.specs.declared.state.HobEntry.{HobEntry}
+use Rattle.store_model.specs.{declared.state.AllocationBody.AllocationBody, declared.state.HobEntry.HobEntry, Service.Descriptor.is_named}
 use Rattle.pi_base.specs.Lists.{Each}
 use Rattle.store_model.specs.StoreState.{Range, StoreState, body_from, body_len}
 use Rattle.store_model.specs.HeapImage.{descriptor_bytes, node_bytes, allocation_bytes, hobs_bytes}
 use Rattle.store_model.specs.Migration.{migrated_to, moved_number, moved_descriptor, moved_body, moved_hobs}
-use Rattle.store_model.specs.Service.Descriptor.{is_named}
 use Rattle.store_model.specs.StateFacts.{IsStoreState}
 use Rattle.store_laws.specs.Spelling.{spelled, AreSpelled}
 

@@ -1,12 +1,9 @@
 -- What an entry or a queued pair names: a descriptor of its list's kind, whose number is one of that kind.
 -- Own.
 use Rattle.std.specs.Prelude.{◌≡◌, ℕ, Some, slice_get}
-use Rattle.store_model.specs.declared.store_handle.Desc.{Desc}
-use Rattle.store_model.specs.declared.store_handle.DescKind.{DescKind}
+use Rattle.store_model.specs.{declared.store_handle.Desc.Desc, declared.store_handle.DescKind.DescKind, declared.state.Entry.Entry}
 use Rattle.store_model.specs.declared.store_handle.DescKind.TheVariants.{Ppi, Callback, Dispatch}
-use Rattle.store_model.specs.declared.state.Entry.{Entry}
-use Rattle.store_model.specs.declared.state.Pending.{Pending}
-use Rattle.store_model.specs.StoreState.{StoreState}
+use Rattle.store_model.specs.{declared.state.Pending.Pending, StoreState.StoreState}
 use Rattle.store_model.specs.StateFacts.{IsDesc, IsDescriptorAt, IsNumberOf, IsStoreState}
 use Rattle.store_model.specs.Service.Descriptor.{kind_at, number_at}
 

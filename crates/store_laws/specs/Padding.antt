@@ -3,8 +3,7 @@
 use Rattle.std.specs.Prelude.{◌≡◌, ℕ, ◌+◌, ◌≤◌, List, ◌++◌, length, replicate, take, drop}
 use Rattle.phys_mem.specs.Region.{replaced}
 use Rattle.store_model.specs.StoreState.{StoreState, end_place, header_len}
-use Rattle.store_model.specs.StateFacts.{IsStoreState}
-use Rattle.store_model.specs.HeapImage.{heap_image}
+use Rattle.store_model.specs.{StateFacts.IsStoreState, HeapImage.heap_image}
 
 -- two texts, one behind the other, are one
 abbrev pub WritesAreJoined : Type 0

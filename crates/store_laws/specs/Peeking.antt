@@ -1,11 +1,9 @@
 -- What memory reads where its heap is the image of a state.
 -- Own.
 use Rattle.std.specs.Prelude.{◌≡◌, ℕ}
-use Rattle.phys_mem.specs.Regions.{regions}
+use Rattle.phys_mem.specs.{Regions.regions, declared.memory.PhysMem.PhysMem}
 use Rattle.phys_mem.specs.Regions as R
-use Rattle.phys_mem.specs.declared.memory.PhysMem.{PhysMem}
-use Rattle.store_model.specs.StoreState.{StoreState}
-use Rattle.store_model.specs.StateFacts.{IsStoreState}
+use Rattle.store_model.specs.{StoreState.StoreState, StateFacts.IsStoreState}
 use Rattle.store_model.specs.MemoryReading as M
 use Rattle.store_laws.specs.Mapped.{IsMemoryOf}
 

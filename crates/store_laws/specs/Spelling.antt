@@ -3,10 +3,8 @@
 use Rattle.std.specs.Prelude.{◌≡◌, ◌≢◌, ℕ, ◌+◌, ◌-◌, List, [], ◌∷◌, ◌++◌, length, take, drop, sum_by, Some}
 use Rattle.phys_mem.specs.Region.{replaced}
 use Rattle.pi_base.specs.Lists.{Each}
-use Rattle.store_model.specs.declared.state.Body.{Body}
-use Rattle.store_model.specs.declared.state.HobEntry.{HobEntry}
+use Rattle.store_model.specs.{declared.state.Body.Body, declared.state.HobEntry.HobEntry, HeapImage.header_bytes}
 use Rattle.store_model.specs.StoreState.{header_len, hob_len, body_len, body_from, with_body}
-use Rattle.store_model.specs.HeapImage.{header_bytes}
 
 -- the HOBs, of which the first stands at `at`
 abbrev pub spelled : (ℕ → Body → List ℕ) → ℕ → List HobEntry → List ℕ

@@ -1,16 +1,13 @@
 -- The steps that services are made of: each makes one HOB, where there is room for it, and what holds of every state still holds.
 -- Own.
 use Rattle.std.specs.Prelude.{◌≡◌, ◌≢◌, ℕ, ◌+◌, ◌≤◌}
-use Rattle.store_model.specs.declared.store_handle.Desc.{Desc}
-use Rattle.store_model.specs.declared.store_handle.DescKind.{DescKind}
+use Rattle.store_model.specs.{declared.store_handle.Desc.Desc, declared.store_handle.DescKind.DescKind}
 use Rattle.store_model.specs.declared.store_handle.DescKind.TheVariants.{Ppi, Dispatch}
-use Rattle.store_model.specs.declared.state.HobEntry.{HobEntry}
+use Rattle.store_model.specs.{declared.state.HobEntry.HobEntry, Service.Notify.with_note}
 use Rattle.store_model.specs.StoreState.{StoreState, appended, free, hob_len}
 use Rattle.store_model.specs.StateFacts.{IsStoreState, IsHobEntry, IsDescOf, IsDescriptorAt}
 use Rattle.store_model.specs.Service.Install.{node_need, renamed, with_node, with_pending, with_ppi}
-use Rattle.store_model.specs.Service.Notify.{with_note}
-use Rattle.store_laws.specs.Bodies.{IsGrown}
-use Rattle.store_laws.specs.Keeping.{IsWord}
+use Rattle.store_laws.specs.{Bodies.IsGrown, Keeping.IsWord}
 
 -- a state with so many bytes free, and one behind it with so many bytes less
 pub record HasRoom (s : StoreState) (need : ℕ) : Type 0 where

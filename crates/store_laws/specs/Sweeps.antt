@@ -2,8 +2,7 @@
 -- Own.
 use Rattle.std.specs.Prelude.{◌≡◌, ℕ, ◌+◌, ◌<◌, ◌≤◌, List, ◌∷◌, ◌++◌, None}
 use Rattle.std.specs.Option.{option_or}
-use Rattle.store_model.specs.declared.store_handle.Sweep.{Sweep}
-use Rattle.store_model.specs.StoreState.{StoreState}
+use Rattle.store_model.specs.{declared.store_handle.Sweep.Sweep, StoreState.StoreState}
 use Rattle.store_model.specs.Service.Sweep.{first_firing, pairs_left, pairs_with}
 
 -- the sweep, were it at these places

@@ -3,14 +3,9 @@
 use Rattle.std.specs.Prelude.{ℕ, ◌+◌, ◌-◌, List, map, length}
 use Rattle.pi_base.specs.declared.guid.Guid.{Guid}
 use Rattle.phys_mem.specs.declared.rom.Rom.{Rom}
-use Rattle.store_model.specs.declared.state.Entry.{Entry}
-use Rattle.store_model.specs.StoreState.{StoreState}
-use Rattle.store_model.specs.HeapImage.{heap_image}
-use Rattle.store_model.specs.Service.Descriptor.{guid_at, number_at}
-use Rattle.store_model.specs.declared.store_handle.EntryList.{EntryList}
-use Rattle.store_laws.specs.Descriptors.{guid_told, number_told}
-use Rattle.store_laws.specs.Items.{items, first_address}
-use Rattle.store_laws.specs.Walk.{chain_from}
+use Rattle.store_model.specs.{declared.state.Entry.Entry, StoreState.StoreState, HeapImage.heap_image}
+use Rattle.store_model.specs.{Service.Descriptor.guid_at, Service.Descriptor.number_at, declared.store_handle.EntryList.EntryList}
+use Rattle.store_laws.specs.{Descriptors.guid_told, Descriptors.number_told, Items.items, Items.first_address, Walk.chain_from}
 use Rattle.store_laws.specs.Word.{word_in}
 
 -- an entry's descriptor, with its GUID and number, and the number of a module

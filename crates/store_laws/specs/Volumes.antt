@@ -2,9 +2,7 @@
 -- Own.
 use Rattle.std.specs.Prelude.{◌≡◌, ℕ, zero, suc, ◌+◌, ◌<◌, ◌==◌, if◌then◌else◌, List, [], ◌∷◌, length}
 use Rattle.hob_codec.specs.declared.kind.TheConstants.{END, VOLUME}
-use Rattle.store_model.specs.StoreState.{StoreState, handoff_len}
-use Rattle.store_model.specs.StateFacts.{IsStoreState}
-use Rattle.store_model.specs.HeapImage.{heap_image}
+use Rattle.store_model.specs.{StoreState.StoreState, StoreState.handoff_len, StateFacts.IsStoreState, HeapImage.heap_image}
 use Rattle.store_model.specs.Service.Reading.{fv_bases}
 use Rattle.store_laws.specs.Word.{short_in, word_in}
 

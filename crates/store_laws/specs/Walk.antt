@@ -1,9 +1,7 @@
 -- The addresses of linked nodes in bytes: each node's first eight bytes are the address of the next, and 0 is none.
 -- Own.
 use Rattle.std.specs.Prelude.{◌≡◌, ℕ, zero, suc, ◌+◌, ◌-◌, ◌≤◌, ◌==◌, if◌then◌else◌, List, [], ◌∷◌, map, length}
-use Rattle.store_model.specs.StoreState.{StoreState}
-use Rattle.store_model.specs.StateFacts.{IsStoreState}
-use Rattle.store_model.specs.HeapImage.{heap_image}
+use Rattle.store_model.specs.{StoreState.StoreState, StateFacts.IsStoreState, HeapImage.heap_image}
 use Rattle.store_model.specs.declared.store_handle.EntryList.{EntryList}
 use Rattle.store_laws.specs.Items.{Item, items, first_address}
 use Rattle.store_laws.specs.Word.{word_in}

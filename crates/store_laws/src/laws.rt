@@ -1,11 +1,6 @@
 // What follows from the definitions alone.
-ghost use Rattle.store_laws.specs.Behind.{EntriesAreTold};
-ghost use Rattle.store_laws.specs.Bodies.{BodiesAreInside, BodiesStay};
-ghost use Rattle.store_laws.specs.Fitting.{StatesFit};
-ghost use Rattle.store_laws.specs.Keeping.{KeepFacts};
-ghost use Rattle.store_laws.specs.Named.{NamedAreThere};
-ghost use Rattle.store_laws.specs.Steps.{StepsKeepFacts};
-ghost use Rattle.store_laws.specs.Sweeps.{SweepsGoOn};
+ghost use Rattle.store_laws.specs.{Behind.EntriesAreTold, Bodies.BodiesAreInside, Bodies.BodiesStay, Fitting.StatesFit, Keeping.KeepFacts};
+ghost use Rattle.store_laws.specs.{Named.NamedAreThere, Steps.StepsKeepFacts, Sweeps.SweepsGoOn};
 
 /// Each service and the move keep what holds of every state.
 pub fn services_keep_facts()

@@ -1,13 +1,9 @@
 -- The services keep what holds of the handles, and the first interface of a protocol is on the lowest handle.
-use Rattle.std.proofs.Common.{option_map, ◌≡◌, ℕ, ◌+◌, ◌≤◌, ◌<◌, ◌==◌, Bool, true, false, ◌||◌, ◌&&◌, not, cond, List, [], ◌∷◌, Option, Some, None, refl, sym, subst, ap, ◌∙◌, arith, nat_lt, Decides}
-use Rattle.std.specs.Prelude.{Ok, Err, find, bytes_eq}
+use Rattle.std.proofs.Common.{option_map, ◌≡◌, ℕ, ◌+◌, ◌≤◌, ◌<◌, ◌==◌, Bool, true, false, ◌||◌, ◌&&◌, not, cond, List, [], ◌∷◌, Option, Some, None, refl, sym, subst, ap, ◌∙◌, arith, nat_lt, Decides, Ok, Err, find, bytes_eq}
 use Rattle.std.specs.List.{list_any}
-use Rattle.std.proofs.lemmas.Bool.Decides.{nat_tests}
-use Rattle.std.proofs.lemmas.Slice.Eq.{bytes_eq-Decides}
-use Rattle.pi_base.specs.declared.word.Word.TheVariants.{InvalidParameter, NotFound}
-use Rattle.pi_base.specs.declared.guid.Guid.{Guid}
-use Rattle.pi_base.specs.Guids.{same_guid}
-use Rattle.pi_base.specs.Lists.{Each, Ordered}
+use Rattle.std.proofs.{lemmas.Bool.Decides.nat_tests, lemmas.Slice.Eq.bytes_eq-Decides}
+use Rattle.pi_base.specs.{declared.word.Word.TheVariants.InvalidParameter, declared.word.Word.TheVariants.NotFound, declared.guid.Guid.Guid}
+use Rattle.pi_base.specs.{Guids.same_guid, Lists.Each, Lists.Ordered}
 use Rattle.pi_base.proofs.ListFacts.{each_more, each_append, ordered_append}
 use Rattle.store_model.specs.HandleState.{Interface, HandleState, no_handles, is_live, is_on, is_on_with, placed, install_new, install_on, install_interface, with_value, without, change_of, reinstall_interface, uninstall_interface}
 use Rattle.store_model.specs.HandleFacts.{IsNotBehind, AreOfOthers, WasMade, IsHandleState, Keeps, KeepHandleFacts, LocatedIsLowest}

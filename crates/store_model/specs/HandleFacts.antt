@@ -1,9 +1,7 @@
 -- What the handles keep: interfaces stand in order of handle, a handle has a protocol once, and each handle was made. So the first interface of a protocol is on the lowest handle that has it.
 -- Own; PI 1.8, volume 2, "Protocol Handler Services", has one interface of a protocol on a handle.
 use Rattle.std.specs.Prelude.{◌≡◌, ◌≤◌, ℕ, true, false, Option, Some, Ok, Err, ⊤}
-use Rattle.pi_base.specs.declared.guid.Guid.{Guid}
-use Rattle.pi_base.specs.Guids.{same_guid}
-use Rattle.pi_base.specs.Lists.{Each, Ordered}
+use Rattle.pi_base.specs.{declared.guid.Guid.Guid, Guids.same_guid, Lists.Each, Lists.Ordered}
 use Rattle.store_model.specs.HandleState.{Interface, HandleState, HandleService, no_handles, is_on, install_interface, reinstall_interface, uninstall_interface, locate_handle}
 
 -- one interface stands before another or on the same handle

@@ -3,10 +3,8 @@
 -- PI 1.8, volume 2, "Protocol Handler Services".
 use Rattle.std.specs.Prelude.{ℕ, ◌+◌, Bool, ◌==◌, ◌&&◌, ◌||◌, not, if◌then◌else◌, nat_lt, List, [], ◌∷◌, ◌++◌, Option, Some, None, Result, Ok, Err, find, option_map}
 use Rattle.std.specs.List.{list_any}
-use Rattle.pi_base.specs.declared.guid.Guid.{Guid}
-use Rattle.pi_base.specs.declared.word.Word.{Word}
-use Rattle.pi_base.specs.declared.word.Word.TheVariants.{InvalidParameter, NotFound}
-use Rattle.pi_base.specs.Guids.{same_guid}
+use Rattle.pi_base.specs.{declared.guid.Guid.Guid, declared.word.Word.Word}
+use Rattle.pi_base.specs.{declared.word.Word.TheVariants.InvalidParameter, declared.word.Word.TheVariants.NotFound, Guids.same_guid}
 pub use Rattle.store_model.specs.declared.interface.Interface.{Interface}
 
 -- `made` counts all handles that were ever made, also those that are gone

@@ -4,8 +4,7 @@
 use Rattle.std.specs.Prelude.{ℕ, ◌+◌, ◌-◌, ◌==◌, if◌then◌else◌, List, [], ◌∷◌, ◌++◌, length, replicate, Option, Some, None}
 use Rattle.std.specs.Option.{option_or}
 use Rattle.pi_base.specs.Field.{little_bytes}
-use Rattle.hob_codec.specs.declared.kind.TheConstants.{HANDOFF, END}
-use Rattle.hob_codec.specs.declared.hob.Handoff.{Handoff}
+use Rattle.hob_codec.specs.{declared.kind.TheConstants.HANDOFF, declared.kind.TheConstants.END, declared.hob.Handoff.Handoff}
 use Rattle.hob_codec.specs.HobValue.{HandoffHob, AllocationHob}
 use Rattle.hob_codec.specs.HobBytes.{fields_of, header_fields, joined}
 use Rattle.store_model.specs.declared.store_handle.DescKind.{DescKind}

@@ -2,11 +2,9 @@
 -- A descriptor that nothing names is forgotten: its pool keeps the bytes that it had. No list, order, GUID or entry changes.
 -- PI 1.8, volume 1, "Installing PEI Memory" and `EFI_PEI_TEMPORARY_RAM_SUPPORT_PPI`; which numbers are shifted is own.
 use Rattle.std.specs.Prelude.{ℕ, ◌+◌, ◌-◌, true, if◌then◌else◌, nat_le, nat_lt, ◌&&◌, List, [], ◌∷◌, Option, None, option_map}
-use Rattle.store_model.specs.declared.store_handle.DescKind.{DescKind}
+use Rattle.store_model.specs.{declared.store_handle.DescKind.DescKind, HeapImage.descriptor_bytes, Service.Descriptor.is_named}
 use Rattle.store_model.specs.declared.store_handle.DescKind.TheVariants.{Ppi, Callback, Dispatch}
 use Rattle.store_model.specs.StoreState.{Range, DescriptorBody, Body, Bytes, Descriptor, Node, Allocation, HobEntry, StoreState, hob_len, header_len, handoff_len}
-use Rattle.store_model.specs.HeapImage.{descriptor_bytes}
-use Rattle.store_model.specs.Service.Descriptor.{is_named}
 
 -- a number that lies in the old heap moves with the heap, and one that lies in the page region with the pages; every other is itself
 abbrev pub moved_number : StoreState → Range → ℕ → ℕ

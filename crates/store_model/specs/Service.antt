@@ -13,9 +13,8 @@ pub mod Memory
 use Rattle.std.specs.Prelude.{◌≡◌, ℕ, Bool, true, false, if◌then◌else◌, nat_lt, Option, Some, None, Result, Ok, Err}
 use Rattle.pi_base.specs.declared.word.Word.{Word}
 use Rattle.pi_base.specs.declared.word.Word.TheVariants.{InvalidParameter, NotFound, OutOfResources, NotAvailableYet}
-use Rattle.store_model.specs.declared.store_handle.StoreFault.{StoreFault}
+use Rattle.store_model.specs.{declared.store_handle.StoreFault.StoreFault, StoreState.StoreState, StoreState.free}
 use Rattle.store_model.specs.declared.store_handle.StoreFault.TheVariants as F
-use Rattle.store_model.specs.StoreState.{StoreState, free}
 
 -- the answer with the state after it, or a fault, behind which the state is the one before
 abbrev pub Service : Type 0 → Type 0

@@ -4,12 +4,9 @@ use Rattle.std.specs.Prelude.{◌≡◌, ◌≢◌, ◌⊎◌, ℕ, ◌+◌, ◌
 use Rattle.hob_codec.specs.declared.kind.TheConstants.{HANDOFF, ALLOCATION, RESOURCE, NAMED, VOLUME, CPU, POOL, VOLUME2, END}
 use Rattle.boot_plan.specs.declared.limits.TheConstants.{MOST_TEMP, MOST_RAM, MOST_END}
 use Rattle.pi_base.specs.Lists.{Each, Ordered}
-use Rattle.store_model.specs.declared.limits.TheConstants.{NOTE_NUMBERS}
-use Rattle.store_model.specs.declared.store_handle.DescKind.{DescKind}
+use Rattle.store_model.specs.{declared.limits.TheConstants.NOTE_NUMBERS, declared.store_handle.DescKind.DescKind}
 use Rattle.store_model.specs.declared.store_handle.DescKind.TheVariants.{Ppi, Callback, Dispatch}
-use Rattle.store_model.specs.declared.store_handle.Desc.{Desc}
-use Rattle.store_model.specs.declared.store_handle.Pool.{Pool}
-use Rattle.store_model.specs.declared.store_handle.Sweep.{Sweep}
+use Rattle.store_model.specs.{declared.store_handle.Desc.Desc, declared.store_handle.Pool.Pool, declared.store_handle.Sweep.Sweep}
 use Rattle.store_model.specs.StoreState.{StoreState, Board, Range, Rom, Entry, Pending, DescriptorBody, AllocationBody, Body, Bytes, Descriptor, Node, Allocation, HobEntry, body_at, body_len, hob_len, most_hob, end_place, header_len, handoff_len, page_bytes}
 use Rattle.store_model.specs.MemoryReading.{rom_bytes}
 

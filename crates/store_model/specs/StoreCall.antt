@@ -5,11 +5,8 @@ use Rattle.hob_codec.specs.HobValue.{HobValue, HandoffHob, AllocationHob, Resour
 use Rattle.hob_codec.specs.HobBytes.{length_of}
 use Rattle.std.specs.List.{list_any}
 use Rattle.pi_base.specs.Lists.{Each}
-use Rattle.store_model.specs.declared.store_handle.Desc.{Desc}
-use Rattle.store_model.specs.declared.store_handle.EntryList.{EntryList}
-use Rattle.store_model.specs.declared.store_handle.Firing.{Firing}
-use Rattle.store_model.specs.declared.store_handle.Pool.{Pool}
-use Rattle.store_model.specs.declared.store_handle.Sweep.{Sweep}
+use Rattle.store_model.specs.{declared.store_handle.Desc.Desc, declared.store_handle.EntryList.EntryList}
+use Rattle.store_model.specs.{declared.store_handle.Firing.Firing, declared.store_handle.Pool.Pool, declared.store_handle.Sweep.Sweep}
 use Rattle.store_model.specs.StoreState.{StoreState, end_place, most_hob}
 use Rattle.store_model.specs.StateFacts.{IsDesc, IsPool, IsSweepOf}
 use Rattle.store_model.specs.Service.Reading.{hob_at, memory_due, told_of}

@@ -1,7 +1,6 @@
 //! What a store hands out. An offset counts from the heap's base.
 ghost use Rattle.std.specs.Prelude.{◌≡◌};
-ghost use Rattle.store_model.specs.HeapImage.{kind_flags};
-ghost use Rattle.store_model.specs.Service.{fault_status};
+ghost use Rattle.store_model.specs.{HeapImage.kind_flags, Service.fault_status};
 ghost use Rattle.store_model.specs.declared.store_handle.StoreFault.TheVariants as F;
 
 use pi_base::{Guid, OutOfMemory, Word};

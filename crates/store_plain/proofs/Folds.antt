@@ -1,6 +1,5 @@
 -- A fold over a list goes on with the item in its place.
-use Rattle.std.proofs.Common.{◌≡◌, ℕ, zero, suc, ◌+◌, ◌≤◌, ◌<◌, List, [], ◌∷◌, length, drop, get_or, arith, ap, length-drop}
-use Rattle.std.specs.Prelude.{fold}
+use Rattle.std.proofs.Common.{◌≡◌, ℕ, zero, suc, ◌+◌, ◌≤◌, ◌<◌, List, [], ◌∷◌, length, drop, get_or, arith, ap, length-drop, fold}
 
 pub fold_on : {S A : Type 0} (f : S → A → S) (s t : S) (xs : List A) (i : ℕ) (d : A) → i < length xs → t ≡ f s (get_or xs i d) → fold f t (drop (i + 1) xs) ≡ fold f s (drop i xs)
 fold_on f s t [] i d le e = absurd (omega (arith, le))

@@ -1,24 +1,17 @@
 -- A byte of two lists, and the lengths of what stands in the heap.
-use Rattle.std.proofs.Common.{◌≡◌, ℕ, zero, suc, ◌+◌, ◌<◌, ◌^◌, List, [], ◌∷◌, ◌++◌, length, take, drop, get_or, arith, ap, refl, sym, ◌∙◌, Some, None, append_assoc}
-use Rattle.std.specs.Prelude.{map, sum_by, slice_set}
-use Rattle.std.proofs.lemmas.List.{map-append}
+use Rattle.std.proofs.Common.{◌≡◌, ℕ, zero, suc, ◌+◌, ◌<◌, ◌^◌, List, [], ◌∷◌, ◌++◌, length, take, drop, get_or, arith, ap, refl, sym, ◌∙◌, Some, None, append_assoc, map, sum_by, slice_set}
+use Rattle.std.proofs.{lemmas.List.map-append, lemmas.List.Sums.sum_by-cons}
 use Rattle.store_plain.specs.Words.{words_bytes, descriptor_words}
-use Rattle.std.proofs.lemmas.List.Sums.{sum_by-cons}
-use Rattle.store_model.specs.declared.store_handle.DescKind.{DescKind}
-use Rattle.store_model.specs.declared.state.Entry.{Entry}
-use Rattle.store_model.specs.declared.state.Pending.{Pending}
-use Rattle.store_model.specs.declared.state.DescriptorBody.{DescriptorBody}
-use Rattle.store_model.specs.declared.state.Body.{Body}
-use Rattle.store_model.specs.declared.state.HobEntry.{HobEntry}
+use Rattle.store_model.specs.{declared.store_handle.DescKind.DescKind, declared.state.Entry.Entry, declared.state.Pending.Pending}
+use Rattle.store_model.specs.{declared.state.DescriptorBody.DescriptorBody, declared.state.Body.Body, declared.state.HobEntry.HobEntry}
 use Rattle.pi_base.specs.Lists.{Each, numbers}
 use Rattle.store_model.specs.StoreState.{StoreState, body_at, handoff_len, hob_len}
 use Rattle.store_model.specs.StateFacts.{IsEntry, IsPending, IsStoreState}
 use Rattle.store_model.specs.HeapImage.{header_bytes, body_bytes, hobs_bytes, guid_behind, descriptor_bytes}
 use Rattle.store_laws.specs.Fitting.{IsSpelled}
-use Rattle.store_laws.proofs.Fits.{all_fit}
+use Rattle.store_laws.proofs.{Fits.all_fit, Bodies.body_before}
 use Rattle.store_plain.specs.Peeking.{byte_of, IsNear, IsPendingNear}
 use Rattle.pi_base.proofs.ListFacts.{each_more}
-use Rattle.store_laws.proofs.Bodies.{body_before}
 
 pub byte_left : (xs ys : List ℕ) (i : ℕ) → i < length xs → byte_of (xs ++ ys) i ≡ byte_of xs i
 byte_left [] ys i le = absurd (omega (arith, le))

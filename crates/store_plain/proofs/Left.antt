@@ -1,9 +1,7 @@
 -- What is left behind the item that has a node, by its place.
-use Rattle.std.proofs.Common.{◌≡◌, ℕ, zero, suc, ◌+◌, ◌<◌, true, List, [], ◌∷◌, length, drop, get_or, arith, refl, ◌==◌}
-use Rattle.std.specs.Prelude.{map}
+use Rattle.std.proofs.Common.{◌≡◌, ℕ, zero, suc, ◌+◌, ◌<◌, true, List, [], ◌∷◌, length, drop, get_or, arith, refl, ◌==◌, map}
 use Rattle.std.proofs.lemmas.Bool.Decides.{nat_tests}
-use Rattle.store_model.specs.declared.store_handle.EntryTold.{EntryTold}
-use Rattle.store_model.specs.Service.Reading.{behind_node}
+use Rattle.store_model.specs.{declared.store_handle.EntryTold.EntryTold, Service.Reading.behind_node}
 
 same : (a b : ℕ) → a ≡ b → (a == b) ≡ true
 same a b e = grind (arith, nat_tests, e)

@@ -1,19 +1,12 @@
 -- The move of the HOBs, one after the other.
-use Rattle.std.proofs.Common.{◌≡◌, ℕ, zero, suc, ◌+◌, ◌<◌, Bool, true, false, List, [], ◌∷◌, ◌++◌, length, take, drop, get_or, arith, ap, refl, sym, ◌∙◌, ◌==◌}
-use Rattle.std.specs.Prelude.{slice_set, ◌||◌}
+use Rattle.std.proofs.Common.{◌≡◌, ℕ, zero, suc, ◌+◌, ◌<◌, Bool, true, false, List, [], ◌∷◌, ◌++◌, length, take, drop, get_or, arith, ap, refl, sym, ◌∙◌, ◌==◌, slice_set, ◌||◌, sum_by}
 use Rattle.std.specs.List.{list_any}
-use Rattle.std.specs.Prelude.{sum_by}
 use Rattle.std.proofs.lemmas.List.Sums.{sum_by-cons}
-use Rattle.store_plain.specs.declared.store.PlainStore.{PlainStore}
-use Rattle.store_plain.specs.PlainState.{state_of}
-use Rattle.store_plain.specs.Moves.{SameLists}
-use Rattle.store_model.specs.declared.state.Entry.{Entry}
-use Rattle.store_model.specs.declared.state.Body.{Body}
+use Rattle.store_plain.specs.{declared.store.PlainStore.PlainStore, PlainState.state_of, Moves.SameLists}
+use Rattle.store_model.specs.{declared.state.Entry.Entry, declared.state.Body.Body, declared.state.HobEntry.HobEntry}
 use Rattle.store_model.specs.declared.state.Body.TheVariants.{Bytes, Descriptor, Node, Allocation}
-use Rattle.store_model.specs.declared.state.HobEntry.{HobEntry}
 use Rattle.store_model.specs.StoreState.{StoreState, Range, hob_len}
-use Rattle.store_model.specs.Service.Descriptor.{descriptors}
-use Rattle.store_model.specs.Migration.{moved_body, moved_hobs}
+use Rattle.store_model.specs.{Service.Descriptor.descriptors, Migration.moved_body, Migration.moved_hobs}
 
 or_assoc : (a b c : Bool) → (a || b || c) ≡ (a || (b || c))
 or_assoc true b c = refl

@@ -1,8 +1,6 @@
 -- The first entry that names a descriptor is the one in its place.
-use Rattle.std.proofs.Common.{◌≡◌, ℕ, suc, ◌+◌, ◌<◌, Bool, true, false, cond, List, [], ◌∷◌, length, arith, ap, refl, ◌==◌, sym, ◌∙◌, subst}
-use Rattle.std.specs.Prelude.{slice_set, slice_index_or}
-use Rattle.store_model.specs.declared.state.Entry.{Entry}
-use Rattle.store_model.specs.Service.Install.{renamed, place_of}
+use Rattle.std.proofs.Common.{◌≡◌, ℕ, suc, ◌+◌, ◌<◌, Bool, true, false, cond, List, [], ◌∷◌, length, arith, ap, refl, ◌==◌, sym, ◌∙◌, subst, slice_set, slice_index_or}
+use Rattle.store_model.specs.{declared.state.Entry.Entry, Service.Install.renamed, Service.Install.place_of}
 
 set_first : (b : Bool) (entry : Entry) (entries : List Entry) (old new : ℕ) (d : Entry)
     → (cond b 0 (1 + place_of entries old)) < suc (length entries)

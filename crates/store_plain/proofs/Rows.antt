@@ -1,24 +1,17 @@
 -- What a call says of the store's own state it says of each state that the store stands for, and what holds of every state holds of the one after.
-use Rattle.std.proofs.Common.{◌≡◌, ℕ, ◌+◌, length, Bool, true, false, List, sym, refl, ap, subst, ◌∙◌, Option, Some, None, Result, Ok, Err}
-use Rattle.std.specs.Prelude.{IfSome, OnOk}
+use Rattle.std.proofs.Common.{◌≡◌, ℕ, ◌+◌, length, Bool, true, false, List, sym, refl, ap, subst, ◌∙◌, Option, Some, None, Result, Ok, Err, IfSome, OnOk}
 use Rattle.hob_codec.specs.HobBytes.{fields_of, joined, length_of}
 use Rattle.hob_codec.specs.HobValue.{HobValue}
-use Rattle.store_model.specs.declared.store_handle.Firing.{Firing}
-use Rattle.store_model.specs.declared.store_handle.Pool.{Pool}
-use Rattle.store_model.specs.declared.store_handle.StoreFault.{StoreFault}
+use Rattle.store_model.specs.{declared.store_handle.Firing.Firing, declared.store_handle.Pool.Pool}
+use Rattle.store_model.specs.{declared.store_handle.StoreFault.StoreFault, StoreState.StoreState}
 use Rattle.store_model.specs.declared.store_handle.StoreFault.TheVariants as F
-use Rattle.store_model.specs.StoreState.{StoreState}
-use Rattle.store_model.specs.StateFacts.{IsPool, IsStoreState}
+use Rattle.store_model.specs.{StateFacts.IsPool, StateFacts.IsStoreState, Service.Hob.create_hob, Service.Pool.store}
 use Rattle.store_model.specs.StoreCall.{IsDue, IsScriptHob, Migrates}
 use Rattle.store_model.specs.Service.{AfterEach, And, Answers, OfEach, Present, Service, Stores, Takes}
-use Rattle.store_model.specs.Service.Hob.{create_hob}
-use Rattle.store_model.specs.Service.Pool.{store}
-use Rattle.store_model.specs.Service.Queue.{queue_pop}
-use Rattle.store_model.specs.Service.Memory.{with_boot_mode}
+use Rattle.store_model.specs.{Service.Queue.queue_pop, Service.Memory.with_boot_mode}
 use Rattle.store_laws.specs.Keeping.{IsWord, Keeps}
 use Rattle.store_laws.proofs.Services.{all_keep}
-use Rattle.store_plain.specs.declared.store.PlainStore.{PlainStore}
-use Rattle.store_plain.specs.PlainState.{state_of, stands_for}
+use Rattle.store_plain.specs.{declared.store.PlainStore.PlainStore, PlainState.state_of, PlainState.stands_for}
 
 pub present : (p : PlainStore) (Needs : StoreState → Type 0) → Present (stands_for p) Needs → IsStoreState (state_of p)
 present p Needs h = subst IsStoreState h.1.0 h.1.1

@@ -1,9 +1,7 @@
 -- What entries and queued pairs name is there.
 -- Own.
 use Rattle.std.specs.Prelude.{◌≡◌, true, is_some}
-use Rattle.store_model.specs.declared.state.Entry.{Entry}
-use Rattle.store_model.specs.declared.state.Pending.{Pending}
-use Rattle.store_model.specs.StoreState.{StoreState}
+use Rattle.store_model.specs.{declared.state.Entry.Entry, declared.state.Pending.Pending, StoreState.StoreState}
 use Rattle.store_model.specs.Service.Descriptor.{descriptor_at}
 
 -- an entry names a descriptor

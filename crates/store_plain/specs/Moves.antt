@@ -3,11 +3,8 @@
 use Rattle.std.specs.Prelude.{◌≡◌, ℕ, ◌+◌, ◌≤◌, []}
 use Rattle.boot_plan.specs.declared.limits.TheConstants.{MOST_END}
 use Rattle.pi_base.specs.declared.span.Span.{Span}
-use Rattle.store_model.specs.declared.state.HobEntry.{HobEntry}
-use Rattle.store_model.specs.StoreState.{Range, StoreState}
-use Rattle.store_model.specs.Migration.{moved_body}
-use Rattle.store_plain.specs.declared.store.PlainStore.{PlainStore}
-use Rattle.store_plain.specs.PlainState.{state_of}
+use Rattle.store_model.specs.{declared.state.HobEntry.HobEntry, StoreState.Range, StoreState.StoreState, Migration.moved_body}
+use Rattle.store_plain.specs.{declared.store.PlainStore.PlainStore, PlainState.state_of}
 
 -- the heap and the page region fit into it, and it ends where a plan lets it
 abbrev pub FitsInto : PlainStore → Span → Type 0

@@ -2,8 +2,7 @@
 -- Own.
 use Rattle.std.specs.Prelude.{ℕ, ◌+◌, ◌*◌, ◌≤◌, vec_len, vec_capacity}
 use Rattle.store_model.specs.StoreState.{free}
-use Rattle.store_plain.specs.declared.store.PlainStore.{PlainStore}
-use Rattle.store_plain.specs.PlainState.{state_of}
+use Rattle.store_plain.specs.{declared.store.PlainStore.PlainStore, PlainState.state_of}
 
 -- so many nodes can be added
 abbrev pub HasNodes : PlainStore → ℕ → Type 0

@@ -1,11 +1,8 @@
 -- The heap's bytes one by one: a byte of a list, and the numbers of a node.
 -- Own.
 use Rattle.std.specs.Prelude.{ℕ, ◌+◌, ◌<◌, ◌^◌, List, [], ◌∷◌, replicate, unwrap_or, slice_get}
-use Rattle.hob_codec.specs.HobBytes.{fields_of, joined}
-use Rattle.hob_codec.specs.HobValue.{AllocationHob}
-use Rattle.store_model.specs.declared.state.AllocationBody.{AllocationBody}
-use Rattle.store_model.specs.declared.state.Entry.{Entry}
-use Rattle.store_model.specs.declared.state.Pending.{Pending}
+use Rattle.hob_codec.specs.{HobBytes.fields_of, HobBytes.joined, HobValue.AllocationHob}
+use Rattle.store_model.specs.{declared.state.AllocationBody.AllocationBody, declared.state.Entry.Entry, declared.state.Pending.Pending}
 use Rattle.store_model.specs.HeapImage.{Links}
 
 -- the byte in a place, and 0 past the last

@@ -1,11 +1,9 @@
 -- What a body of a plain store stands for: its bytes, wherever they lie, or a descriptor, a node or pages.
 -- Own.
 use Rattle.std.specs.Prelude.{ℕ, ⊤}
-use Rattle.store_model.specs.HeapImage.{descriptor_bytes}
-use Rattle.store_model.specs.declared.state.Body.{Body}
+use Rattle.store_model.specs.{HeapImage.descriptor_bytes, declared.state.Body.Body}
 use Rattle.store_model.specs.declared.state.Body.TheVariants as S
-use Rattle.store_plain.specs.declared.plain_hob.PlainBody.{PlainBody}
-use Rattle.store_plain.specs.declared.plain_hob.Role.{Role}
+use Rattle.store_plain.specs.{declared.plain_hob.PlainBody.PlainBody, declared.plain_hob.Role.Role}
 use Rattle.store_plain.specs.declared.plain_hob.Role.TheVariants as R
 use Rattle.store_plain.specs.declared.plain_hob.PlainBody.TheVariants.{Bytes, NodeBytes, ShortBytes, LongBytes, Descriptor, Node, Allocation}
 

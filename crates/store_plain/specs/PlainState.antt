@@ -2,8 +2,7 @@
 -- Own.
 use Rattle.std.specs.Prelude.{◌≡◌, option_map}
 use Rattle.store_plain.specs.declared.store.PlainStore.{PlainStore}
-use Rattle.store_model.specs.StoreState.{StoreState, range_of}
-use Rattle.store_model.specs.StateFacts.{IsStoreState}
+use Rattle.store_model.specs.{StoreState.StoreState, StoreState.range_of, StateFacts.IsStoreState}
 
 abbrev pub state_of : PlainStore → StoreState
 state_of p = record {

@@ -1,8 +1,7 @@
 // The entries of a list, told one behind the other by their nodes.
 ghost use Rattle.std.specs.Prelude.{◌≡◌, drop, map, slice_get};
 ghost use Rattle.pi_base.specs.Lists.{Each};
-ghost use Rattle.store_model.specs.StateFacts.{IsStoreState, IsDesc};
-ghost use Rattle.store_model.specs.StoreState.{StoreState};
+ghost use Rattle.store_model.specs.{StateFacts.IsStoreState, StateFacts.IsDesc, StoreState.StoreState};
 ghost use Rattle.store_model.specs.Service.Reading.{descriptor, entry_behind, entry_told, pending_told, told_behind};
 ghost use Rattle.store_plain.specs.Behind.{IsNamed, IsPpiNamed};
 

@@ -2,8 +2,7 @@
 ghost use Rattle.std.specs.Prelude.{◌≡◌, ◌+◌, ◌<◌, true, take, sum_by, length, option_map, IfSome, IfNone, is_some, unwrap_or, None};
 ghost use Rattle.store_model.specs.StoreState.{body_at, handoff_len, header_len, hob_len};
 ghost use Rattle.pi_base.specs.Guids.{same_guid};
-ghost use Rattle.store_model.specs.MemoryReading.{rom_bytes};
-ghost use Rattle.store_model.specs.Service.{Answers};
+ghost use Rattle.store_model.specs.{MemoryReading.rom_bytes, Service.Answers};
 ghost use Rattle.store_model.specs.Service.Descriptor.{desc, guid_from, descriptor_at, guid_at, number_at, kind_at, no_guid};
 ghost use Rattle.phys_mem.specs.Region.{part_of};
 ghost use Rattle.store_laws.specs.Keeping.{IsWholeGuid};

@@ -1,9 +1,8 @@
 // The heap's bytes, one by one.
 ghost use Rattle.std.specs.Prelude.{◌≡◌, ◌≤◌, ◌<◌, ◌+◌, ◌-◌, ◌++◌, length, option_map};
 ghost use Rattle.pi_base.specs.Lists.{Each};
-ghost use Rattle.store_model.specs.StateFacts.{IsStoreState};
+ghost use Rattle.store_model.specs.{StateFacts.IsStoreState, MemoryReading.heap_byte};
 ghost use Rattle.store_model.specs.HeapImage.{header_bytes, body_bytes, hob_list, handoff_of, handoff_body, links_in, pending_links_in, links_at, node_bytes, descriptor_bytes, hobs_bytes};
-ghost use Rattle.store_model.specs.MemoryReading.{heap_byte};
 ghost use Rattle.store_model.specs.StoreState.{handoff_len, header_len, hob_len};
 ghost use Rattle.store_plain.specs.Peeking.{byte_of, link_words, pages_bytes, IsNear, IsPendingNear};
 ghost use Rattle.store_plain.specs.Words.{words_bytes};

@@ -3,9 +3,7 @@ ghost use Rattle.std.specs.Prelude.{◌≡◌, ◌≤◌, ◌+◌, true, IfOk, O
 ghost use Rattle.hob_codec.specs.HobView.{hob_value};
 ghost use Rattle.hob_codec.specs.HobValue as V;
 ghost use Rattle.hob_codec.specs.HobBytes.{length_of, fields_of, joined};
-ghost use Rattle.store_model.specs.StoreCall.{IsScriptHob};
-ghost use Rattle.store_model.specs.Service.{Answers};
-ghost use Rattle.store_model.specs.Service.Hob.{create_hob};
+ghost use Rattle.store_model.specs.{StoreCall.IsScriptHob, Service.Answers, Service.Hob.create_hob};
 
 use crate::length::HEADER_LEN;
 use crate::plain_hob::{PlainBody, PlainHob};

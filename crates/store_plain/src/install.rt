@@ -1,12 +1,9 @@
 // PPIs are installed, and one is put in the place of another.
 ghost use Rattle.std.specs.Prelude.{◌≡◌, ◌≤◌, ◌<◌, ◌+◌, ℕ, true, false, length, IfOk, OnOk, OnErr, IfSome, IfNone};
 ghost use Rattle.std.specs.List.{list_all};
-ghost use Rattle.store_model.specs.StoreState.{free};
-ghost use Rattle.store_model.specs.Service.{Answers};
-ghost use Rattle.store_model.specs.Service.Descriptor.{is_ppi, kind_at};
+ghost use Rattle.store_model.specs.{StoreState.free, Service.Answers, Service.Descriptor.is_ppi, Service.Descriptor.kind_at};
 ghost use Rattle.store_model.specs.Service.Install.{install, reinstall, core_install, install_pairs, install_sweep, installed, reinstall_pairs, reinstall_sweep, reinstalled, node_need, renamed, place_of, is_installed};
-ghost use Rattle.store_model.specs.StoreCall.{AreFew};
-ghost use Rattle.store_model.specs.declared.store_handle.Desc.{Desc};
+ghost use Rattle.store_model.specs.{StoreCall.AreFew, declared.store_handle.Desc.Desc};
 
 use crate::nodes::sweep_from;
 use crate::pairs::{descriptors, offsets};

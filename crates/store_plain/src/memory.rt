@@ -1,7 +1,6 @@
 // Permanent memory and pages.
 ghost use Rattle.std.specs.Prelude.{◌≡◌, ◌≤◌, ◌+◌, true, false, if◌then◌else◌};
-ghost use Rattle.store_model.specs.StoreState.{free, page_bytes};
-ghost use Rattle.store_model.specs.Service.{Answers};
+ghost use Rattle.store_model.specs.{StoreState.free, StoreState.page_bytes, Service.Answers};
 ghost use Rattle.store_model.specs.Service.Memory.{set_memory, pages, is_memory, pages_taken, early_pages, with_boot_mode};
 
 use crate::length::{ALLOCATION_LEN, HEADER_LEN};

@@ -1,11 +1,8 @@
 // The move to permanent memory.
 ghost use Rattle.std.specs.Prelude.{◌≡◌, ◌≤◌, ◌<◌, ◌+◌, ◌==◌, ◌||◌, true, false, length, get_or, slice_set};
-ghost use Rattle.store_model.specs.declared.state.HobEntry.{HobEntry};
+ghost use Rattle.store_model.specs.{declared.state.HobEntry.HobEntry, StateFacts.IsStoreState, StoreState.handoff_len, StoreState.range_of};
 ghost use Rattle.std.specs.List.{list_any};
-ghost use Rattle.store_model.specs.StateFacts.{IsStoreState};
-ghost use Rattle.store_model.specs.StoreState.{handoff_len, range_of};
-ghost use Rattle.store_model.specs.StoreCall.{Migrates, IsDue};
-ghost use Rattle.store_model.specs.Service.Descriptor.{is_named, descriptors};
+ghost use Rattle.store_model.specs.{StoreCall.Migrates, StoreCall.IsDue, Service.Descriptor.is_named, Service.Descriptor.descriptors};
 ghost use Rattle.store_model.specs.Migration.{moved_number, moved_value, moved_hobs};
 
 use crate::length::{HANDOFF_LEN, HEADER_LEN};

@@ -1,12 +1,9 @@
 // Notifications are registered.
 ghost use Rattle.std.specs.Prelude.{◌≡◌, ◌≤◌, ◌<◌, ◌+◌, ℕ, true, length, fold, IfOk, OnOk, OnErr};
 ghost use Rattle.std.specs.List.{list_any};
-ghost use Rattle.store_model.specs.StoreState.{free};
-ghost use Rattle.store_model.specs.Service.{Answers};
-ghost use Rattle.store_model.specs.Service.Descriptor.{is_ppi, kind_at};
-ghost use Rattle.store_model.specs.Service.Install.{node_need};
+ghost use Rattle.store_model.specs.{StoreState.free, Service.Answers, Service.Descriptor.is_ppi, Service.Descriptor.kind_at};
+ghost use Rattle.store_model.specs.{Service.Install.node_need, StoreCall.AreFew};
 ghost use Rattle.store_model.specs.Service.Notify.{notify, notified, notify_pairs, notify_sweep, new_callbacks, with_note};
-ghost use Rattle.store_model.specs.StoreCall.{AreFew};
 
 use crate::nodes::sweep_from;
 use crate::pairs::descriptors;

@@ -1,8 +1,7 @@
 // The pairs of PPIs and notifications with equal GUIDs, by the places of their descriptors.
 ghost use Rattle.std.specs.Prelude.{◌≡◌, ◌++◌, IfOk, OnOk};
 ghost use Rattle.store_model.specs.Service.Descriptor.{offsets, descriptors};
-ghost use Rattle.store_model.specs.Service.Install.{pairs_of, row_of};
-ghost use Rattle.store_model.specs.Service.Notify.{new_dispatches};
+ghost use Rattle.store_model.specs.{Service.Install.pairs_of, Service.Install.row_of, Service.Notify.new_dispatches};
 
 use crate::store::PlainStore;
 use pi_base::OutOfMemory;

@@ -2,9 +2,7 @@
 ghost use Rattle.std.specs.Prelude.{◌≡◌, ◌<◌, ◌+◌, ◌^◌, ◌&&◌, ◌||◌, not, length, map, IsTrue};
 ghost use Rattle.phys_mem.specs.Region.{is_inside};
 ghost use Rattle.pi_base.specs.Lists.{numbers};
-ghost use Rattle.store_model.specs.StateFacts.{IsStoreState};
-ghost use Rattle.store_model.specs.StoreCall.{Peeks};
-ghost use Rattle.store_model.specs.MemoryReading.{bytes_at, heap_byte};
+ghost use Rattle.store_model.specs.{StateFacts.IsStoreState, StoreCall.Peeks, MemoryReading.bytes_at, MemoryReading.heap_byte};
 
 use crate::descriptor::rom_bytes;
 use crate::store::PlainStore;

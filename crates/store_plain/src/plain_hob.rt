@@ -1,11 +1,8 @@
 // A HOB whose contracts see it as the definitions do.
 ghost use Rattle.std.specs.Prelude.{◌≡◌, ◌≤◌, ◌<◌, ◌+◌, ◌++◌, ◌^◌, length, take, drop, is_some, true};
-ghost use Rattle.store_model.specs.StoreState.{hob_len, body_len};
-ghost use Rattle.store_model.specs.Service.Pool.{written};
-ghost use Rattle.store_model.specs.Service.Queue.{zeroed};
-ghost use Rattle.store_model.specs.declared.state.Body.TheVariants.{Node};
+ghost use Rattle.store_model.specs.{StoreState.hob_len, StoreState.body_len, Service.Pool.written, Service.Queue.zeroed};
+ghost use Rattle.store_model.specs.{declared.state.Body.TheVariants.Node, Service.Descriptor.descriptor_of};
 ghost use Rattle.store_plain.specs.PlainBody.{body_of, role_body, IsBytes, forgotten, renumbered};
-ghost use Rattle.store_model.specs.Service.Descriptor.{descriptor_of};
 
 use crate::length::{ALLOCATION_LEN, HEADER_LEN, descriptor_len};
 use crate::word_bytes::{descriptor_words, long_bytes, short_bytes};

@@ -1,8 +1,6 @@
 // Pools are made and written.
 ghost use Rattle.std.specs.Prelude.{◌≡◌, IfOk, true, replicate};
-ghost use Rattle.store_model.specs.Service.{Answers, Stores};
-ghost use Rattle.store_model.specs.StateFacts.{IsPool};
-ghost use Rattle.store_model.specs.Service.Pool.{pool, store};
+ghost use Rattle.store_model.specs.{Service.Answers, Service.Stores, StateFacts.IsPool, Service.Pool.pool, Service.Pool.store};
 
 use crate::length::{HEADER_LEN, round_up};
 use crate::plain_hob::{PlainBody, PlainHob};

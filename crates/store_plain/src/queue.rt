@@ -1,9 +1,7 @@
 // The queue of dispatch notifications.
 ghost use Rattle.std.specs.Prelude.{◌≡◌};
-ghost use Rattle.store_model.specs.StoreState.{handoff_len, with_body};
-ghost use Rattle.store_model.specs.StateFacts.{IsStoreState, IsNodeAt};
-ghost use Rattle.store_model.specs.Service.{Takes};
-ghost use Rattle.store_model.specs.Service.Queue.{queue_pop, zeroed};
+ghost use Rattle.store_model.specs.{StoreState.handoff_len, StoreState.with_body, StateFacts.IsStoreState, StateFacts.IsNodeAt};
+ghost use Rattle.store_model.specs.{Service.Takes, Service.Queue.queue_pop, Service.Queue.zeroed};
 
 use crate::store::PlainStore;
 use store_model::Firing;

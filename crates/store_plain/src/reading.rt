@@ -1,14 +1,11 @@
 // What a store tells of its lists and of its HOBs.
 ghost use Rattle.std.specs.Prelude.{◌≡◌, true, IfOk, slice_get, slice_index, length, ◌<◌, ◌+◌, is_some};
 ghost use Rattle.pi_base.specs.Field.{little_number};
-ghost use Rattle.store_model.specs.HeapImage.{body_bytes};
+ghost use Rattle.store_model.specs.{HeapImage.body_bytes, StateFacts.IsStoreState};
 ghost use Rattle.store_plain.specs.PlainBody.{IsBytes};
-ghost use Rattle.store_model.specs.StateFacts.{IsStoreState};
-ghost use Rattle.store_model.specs.Service.Descriptor.{descriptor_at, number_at};
-ghost use Rattle.store_model.specs.Service.Install.{has_ppi};
+ghost use Rattle.store_model.specs.{Service.Descriptor.descriptor_at, Service.Descriptor.number_at, Service.Install.has_ppi};
 ghost use Rattle.store_model.specs.Service.Reading.{nth_ppi, ppi_at, note_at, pending_at, hob_at, fv_bases, memory_due, notes_of};
-ghost use Rattle.store_model.specs.Service.Sweep.{firing_of};
-ghost use Rattle.store_model.specs.declared.limits.TheConstants.{NOTE_NUMBERS};
+ghost use Rattle.store_model.specs.{Service.Sweep.firing_of, declared.limits.TheConstants.NOTE_NUMBERS};
 
 use crate::length::HANDOFF_LEN;
 use crate::plain_hob::{PlainHob, Role};

@@ -1,9 +1,8 @@
 // A store over lists.
 ghost use Rattle.std.specs.Prelude.{◌≡◌, ◌+◌, ◌≤◌, sum_by, if◌then◌else◌};
-ghost use Rattle.store_model.specs.StoreState.{handoff_len, header_len, hob_len, page_bytes, range_of};
+ghost use Rattle.store_model.specs.StoreState.{handoff_len, header_len, hob_len, page_bytes, range_of, empty_store};
 ghost use Rattle.boot_plan.specs.declared.limits.TheConstants.{MOST_END};
 ghost use Rattle.store_model.specs.StateFacts.{IsBoard, IsStoreState};
-ghost use Rattle.store_model.specs.StoreState.{empty_store};
 
 use crate::length::HANDOFF_LEN;
 use crate::plain_hob::PlainHob;

@@ -1,7 +1,6 @@
 // The pairs that a sweep has still to visit.
 ghost use Rattle.std.specs.Prelude.{◌≡◌, ◌<◌, ◌≤◌, length, IfSome, IfNone, None, is_some, true};
-ghost use Rattle.store_model.specs.StateFacts.{IsStoreState, IsSweepOf};
-ghost use Rattle.store_model.specs.StoreCall.{IsMatch};
+ghost use Rattle.store_model.specs.{StateFacts.IsStoreState, StateFacts.IsSweepOf, StoreCall.IsMatch};
 ghost use Rattle.store_model.specs.Service.Sweep.{next_match, first_firing, firing_at, pairs_with, have_one_guid};
 
 use crate::store::PlainStore;

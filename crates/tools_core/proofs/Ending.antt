@@ -1,16 +1,13 @@
 -- How a call ends, from the report that it puts.
 use Rattle.std.proofs.Common.{◌≡◌, ℕ, List, Option, Result, Ok, Err, refl, sym, subst, IfOk}
 use Rattle.pi_base.specs.declared.memory.OutOfMemory.{OutOfMemory}
-use Rattle.boot_io.specs.declared.sink.SinkFault.{SinkFault}
-use Rattle.boot_io.specs.Sink.{Puts, SinkFaultsAfter}
-use Rattle.tools_core.specs.declared.report.Report.{Report}
+use Rattle.boot_io.specs.{declared.sink.SinkFault.SinkFault, Sink.Puts, Sink.SinkFaultsAfter}
+use Rattle.tools_core.specs.{declared.report.Report.Report, declared.status.ToolStatus.ToolStatus}
 use Rattle.recorded_boot.specs.declared.follow.following.Followed.TheVariants as F
 use Rattle.tools_core.specs.declared.report.Report.TheVariants as R
-use Rattle.tools_core.specs.declared.status.ToolStatus.{ToolStatus}
-use Rattle.tools_core.specs.declared.status.ToolStatus.TheVariants.{Done}
+use Rattle.tools_core.specs.{declared.status.ToolStatus.TheVariants.Done, FileReading.FilesTrail}
 use Rattle.boot_model.specs.declared.line.RunEnd.TheVariants as E
 use Rattle.recorded_boot.specs.declared.trace.verdict.Verdict.TheVariants.{Yes, No}
-use Rattle.tools_core.specs.FileReading.{FilesTrail}
 use Rattle.tools_core.specs.Ends.{Answered, At, Ends, EndsBy, Failing, IsDue, Kind, Nowhere, OfText, Reports, ReportsBy, SinkFailed, Tells, Trail, failing, kind_of, outcome, status_after, unread}
 use Rattle.tools_core.specs.ReportText.{report_status, report_text}
 

@@ -1,10 +1,7 @@
 -- The text of a boot that is explained, of its parts.
-use Rattle.std.proofs.Common.{◌≡◌, ◌++◌, ℕ, List, Result, Ok, Err}
-use Rattle.std.specs.Prelude.{IfOk}
+use Rattle.std.proofs.Common.{◌≡◌, ◌++◌, ℕ, List, Result, Ok, Err, IfOk}
 use Rattle.mod_catalog.specs.declared.catalogue.Catalog.{Catalog}
-use Rattle.explain_text.specs.declared.reasons.Explained.{Explained}
-use Rattle.explain_text.specs.Lines.{IsCatalogText}
-use Rattle.explain_text.specs.Text.{explained_text}
+use Rattle.explain_text.specs.{declared.reasons.Explained.Explained, Lines.IsCatalogText, Text.explained_text}
 use Rattle.tools_core.specs.ExplainReport.{IsExplanation}
 
 pub run_behind : {E : Type 0} (Run : Explained → Type 0) (images : List (List ℕ)) (catalog : Catalog) (front : List ℕ) (explained : Explained) (result : Result (List ℕ) E) → IsCatalogText catalog.volumes images catalog.modules front → Run explained

@@ -2,23 +2,19 @@
 use Rattle.std.proofs.Common.{◌≡◌, ◌⊎◌, ℕ, ◌<◌, List, Option, inl, inr, refl, sym, ◌∙◌, subst, arith}
 use Rattle.boot_io.specs.Faults.{Rose}
 use Rattle.boot_plan.specs.declared.plan.Plan.{Plan}
-use Rattle.boot_model.specs.declared.line.Line.{Line}
+use Rattle.boot_model.specs.{declared.line.Line.Line, declared.line.RunEnd.RunEnd}
 use Rattle.mod_catalog.specs.declared.catalogue.Catalog.{Catalog}
-use Rattle.pi_base.specs.declared.phase.Phase.{Phase}
-use Rattle.pi_base.specs.declared.phase.Phase.TheVariants.{Pei, Dxe}
-use Rattle.tools_core.specs.declared.command_line.Tool.{Tool}
+use Rattle.pi_base.specs.{declared.phase.Phase.Phase, declared.phase.Phase.TheVariants.Pei, declared.phase.Phase.TheVariants.Dxe}
+use Rattle.tools_core.specs.{declared.command_line.Tool.Tool, declared.status.ToolStatus.ToolStatus}
 use Rattle.tools_core.specs.declared.command_line.Tool.TheVariants.{AssembleDepex, AssembleScript, ReadPei, ReadDxe, ReadScript, Mp, Volume, ReadVolume}
-use Rattle.tools_core.specs.declared.status.ToolStatus.{ToolStatus}
 use Rattle.tools_core.specs.declared.status.ToolStatus.TheVariants as S
-use Rattle.tools_core.specs.declared.command_line.PlanTool.{PlanTool}
+use Rattle.tools_core.specs.{declared.command_line.PlanTool.PlanTool, declared.command_line.TraceTool.TraceTool}
 use Rattle.tools_core.specs.declared.command_line.PlanTool.TheVariants as P
-use Rattle.tools_core.specs.declared.command_line.TraceTool.{TraceTool}
 use Rattle.tools_core.specs.declared.command_line.TraceTool.TheVariants.{Check, Explain}
 use Rattle.tools_core.specs.CheckReport.{VerdictReport, no, yes}
 use Rattle.tools_core.specs.ExplainReport.{ExplainReport, explained_so, faulty_image}
 use Rattle.tools_core.specs.ToldReport.{ToldReport, goes_wrong, not_read, runs_so}
 use Rattle.tools_core.specs.TraceReport.{SaidBy, TraceReport, both_read, image_refused, plan_long, said, trace_long, twins}
-use Rattle.boot_model.specs.declared.line.RunEnd.{RunEnd}
 use Rattle.boot_model.specs.declared.line.RunEnd.TheVariants as E
 use Rattle.tools_core.specs.HobsReport.{HobsReport, bad_image, ended, handed}
 use Rattle.tools_core.specs.PlanReport.{PlanReport, over_long, text_read}
@@ -27,8 +23,7 @@ use Rattle.tools_core.specs.ReportText.{end_status, followed_status}
 use Rattle.tools_core.specs.Ends.{Answered, Ends, IsDue, NoMemory, SinkFailed, Trail, outcome, unread}
 use Rattle.tools_core.specs.FollowReport.{FollowReport, OrderReport, bad_order, boots, image_refused as of_image, in_order, long_order, long_plan, texts_read, twins as of_twins}
 use Rattle.tools_core.specs.GcdReport.{GcdReport, command_refused, done, hobs_refused}
-use Rattle.recorded_boot.specs.declared.order.lines.StartOrder.{StartOrder}
-use Rattle.recorded_boot.specs.declared.follow.following.Followed.{Followed}
+use Rattle.recorded_boot.specs.{declared.order.lines.StartOrder.StartOrder, declared.follow.following.Followed.Followed}
 use Rattle.recorded_boot.specs.declared.follow.following.Followed.TheVariants as F
 use Rattle.tools_core.specs.MpReport.{MpReport, ran, refused}
 use Rattle.tools_core.specs.Outcome.{ContentReport, Names, Outcome, both, commands_long, content, hobs_long, long, usage, words_ask_follow, words_ask_plan, words_ask_map, words_ask_tool, words_ask_trace}

@@ -1,6 +1,5 @@
 -- A text has no more lines than bytes.
-use Rattle.std.proofs.Common.{◌≤◌, List, [], ◌∷◌, ◌++◌, length, flat_map, arith}
-use Rattle.std.proofs.lemmas.List.{length-append}
+use Rattle.std.proofs.Common.{◌≤◌, List, [], ◌∷◌, ◌++◌, length, flat_map, arith, length-append}
 use Rattle.boot_io.specs.Line.{spaced}
 use Rattle.boot_model.specs.declared.line.Line.{Line}
 use Rattle.boot_model.specs.Text.{keyword, line_text, text_of, words}

@@ -5,13 +5,11 @@ use Rattle.boot_model.specs.declared.line.Line.TheVariants as L
 use Rattle.boot_core.specs.Job.{IsNamedIn, IsTextRefusal, text_long, text_refused}
 use Rattle.boot_core.specs.Reading.{FilesTrail, IsLongFile, Lacks}
 use Rattle.boot_core.specs.declared.plan_files.reading.NoJob.TheVariants.{Refused}
-use Rattle.tools_core.specs.declared.report.Report.{Report}
+use Rattle.tools_core.specs.{declared.report.Report.Report, declared.status.ToolStatus.ToolStatus, FileReading.LongOutcome}
 use Rattle.tools_core.specs.declared.report.Report.TheVariants as R
-use Rattle.tools_core.specs.declared.status.ToolStatus.{ToolStatus}
 use Rattle.boot_plan.specs.declared.plan.Plan.{Plan}
 use Rattle.tools_core.specs.JobOutcome.{JobOutcome, JobReport, job_long, job_plan, no_job}
 use Rattle.tools_core.specs.Ends.{Failing, Reports, ReportsBy, Tells}
-use Rattle.tools_core.specs.FileReading.{LongOutcome}
 use Rattle.tools_core.specs.FileRefusal.{IsFileRefusal, IsReportOf, of_file, of_long, of_plan, reports_file, reports_long, reports_plan}
 
 -- why there is nothing is told by a line that has a report

@@ -1,38 +1,23 @@
 -- A plan and its images have one report on a trace, where their catalogue has; and the text of a plan whose HOB list is asked for has one.
-use Rattle.std.proofs.Common.{◌≡◌, ℕ, List, Option, Some, None, inl, inr, sym, ap, ◌∙◌, subst, arith}
-use Rattle.std.specs.Option.{option_and_then}
+use Rattle.std.proofs.Common.{◌≡◌, ℕ, List, Option, Some, None, inl, inr, sym, ap, ◌∙◌, subst, arith, option_and_then}
 use Rattle.std.proofs.lemmas.Bool.{cases_lt}
-use Rattle.boot_plan.specs.declared.plan.Plan.{Plan}
-use Rattle.boot_plan.specs.declared.fault.PlanFault.{PlanFault}
-use Rattle.boot_plan.specs.declared.fault.PlanCause.{PlanCause}
+use Rattle.boot_plan.specs.{declared.plan.Plan.Plan, declared.fault.PlanFault.PlanFault, declared.fault.PlanCause.PlanCause}
 use Rattle.boot_plan.specs.PlanText.{IsPlan, IsPlanFault}
-use Rattle.mod_catalog.specs.declared.catalogue.Catalog.{Catalog}
-use Rattle.mod_catalog.specs.declared.image_fault.ImageFault.{ImageFault}
-use Rattle.mod_catalog.specs.Catalogue.{IsCatalogue}
+use Rattle.mod_catalog.specs.{declared.catalogue.Catalog.Catalog, declared.image_fault.ImageFault.ImageFault, Catalogue.IsCatalogue}
 use Rattle.mod_catalog.specs.ImageFault.{IsImageFault}
-use Rattle.boot_model.specs.declared.line.Line.{Line}
+use Rattle.boot_model.specs.{declared.line.Line.Line, FreeRun.AreFreeLines, PlanBoard.board_of, PeiMachine.PeiMachine, PeiRun.pei_end}
 use Rattle.boot_model.specs.declared.line.Line.TheVariants as L
-use Rattle.boot_model.specs.FreeRun.{AreFreeLines}
-use Rattle.boot_model.specs.PlanBoard.{board_of}
-use Rattle.recorded_boot.specs.Verdict.{IsFirstOff}
-use Rattle.recorded_boot.specs.Named.{HasNoTwins, IsFirstWithTwins}
-use Rattle.pi_base.specs.Field.{AreBytes}
-use Rattle.pi_base.specs.Lists.{Each}
-use Rattle.boot_core.specs.declared.plan_files.job.Job.{Job}
+use Rattle.recorded_boot.specs.{Verdict.IsFirstOff, Named.HasNoTwins, Named.IsFirstWithTwins}
+use Rattle.pi_base.specs.{Field.AreBytes, Lists.Each}
+use Rattle.boot_core.specs.{declared.plan_files.job.Job.Job, Reading.AreImages, Reading.IsLongVolume}
 use Rattle.boot_core.specs.Job.{IsJobOf, IsNamedIn, IsTextRefusal, text_long, text_refused}
-use Rattle.boot_core.specs.Reading.{AreImages, IsLongVolume}
-use Rattle.tools_core.specs.declared.command_line.TraceTool.{TraceTool}
+use Rattle.tools_core.specs.{declared.command_line.TraceTool.TraceTool, ReportText.end_status, declared.status.ToolStatus.ToolStatus}
 use Rattle.tools_core.specs.CheckReport.{VerdictReport, no, yes}
 use Rattle.boot_core.specs.declared.handing_on.HandOff.TheVariants.{Hobs, Ended}
 use Rattle.boot_core.specs.HandOff.{HandsOn, result_of}
-use Rattle.boot_model.specs.PeiMachine.{PeiMachine}
-use Rattle.boot_model.specs.PeiRun.{pei_end}
-use Rattle.boot_model.specs.declared.line.RunEnd.{RunEnd}
-use Rattle.boot_model.specs.declared.phase_end.PeiEnd.{PeiEnd}
+use Rattle.boot_model.specs.{declared.line.RunEnd.RunEnd, declared.phase_end.PeiEnd.PeiEnd}
 use Rattle.tools_core.specs.HobsReport.{HobsReport, bad_image, ended, handed}
 use Rattle.tools_core.specs.JobOutcome.{JobOutcome, JobReport, job_long, job_plan, job_read, no_job}
-use Rattle.tools_core.specs.ReportText.{end_status}
-use Rattle.tools_core.specs.declared.status.ToolStatus.{ToolStatus}
 use Rattle.tools_core.specs.OneOutcome.{AreAllTold, IsOne}
 use Rattle.tools_core.specs.TraceReport.{SaidBy, TextsOutcome, TraceReport, image_refused, said, twins}
 use Rattle.tools_core.specs.Refusals.{end_line, image_line, long_line, no_line, plan_line, twins_line}

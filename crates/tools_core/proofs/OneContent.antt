@@ -1,37 +1,22 @@
 -- The content of a tool's file, or a HOB list and the text of commands, have one report.
 use Rattle.std.proofs.Common.{◌≡◌, ℕ, List, ◌++◌, length, sym, ap, ◌∙◌, arith}
-use Rattle.pi_base.specs.Field.{AreBytes}
-use Rattle.pi_base.specs.declared.phase.Phase.{Phase}
+use Rattle.pi_base.specs.{Field.AreBytes, declared.phase.Phase.Phase}
 use Rattle.pi_base.specs.declared.phase.Phase.TheVariants.{Pei, Dxe}
 use Rattle.depex_code.specs.declared.depex.Depex.{Depex}
 use Rattle.depex_code.specs.Expression.{bytes_of, instructions, IsMalformed, Reads}
-use Rattle.act_code.specs.declared.fault.ActFault.{ActFault}
-use Rattle.act_code.specs.declared.script.Script.{Script}
+use Rattle.act_code.specs.{declared.fault.ActFault.ActFault, declared.script.Script.Script}
 use Rattle.act_code.specs.Script.{IsFault, IsScript, script_bytes}
-use Rattle.asm_text.specs.BadLine.{IsBadLine}
-use Rattle.asm_text.specs.ExpressionText.{depex_text}
-use Rattle.asm_text.specs.ReadTree.{IsExpression}
-use Rattle.asm_text.specs.ReadDepex.{IsDepexText}
-use Rattle.asm_text.specs.ReadScript.{IsWellFormed, IsScriptText}
-use Rattle.asm_text.specs.ScriptText.{script_text}
-use Rattle.mp_core.specs.declared.reply.MpOutcome.{MpOutcome}
-use Rattle.mp_core.specs.Past.{replies, schedule}
-use Rattle.mp_core.specs.Schedule.{cells_after, records_after}
-use Rattle.mp_core.specs.declared.file.MpFile.{MpFile}
-use Rattle.mp_core.specs.FileText.{IsFirstBad, IsMpFile}
+use Rattle.asm_text.specs.{BadLine.IsBadLine, ExpressionText.depex_text, ReadTree.IsExpression, ReadDepex.IsDepexText}
+use Rattle.asm_text.specs.{ReadScript.IsWellFormed, ReadScript.IsScriptText, ScriptText.script_text}
+use Rattle.mp_core.specs.{declared.reply.MpOutcome.MpOutcome, Past.replies, Past.schedule, Schedule.cells_after, Schedule.records_after}
+use Rattle.mp_core.specs.{declared.file.MpFile.MpFile, FileText.IsFirstBad, FileText.IsMpFile}
 use Rattle.mp_core.specs.OutcomeText.{bad_line, outcome_text, replies_text, cells_text, records_text}
-use Rattle.tools_core.specs.declared.command_line.Tool.{Tool}
+use Rattle.tools_core.specs.{declared.command_line.Tool.Tool, OneOutcome.IsOne, Outcome.ContentReport, SourceRefusal.source_line}
 use Rattle.tools_core.specs.declared.command_line.Tool.TheVariants.{AssembleDepex, AssembleScript, ReadPei, ReadDxe, ReadScript, Mp, Volume, ReadVolume}
 use Rattle.tools_core.specs.MpReport.{IsOutcomeOf, MpReport, ran, refused}
-use Rattle.tools_core.specs.OneOutcome.{IsOne}
-use Rattle.tools_core.specs.Outcome.{ContentReport}
 use Rattle.tools_core.specs.Refusals.{text_line, malformed_line, bytes_line}
-use Rattle.volume_text.specs.declared.fault.Fault.{Fault}
-use Rattle.volume_text.specs.declared.fault.TextFault.TheVariants.{Bad}
-use Rattle.volume_text.specs.Text.{Leads, IsRefused}
-use Rattle.tools_core.specs.SourceRefusal.{source_line}
-use Rattle.fv_volume.specs.declared.fault.VolFault.{VolFault}
-use Rattle.fv_volume.specs.Volume.{IsFirstFault}
+use Rattle.volume_text.specs.{declared.fault.Fault.Fault, declared.fault.TextFault.TheVariants.Bad, Text.Leads, Text.IsRefused}
+use Rattle.fv_volume.specs.{declared.fault.VolFault.VolFault, Volume.IsFirstFault}
 use Rattle.volume_print.specs.Description.{IsTextOf}
 use Rattle.tools_core.specs.PrintReport.{PrintReport, fault_line, printed, no_volume}
 use Rattle.tools_core.specs.VolumeReport.{VolumeReport, at_fault, built}

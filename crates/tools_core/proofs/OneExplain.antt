@@ -1,27 +1,17 @@
 -- The text of a plan whose boot is explained has one report.
 use Rattle.std.proofs.Common.{◌≡◌, ℕ, List, ◌++◌, Option, sym, ap, ◌∙◌, subst}
-use Rattle.pi_base.specs.Field.{AreBytes}
-use Rattle.pi_base.specs.Lists.{Each}
+use Rattle.pi_base.specs.{Field.AreBytes, Lists.Each}
 use Rattle.boot_plan.specs.declared.plan.Plan.{Plan}
-use Rattle.mod_catalog.specs.declared.catalogue.Catalog.{Catalog}
-use Rattle.mod_catalog.specs.declared.catalogue.Module.{Module}
-use Rattle.mod_catalog.specs.declared.catalogue.VolumeEntry.{VolumeEntry}
-use Rattle.mod_catalog.specs.Catalogue.{IsCatalogue}
-use Rattle.mod_catalog.specs.WellFormed.{IsWellFormed}
+use Rattle.mod_catalog.specs.{declared.catalogue.Catalog.Catalog, declared.catalogue.Module.Module}
+use Rattle.mod_catalog.specs.{declared.catalogue.VolumeEntry.VolumeEntry, Catalogue.IsCatalogue, WellFormed.IsWellFormed}
 use Rattle.boot_model.specs.PlanBoard.{board_of}
 use Rattle.store_model.specs.StoreState.{Board}
-use Rattle.explain_text.specs.declared.reasons.Explained.{Explained}
+use Rattle.explain_text.specs.{declared.reasons.Explained.Explained, Lines.IsCatalogText, Text.explained_text}
 use Rattle.boot_laws.specs.declared.choice.Reached.TheVariants as R
-use Rattle.boot_core.specs.Choices.{Choices}
-use Rattle.boot_reasons.specs.Boots.{HasOneExplanation, NameOne}
-use Rattle.boot_reasons.specs.Explained.{IsExplainedBy, own_choices}
-use Rattle.explain_text.specs.Lines.{IsCatalogText}
-use Rattle.explain_text.specs.Text.{explained_text}
-use Rattle.boot_core.specs.Job.{IsNamedIn}
+use Rattle.boot_core.specs.{Choices.Choices, Job.IsNamedIn}
+use Rattle.boot_reasons.specs.{Boots.HasOneExplanation, Boots.NameOne, Explained.IsExplainedBy, Explained.own_choices}
 use Rattle.tools_core.specs.ExplainReport.{ExplainReport, IsExplanation, RunsItself, explained_so, faulty_image}
-use Rattle.tools_core.specs.JobOutcome.{JobOutcome}
-use Rattle.tools_core.specs.OneOutcome.{AreAllTold, IsOne}
-use Rattle.tools_core.specs.Refusals.{image_line}
+use Rattle.tools_core.specs.{JobOutcome.JobOutcome, OneOutcome.AreAllTold, OneOutcome.IsOne, Refusals.image_line}
 use Rattle.tools_core.proofs.OneCheck as C
 use Rattle.tools_core.proofs.OneCheck.{one_of_job}
 

@@ -1,22 +1,15 @@
 -- The texts of a plan and of an order of starts have one report.
 use Rattle.std.proofs.Common.{◌≡◌, ◌+◌, ◌-◌, ◌^◌, ◌≤◌, ℕ, List, ◌++◌, Option, length, sym, ap, ◌∙◌, subst, arith}
-use Rattle.pi_base.specs.Field.{AreBytes}
-use Rattle.pi_base.specs.Lists.{Each}
+use Rattle.pi_base.specs.{Field.AreBytes, Lists.Each}
 use Rattle.boot_plan.specs.declared.plan.Plan.{Plan}
-use Rattle.mod_catalog.specs.declared.catalogue.Catalog.{Catalog}
-use Rattle.mod_catalog.specs.Catalogue.{IsCatalogue}
-use Rattle.mod_catalog.specs.WellFormed.{IsWellFormed}
+use Rattle.mod_catalog.specs.{declared.catalogue.Catalog.Catalog, Catalogue.IsCatalogue, WellFormed.IsWellFormed}
 use Rattle.boot_model.specs.PlanBoard.{board_of}
-use Rattle.recorded_boot.specs.Named.{IsFirstWithTwins}
+use Rattle.recorded_boot.specs.{Named.IsFirstWithTwins, declared.order.lines.StartOrder.StartOrder, OrderText.IsFirstBad, OrderText.IsOrder}
 use Rattle.boot_core.specs.Job.{IsNamedIn}
-use Rattle.recorded_boot.specs.declared.order.lines.StartOrder.{StartOrder}
-use Rattle.recorded_boot.specs.OrderText.{IsFirstBad, IsOrder}
 use Rattle.recorded_boot.specs.OneBoot.{OneBoot}
 use Rattle.tools_core.specs.FollowReport.{BootsSo, FollowReport, OrderReport, OrderTextsOutcome, bad_order, boots, image_refused, in_order, order_limit, twins}
-use Rattle.tools_core.specs.FollowText.{last_text, order_line}
-use Rattle.tools_core.specs.OneOutcome.{AreAllTold, IsOne}
-use Rattle.tools_core.specs.Refusals.{image_line, twins_line}
-use Rattle.tools_core.specs.ReportText.{followed_status}
+use Rattle.tools_core.specs.{FollowText.last_text, FollowText.order_line, OneOutcome.AreAllTold, OneOutcome.IsOne}
+use Rattle.tools_core.specs.{Refusals.image_line, Refusals.twins_line, ReportText.followed_status}
 use Rattle.tools_core.proofs.OneCheck as C
 use Rattle.tools_core.proofs.OneCheck.{one_of_job, one_volume}
 

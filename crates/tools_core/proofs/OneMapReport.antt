@@ -1,15 +1,9 @@
 -- A HOB list and the text of commands have one report.
 use Rattle.std.proofs.Common.{◌≡◌, ℕ, List, ◌++◌, map, sym, ap, ◌∙◌, subst}
-use Rattle.gcd_map.specs.declared.fault.GcdFault.{GcdFault}
-use Rattle.gcd_map.specs.declared.command.Command.{Command}
-use Rattle.gcd_map.specs.declared.perform.Answer.{Answer}
-use Rattle.gcd_map.specs.AddressSpace.{MemorySpace, state_at}
-use Rattle.gcd_map.specs.CommandText.{AreCommands, IsFirstBad}
-use Rattle.gcd_map.specs.HobFaults.{IsFirstFault}
-use Rattle.gcd_map.specs.HobMap.{IsSpaceOf}
+use Rattle.gcd_map.specs.{declared.fault.GcdFault.GcdFault, declared.command.Command.Command, declared.perform.Answer.Answer}
+use Rattle.gcd_map.specs.{AddressSpace.MemorySpace, AddressSpace.state_at, CommandText.AreCommands, CommandText.IsFirstBad}
+use Rattle.gcd_map.specs.{HobFaults.IsFirstFault, HobMap.IsSpaceOf, OneMap.OneMap, Run.IsRun}
 use Rattle.gcd_map.specs.MapText.{answers_text, map_text, hobs_refusal, command_refusal}
-use Rattle.gcd_map.specs.OneMap.{OneMap}
-use Rattle.gcd_map.specs.Run.{IsRun}
 use Rattle.tools_core.specs.GcdReport.{GcdReport, MapRun, hobs_refused, command_refused, done}
 use Rattle.tools_core.specs.OneOutcome.{IsOne}
 use Rattle.tools_core.proofs.OneRun.{one_run}

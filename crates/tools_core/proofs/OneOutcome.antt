@@ -1,25 +1,20 @@
 -- Words and told files have one outcome, and it is answered.
 use Rattle.std.proofs.Common.{◌≡◌, ◌⊎◌, ◌≤◌, ℕ, length, ◌==◌, if◌then◌else◌, List, [], ◌∷◌, ◌++◌, Option, Some, None, Result, Ok, Err, inl, inr, refl, sym, ap, ◌∙◌, subst, arith}
 use Rattle.std.specs.Io.KnownBytes.{Appends, Keeps}
-use Rattle.boot_io.specs.Output.{HasLeftBy}
-use Rattle.boot_io.specs.declared.sink.SinkFault.{SinkFault}
+use Rattle.boot_io.specs.{Output.HasLeftBy, declared.sink.SinkFault.SinkFault}
 use Rattle.pi_base.specs.Field.{AreBytes}
-use Rattle.boot_core.specs.Job.{IsNamedIn}
-use Rattle.boot_core.specs.Reading.{plan_limit}
-use Rattle.tools_core.specs.declared.command_line.Tool.{Tool}
-use Rattle.tools_core.specs.declared.command_line.PlanTool.{PlanTool}
+use Rattle.boot_core.specs.{Job.IsNamedIn, Reading.plan_limit}
+use Rattle.tools_core.specs.{declared.command_line.Tool.Tool, declared.command_line.PlanTool.PlanTool}
 use Rattle.tools_core.specs.declared.command_line.PlanTool.TheVariants as P
 use Rattle.tools_core.specs.declared.command_line.TraceTool.{TraceTool}
 use Rattle.tools_core.specs.declared.command_line.TraceTool.TheVariants.{Check, Explain}
 use Rattle.tools_core.specs.declared.command_line.Tool.TheVariants.{AssembleDepex, AssembleScript, ReadPei, ReadDxe, ReadScript, Mp, Volume, ReadVolume}
-use Rattle.tools_core.specs.declared.status.ToolStatus.{ToolStatus}
+use Rattle.tools_core.specs.{declared.status.ToolStatus.ToolStatus, GcdReport.GcdReport, JobOutcome.JobOutcome}
 use Rattle.tools_core.specs.declared.status.ToolStatus.TheVariants as S
 use Rattle.tools_core.specs.CommandLine.{AskForFollow, AskForMap, AskForPlan, AskForTool, AskForTrace, tool_words}
 use Rattle.tools_core.specs.Ends.{EndsBy, Ends, IsDue, Kind, OfMemory, OfSink, OfText, Trail, kind_of, outcome, status_after, unread}
 use Rattle.tools_core.specs.FollowReport.{FollowNames, FollowOutcome, OrderTextsOutcome, long_order, long_plan, names_order, names_plan, names_volume, order_limit, texts_read}
-use Rattle.tools_core.specs.GcdReport.{GcdReport}
 use Rattle.tools_core.specs.PlanReport.{PlanNames, PlanOutcome, PlanReport, names_a_volume, names_the_plan, over_long, text_read}
-use Rattle.tools_core.specs.JobOutcome.{JobOutcome}
 use Rattle.tools_core.specs.OneOutcome.{AnswersExactly, AreAllTold, AreTold, IsOne, IsStoppedBy, IsToldAsBytes}
 use Rattle.tools_core.specs.TraceReport.{TextsOutcome, TraceNames, TraceOutcome, both_read, is_plan, is_trace, is_volume, plan_long, trace_limit, trace_long}
 use Rattle.tools_core.specs.Outcome.{ContentReport, MapNames, MapOutcome, Names, Outcome, ToolOutcome, both, commands_limit, commands_long, content, file_limit, hobs_long, limit_of, long, of_follow, of_map, of_plan, of_tool, of_trace, usage, words_ask_follow, words_ask_map, words_ask_plan, words_ask_tool, words_ask_trace}

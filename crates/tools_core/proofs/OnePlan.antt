@@ -3,12 +3,9 @@ use Rattle.std.proofs.Common.{ℕ, List, Option}
 use Rattle.boot_core.specs.Job.{IsNamedIn}
 use Rattle.tools_core.specs.declared.command_line.PlanTool.{PlanTool}
 use Rattle.tools_core.specs.declared.command_line.PlanTool.TheVariants.{Hobs, Reasons}
-use Rattle.tools_core.specs.JobOutcome.{JobOutcome}
-use Rattle.tools_core.specs.OneOutcome.{AreAllTold, IsOne}
-use Rattle.tools_core.specs.PlanReport.{PlanReport}
-use Rattle.tools_core.proofs.OneCheck.{one_hobs}
+use Rattle.tools_core.specs.{JobOutcome.JobOutcome, OneOutcome.AreAllTold, OneOutcome.IsOne, PlanReport.PlanReport}
+use Rattle.tools_core.proofs.{OneCheck.one_hobs, OneExplain.one_explain}
 pub use Rattle.tools_core.proofs.OneExplain.{Laws}
-use Rattle.tools_core.proofs.OneExplain.{one_explain}
 
 pub one_plan : Laws → (tool : PlanTool) (told : List ℕ → Option (List ℕ)) (content : List ℕ) → AreAllTold told (IsNamedIn told content) → IsOne (JobOutcome (PlanReport tool) told content)
 one_plan laws Hobs = one_hobs laws.plans

@@ -1,16 +1,12 @@
 -- A command on the memory space has one answer and leaves one space, so commands have one run.
 use Rattle.std.proofs.Common.{◌≡◌, ◌≢◌, ◌⊎◌, inl, inr, ℕ, zero, suc, ◌+◌, ◌^◌, ◌<◌, ◌≤◌, List, [], ◌∷◌, map, refl, sym, ap, ◌∙◌, subst, arith, true≢false}
-use Rattle.gcd_map.specs.declared.state.GcdKind.{GcdKind}
+use Rattle.gcd_map.specs.{declared.state.GcdKind.GcdKind, declared.map.TheConstants.MOST_ALIGN, declared.command.Command.Command}
 use Rattle.gcd_map.specs.declared.word.GcdWord.TheVariants.{InvalidParameter, Unsupported, AccessDenied, NotFound, Memory}
-use Rattle.gcd_map.specs.declared.map.TheConstants.{MOST_ALIGN}
-use Rattle.gcd_map.specs.declared.command.Command.{Command}
 use Rattle.gcd_map.specs.declared.command.Command.TheVariants.{Add, Allocate, Top, Free, Remove}
-use Rattle.gcd_map.specs.declared.perform.Answer.{Answer}
+use Rattle.gcd_map.specs.{declared.perform.Answer.Answer, Run.CommandRow, Run.IsRun, Stretch.AllIn, Stretch.SomeIn}
 use Rattle.gcd_map.specs.declared.perform.Answer.TheVariants.{Done, At, Refused}
 use Rattle.gcd_map.specs.AddressSpace.{MemorySpace, state_at, with_change, add_change, allocate_change, free_change, remove_change}
 use Rattle.gcd_map.specs.Commands.{IsAbsent, IsPresent, IsAllocated, IsFree, IsFreeOf, IsNotFreeOf, AreValid, AreInvalid, HasRoom}
-use Rattle.gcd_map.specs.Run.{CommandRow, IsRun}
-use Rattle.gcd_map.specs.Stretch.{AllIn, SomeIn}
 
 -- of things in order, the first that stops: those before it are passed
 abbrev IsFirst : (ℕ → Type 0) → (ℕ → Type 0) → ℕ → Type 0

@@ -1,27 +1,20 @@
 -- The texts of a plan and of a trace have one report.
 use Rattle.std.proofs.Common.{◌≡◌, ℕ, List, Option, sym, ap, ◌∙◌, subst}
 use Rattle.boot_plan.specs.declared.plan.Plan.{Plan}
-use Rattle.mod_catalog.specs.declared.catalogue.Catalog.{Catalog}
-use Rattle.mod_catalog.specs.Catalogue.{IsCatalogue}
-use Rattle.boot_model.specs.declared.line.Line.{Line}
-use Rattle.boot_model.specs.FreeRun.{AreFreeLines}
-use Rattle.boot_model.specs.PlanBoard.{board_of}
+use Rattle.mod_catalog.specs.{declared.catalogue.Catalog.Catalog, Catalogue.IsCatalogue}
+use Rattle.boot_model.specs.{declared.line.Line.Line, FreeRun.AreFreeLines, PlanBoard.board_of}
 use Rattle.explain_text.specs.declared.reasons.Explained.{Explained}
-use Rattle.recorded_boot.specs.Order.{order_of}
-use Rattle.recorded_boot.specs.Named.{HasNoTwins}
+use Rattle.recorded_boot.specs.{Order.order_of, Named.HasNoTwins}
 use Rattle.boot_core.specs.Job.{IsNamedIn}
 use Rattle.trace_reader.specs.Trace.{IsBadLine, IsTrace}
 use Rattle.tools_core.specs.declared.command_line.TraceTool.{TraceTool}
 use Rattle.tools_core.specs.declared.command_line.TraceTool.TheVariants.{Check, Explain}
-use Rattle.tools_core.specs.ExplainReport.{IsExplanation}
-use Rattle.tools_core.specs.OneOutcome.{AreAllTold, IsOne}
-use Rattle.tools_core.specs.Refusals.{no_line}
+use Rattle.tools_core.specs.{ExplainReport.IsExplanation, OneOutcome.AreAllTold, OneOutcome.IsOne, Refusals.no_line}
 use Rattle.tools_core.specs.ToldReport.{RunsInOrder, ToldReport, goes_wrong, not_read, runs_so, start_choices}
 use Rattle.tools_core.specs.TraceReport.{TextsOutcome}
 use Rattle.tools_core.proofs.OneCheck.{IsOneSaid, one_off, one_trace, one_verdict}
 use Rattle.tools_core.proofs.OneExplain as E
-use Rattle.tools_core.proofs.OneExplain.{one_run, one_text}
-use Rattle.tools_core.proofs.StartNames.{name_one}
+use Rattle.tools_core.proofs.{OneExplain.one_run, OneExplain.one_text, StartNames.name_one}
 
 -- the laws of explanations, and of traces
 pub record Laws : Type 1 where

@@ -1,15 +1,11 @@
 -- What the bytes of a volume lead to.
 use Rattle.std.proofs.Common.{◌≡◌, ◌≢◌, ℕ, List, refl, ap}
-use Rattle.fv_volume.specs.declared.fault.VolFault.{VolFault}
-use Rattle.fv_volume.specs.declared.fault.VolCause.TheVariants.{Memory}
-use Rattle.fv_volume.specs.Volume.{IsFirstFault}
-use Rattle.mod_catalog.specs.declared.image_fault.ImageFault.{ImageFault}
-use Rattle.mod_catalog.specs.declared.image_fault.ImageCause.{ImageCause}
+use Rattle.fv_volume.specs.{declared.fault.VolFault.VolFault, declared.fault.VolCause.TheVariants.Memory, Volume.IsFirstFault}
+use Rattle.mod_catalog.specs.{declared.image_fault.ImageFault.ImageFault, declared.image_fault.ImageCause.ImageCause}
 use Rattle.mod_catalog.specs.ImageCause.{volume_cause}
 use Rattle.volume_print.specs.Description.{IsTextOf}
 use Rattle.tools_core.specs.declared.report.Report.TheVariants as R
-use Rattle.tools_core.specs.Ends.{Tells}
-use Rattle.tools_core.specs.Refusals.{image_line}
+use Rattle.tools_core.specs.{Ends.Tells, Refusals.image_line}
 use Rattle.tools_core.specs.PrintReport.{PrintReport, printed, no_volume}
 
 abbrev of_cause : VolFault → ImageCause → ImageFault

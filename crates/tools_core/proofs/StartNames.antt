@@ -1,17 +1,13 @@
 -- The starts of an order name one module at most, where no volume has two modules of one name; and no boot by them is left before a start.
-use Rattle.std.proofs.Common.{◌≡◌, ℕ, Bool, true, false, true≢false, Option, Some, None, refl, sym, ap, ◌∙◌}
-use Rattle.std.specs.Prelude.{slice_get}
-use Rattle.pi_base.specs.declared.phase.Phase.{Phase}
-use Rattle.pi_base.specs.declared.phase.Phase.TheVariants.{Pei, Dxe}
+use Rattle.std.proofs.Common.{◌≡◌, ℕ, Bool, true, false, true≢false, Option, Some, None, refl, sym, ap, ◌∙◌, slice_get}
+use Rattle.pi_base.specs.{declared.phase.Phase.Phase, declared.phase.Phase.TheVariants.Pei, declared.phase.Phase.TheVariants.Dxe}
 use Rattle.mod_catalog.specs.declared.catalogue.Catalog.{Catalog}
 use Rattle.boot_reasons.specs.Boots.{NameOne}
 use Rattle.boot_reasons.specs.Explained.{IsLeftBefore, left_in_dxe, left_in_pei}
 use Rattle.recorded_boot.proofs.Modules.{one_module}
-use Rattle.recorded_boot.specs.Named.{HasNoTwins}
+use Rattle.recorded_boot.specs.{Named.HasNoTwins, declared.order.line.AskedStart.AskedStart, declared.order.line.Start.Start}
 use Rattle.recorded_boot.specs.ByOrder.{IsNumberOf, NamesAsked, NamesNext, NamesStart, same_phase}
 use Rattle.store_model.specs.StoreState.{Board}
-use Rattle.recorded_boot.specs.declared.order.line.AskedStart.{AskedStart}
-use Rattle.recorded_boot.specs.declared.order.line.Start.{Start}
 use Rattle.recorded_boot.specs.declared.order.lines.StartOrder.{StartOrder}
 use Rattle.tools_core.specs.ToldReport.{start_choices}
 

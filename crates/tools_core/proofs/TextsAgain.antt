@@ -2,9 +2,7 @@
 use Rattle.std.proofs.Common.{◌≡◌, inl, inr, ℕ, ◌≤◌, List, length, sym, subst, arith}
 use Rattle.pi_base.specs.Field.{AreBytes}
 use Rattle.fv_volume.proofs.Standing.{volume_len}
-use Rattle.volume_text.specs.declared.fault.Fault.{Fault}
-use Rattle.volume_text.specs.declared.fault.TextFault.TheVariants.{Bad}
-use Rattle.volume_text.specs.Text.{Leads, IsRefused}
+use Rattle.volume_text.specs.{declared.fault.Fault.Fault, declared.fault.TextFault.TheVariants.Bad, Text.Leads, Text.IsRefused}
 use Rattle.volume_print.specs.Description.{IsTextOf}
 use Rattle.volume_again.specs.Made.{CannotBeBuilt, IsMadeAgain}
 use Rattle.tools_core.specs.declared.status.ToolStatus.{ToolStatus}

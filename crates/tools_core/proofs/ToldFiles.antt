@@ -4,8 +4,7 @@ use Rattle.boot_io.specs.Files.{IsTold}
 use Rattle.boot_plan.specs.declared.plan.PlanVolume.{PlanVolume}
 use Rattle.boot_model.specs.declared.line.Line.{Line}
 use Rattle.boot_model.specs.declared.line.Line.TheVariants as L
-use Rattle.pi_base.specs.Field.{AreBytes}
-use Rattle.pi_base.specs.Lists.{Each}
+use Rattle.pi_base.specs.{Field.AreBytes, Lists.Each}
 use Rattle.boot_core.specs.Reading.{AreImages, IsLong, IsLongVolume, IsReached, IsRead, Reaches, volume_limit}
 use Rattle.tools_core.specs.FileReading.{LongOutcome}
 use Rattle.tools_core.specs.OneOutcome.{AreAllTold, IsOne, IsToldAsBytes}

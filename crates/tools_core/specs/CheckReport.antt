@@ -3,8 +3,7 @@
 use Rattle.std.specs.Prelude.{◌≡◌, ℕ, List}
 use Rattle.boot_plan.specs.declared.plan.Plan.{Plan}
 use Rattle.mod_catalog.specs.declared.catalogue.Catalog.{Catalog}
-use Rattle.boot_model.specs.FreeRun.{AreFreeLines}
-use Rattle.boot_model.specs.PlanBoard.{board_of}
+use Rattle.boot_model.specs.{FreeRun.AreFreeLines, PlanBoard.board_of}
 use Rattle.recorded_boot.specs.Verdict.{IsBoot, IsFirstOff}
 use Rattle.tools_core.specs.declared.status.ToolStatus.{ToolStatus}
 use Rattle.tools_core.specs.declared.status.ToolStatus.TheVariants.{Done, No}

@@ -1,8 +1,7 @@
 -- The words of a command line: a tool, and the names of its files.
 -- Own.
 use Rattle.std.specs.Prelude.{◌≡◌, ◌≢◌, ℕ, List, [], ◌∷◌, ◌++◌, codes}
-use Rattle.tools_core.specs.declared.command_line.Tool.{Tool}
-use Rattle.tools_core.specs.declared.command_line.PlanTool.{PlanTool}
+use Rattle.tools_core.specs.{declared.command_line.Tool.Tool, declared.command_line.PlanTool.PlanTool}
 use Rattle.tools_core.specs.declared.command_line.PlanTool.TheVariants.{Hobs, Reasons}
 use Rattle.tools_core.specs.declared.command_line.TraceTool.{TraceTool}
 use Rattle.tools_core.specs.declared.command_line.TraceTool.TheVariants.{Check, Explain}

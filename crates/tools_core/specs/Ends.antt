@@ -2,17 +2,12 @@
 -- Own.
 use Rattle.std.specs.Prelude.{◌≡◌, ℕ, List, Option, Result, Ok, Err}
 use Rattle.std.specs.Io.KnownBytes.{Appends}
-use Rattle.boot_io.specs.Faults.{Rose}
-use Rattle.boot_io.specs.Sink.{AppendsPart}
-use Rattle.boot_io.specs.declared.sink.SinkFault.{SinkFault}
-use Rattle.tools_core.specs.declared.status.ToolStatus.{ToolStatus}
+use Rattle.boot_io.specs.{Faults.Rose, Sink.AppendsPart, declared.sink.SinkFault.SinkFault}
+use Rattle.tools_core.specs.{declared.status.ToolStatus.ToolStatus, declared.report.Report.Report, declared.reading.Reading.Reading}
 use Rattle.tools_core.specs.declared.status.ToolStatus.TheVariants as S
-use Rattle.tools_core.specs.declared.report.Report.{Report}
 use Rattle.tools_core.specs.declared.report.Report.TheVariants as R
-use Rattle.tools_core.specs.declared.reading.Reading.{Reading}
-use Rattle.tools_core.specs.declared.reading.Reading.TheVariants.{Content, Refused}
+use Rattle.tools_core.specs.{declared.reading.Reading.TheVariants.Content, declared.reading.Reading.TheVariants.Refused, Refusals.file_line}
 use Rattle.tools_core.specs.FileReading.{FilesFailed, FilesTrail, IsRead, LongOutcome}
-use Rattle.tools_core.specs.Refusals.{file_line}
 use Rattle.tools_core.specs.ReportText.{report_status, report_text}
 
 -- the file that a report says could not be read

@@ -2,15 +2,11 @@
 -- Own.
 use Rattle.std.specs.Prelude.{◌≡◌, ℕ, List, ◌++◌}
 use Rattle.boot_plan.specs.declared.plan.Plan.{Plan}
-use Rattle.mod_catalog.specs.declared.catalogue.Catalog.{Catalog}
-use Rattle.mod_catalog.specs.declared.image_fault.ImageFault.{ImageFault}
-use Rattle.mod_catalog.specs.Catalogue.{IsCatalogue}
+use Rattle.mod_catalog.specs.{declared.catalogue.Catalog.Catalog, declared.image_fault.ImageFault.ImageFault, Catalogue.IsCatalogue}
 use Rattle.mod_catalog.specs.ImageFault.{IsImageFault}
 use Rattle.boot_model.specs.PlanBoard.{board_of}
-use Rattle.explain_text.specs.declared.reasons.Explained.{Explained}
+use Rattle.explain_text.specs.{declared.reasons.Explained.Explained, Lines.IsCatalogText, Text.explained_text}
 use Rattle.boot_reasons.specs.Explained.{IsExplained}
-use Rattle.explain_text.specs.Lines.{IsCatalogText}
-use Rattle.explain_text.specs.Text.{explained_text}
 use Rattle.tools_core.specs.declared.status.ToolStatus.{ToolStatus}
 use Rattle.tools_core.specs.declared.status.ToolStatus.TheVariants.{Done, ImageRefused}
 use Rattle.tools_core.specs.Refusals.{image_line}

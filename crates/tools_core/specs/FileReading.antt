@@ -2,9 +2,7 @@
 -- Own.
 use Rattle.std.specs.Prelude.{◌≡◌, ℕ, List, Option}
 use Rattle.boot_io.specs.Faults.{Rose}
-use Rattle.tools_core.specs.declared.status.ToolStatus.{ToolStatus}
-use Rattle.tools_core.specs.declared.status.ToolStatus.TheVariants.{TooLong}
-use Rattle.tools_core.specs.Refusals.{long_line}
+use Rattle.tools_core.specs.{declared.status.ToolStatus.ToolStatus, declared.status.ToolStatus.TheVariants.TooLong, Refusals.long_line}
 pub use Rattle.boot_core.specs.Reading.{IsRead, IsLong, IsMissed, FilesTrail}
 
 -- a file that is longer than its limit is refused by its name

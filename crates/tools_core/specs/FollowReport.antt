@@ -2,24 +2,15 @@
 -- Own.
 use Rattle.std.specs.Prelude.{◌≡◌, ℕ, List, [], ◌++◌, Option, Some, Ok}
 use Rattle.boot_plan.specs.declared.plan.Plan.{Plan}
-use Rattle.mod_catalog.specs.declared.catalogue.Catalog.{Catalog}
-use Rattle.mod_catalog.specs.declared.image_fault.ImageFault.{ImageFault}
-use Rattle.mod_catalog.specs.Catalogue.{IsCatalogue}
+use Rattle.mod_catalog.specs.{declared.catalogue.Catalog.Catalog, declared.image_fault.ImageFault.ImageFault, Catalogue.IsCatalogue}
 use Rattle.mod_catalog.specs.ImageFault.{IsImageFault}
 use Rattle.boot_model.specs.PlanBoard.{board_of}
-use Rattle.recorded_boot.specs.Named.{HasNoTwins, IsFirstWithTwins}
-use Rattle.recorded_boot.specs.declared.order.lines.StartOrder.{StartOrder}
-use Rattle.recorded_boot.specs.OrderText.{IsFirstBad, IsOrder}
-use Rattle.recorded_boot.specs.declared.follow.following.Followed.{Followed}
-use Rattle.recorded_boot.specs.Answer.{FollowsTo}
-use Rattle.boot_core.specs.Job.{IsNamedIn}
-use Rattle.boot_core.specs.Reading.{plan_limit}
-use Rattle.tools_core.specs.declared.status.ToolStatus.{ToolStatus}
+use Rattle.recorded_boot.specs.{Named.HasNoTwins, Named.IsFirstWithTwins, declared.order.lines.StartOrder.StartOrder}
+use Rattle.recorded_boot.specs.{OrderText.IsFirstBad, OrderText.IsOrder, declared.follow.following.Followed.Followed, Answer.FollowsTo}
+use Rattle.boot_core.specs.{Job.IsNamedIn, Reading.plan_limit}
+use Rattle.tools_core.specs.{declared.status.ToolStatus.ToolStatus, FileReading.IsRead, FileReading.LongOutcome}
 use Rattle.tools_core.specs.declared.status.ToolStatus.TheVariants.{ImageRefused, OrderRefused, Twins}
-use Rattle.tools_core.specs.FileReading.{IsRead, LongOutcome}
-use Rattle.tools_core.specs.FollowText.{order_line, last_text}
-use Rattle.tools_core.specs.JobOutcome.{JobOutcome}
-use Rattle.tools_core.specs.Refusals.{image_line, twins_line}
+use Rattle.tools_core.specs.{FollowText.order_line, FollowText.last_text, JobOutcome.JobOutcome, Refusals.image_line, Refusals.twins_line}
 use Rattle.tools_core.specs.ReportText.{followed_status}
 
 -- how many bytes an order may have

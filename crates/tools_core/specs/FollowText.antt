@@ -2,11 +2,9 @@
 -- Own.
 use Rattle.std.specs.Prelude.{ℕ, List, [], ◌∷◌, ◌++◌, codes, decimal, flat_map}
 use Rattle.boot_io.specs.Line.{line_of, spaced}
-use Rattle.pi_base.specs.declared.guid.Guid.{Guid}
-use Rattle.pi_base.specs.WordText.{guid_text}
-use Rattle.recorded_boot.specs.declared.follow.against.Against.{Against}
+use Rattle.pi_base.specs.{declared.guid.Guid.Guid, WordText.guid_text}
+use Rattle.recorded_boot.specs.{declared.follow.against.Against.Against, declared.follow.following.Followed.Followed}
 use Rattle.recorded_boot.specs.declared.follow.against.Against.TheVariants.{Unknown, Started, NotEligible}
-use Rattle.recorded_boot.specs.declared.follow.following.Followed.{Followed}
 use Rattle.recorded_boot.specs.declared.follow.following.Followed.TheVariants.{Ended, Stopped, No}
 use Rattle.tools_core.specs.Refusals.{no_line}
 

@@ -1,17 +1,10 @@
 -- What a HOB list and the text of commands lead to: the first fault of the HOB list, the first line that is no command, or the answers and the map.
 -- PI 1.8, volume 2, "Global Coherency Domain Services"; the lines are own.
 use Rattle.std.specs.Prelude.{◌≡◌, ◌≢◌, ℕ, List, ◌++◌, map}
-use Rattle.gcd_map.specs.declared.fault.GcdFault.{GcdFault}
-use Rattle.gcd_map.specs.declared.fault.GcdCause.TheVariants.{Memory}
-use Rattle.gcd_map.specs.declared.command.Command.{Command}
-use Rattle.gcd_map.specs.declared.perform.Answer.{Answer}
-use Rattle.gcd_map.specs.declared.range.GcdRange.{GcdRange}
-use Rattle.gcd_map.specs.AddressSpace.{MemorySpace}
-use Rattle.gcd_map.specs.CommandText.{AreCommands, IsFirstBad}
-use Rattle.gcd_map.specs.HobMap.{IsSpaceOf}
-use Rattle.gcd_map.specs.HobFaults.{IsFirstFault}
+use Rattle.gcd_map.specs.{declared.fault.GcdFault.GcdFault, declared.fault.GcdCause.TheVariants.Memory, declared.command.Command.Command}
+use Rattle.gcd_map.specs.{declared.perform.Answer.Answer, declared.range.GcdRange.GcdRange, AddressSpace.MemorySpace}
+use Rattle.gcd_map.specs.{CommandText.AreCommands, CommandText.IsFirstBad, HobMap.IsSpaceOf, HobFaults.IsFirstFault, Run.IsRun}
 use Rattle.gcd_map.specs.MapText.{answers_text, map_text, hobs_refusal, command_refusal}
-use Rattle.gcd_map.specs.Run.{IsRun}
 use Rattle.gcd_map.specs.SpaceMap.{IsSpaceMap}
 use Rattle.tools_core.specs.declared.status.ToolStatus.{ToolStatus}
 use Rattle.tools_core.specs.declared.status.ToolStatus.TheVariants.{Done, HobsRefused, CommandRefused}

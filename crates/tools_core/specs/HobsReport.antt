@@ -2,15 +2,12 @@
 -- PI 1.8, volume 3, "HOB List"; the lines are own.
 use Rattle.std.specs.Prelude.{◌≡◌, ℕ, List}
 use Rattle.boot_plan.specs.declared.plan.Plan.{Plan}
-use Rattle.mod_catalog.specs.declared.image_fault.ImageFault.{ImageFault}
-use Rattle.mod_catalog.specs.ImageFault.{IsImageFault}
+use Rattle.mod_catalog.specs.{declared.image_fault.ImageFault.ImageFault, ImageFault.IsImageFault}
 use Rattle.boot_model.specs.declared.line.RunEnd.{RunEnd}
-use Rattle.boot_core.specs.declared.handing_on.HandOff.TheVariants.{Hobs, Ended}
-use Rattle.boot_core.specs.HandOff.{IsHandOff}
+use Rattle.boot_core.specs.{declared.handing_on.HandOff.TheVariants.Hobs, declared.handing_on.HandOff.TheVariants.Ended, HandOff.IsHandOff}
 use Rattle.tools_core.specs.declared.status.ToolStatus.{ToolStatus}
 use Rattle.tools_core.specs.declared.status.ToolStatus.TheVariants.{Done, ImageRefused}
-use Rattle.tools_core.specs.Refusals.{end_line, image_line}
-use Rattle.tools_core.specs.ReportText.{end_status}
+use Rattle.tools_core.specs.{Refusals.end_line, Refusals.image_line, ReportText.end_status}
 
 -- what a plan and its images lead to
 pub data HobsReport (plan : Plan) (images : List (List ℕ)) (status : ToolStatus) (out : List ℕ) : Type 0 where

@@ -1,12 +1,10 @@
 -- What the text of a plan leads to, by the files of its volumes, which are read behind its examination.
 -- Own.
 use Rattle.std.specs.Prelude.{◌≡◌, ℕ, List, Option}
-use Rattle.boot_plan.specs.declared.plan.Plan.{Plan}
-use Rattle.boot_plan.specs.declared.fault.PlanFault.{PlanFault}
+use Rattle.boot_plan.specs.{declared.plan.Plan.Plan, declared.fault.PlanFault.PlanFault}
 use Rattle.boot_model.specs.declared.line.Line.{Line}
 use Rattle.boot_model.specs.declared.line.Line.TheVariants as L
-use Rattle.boot_core.specs.declared.plan_files.job.Job.{Job}
-use Rattle.boot_core.specs.Job.{IsJobOf, IsTextRefusal}
+use Rattle.boot_core.specs.{declared.plan_files.job.Job.Job, Job.IsJobOf, Job.IsTextRefusal}
 use Rattle.tools_core.specs.declared.status.ToolStatus.{ToolStatus}
 use Rattle.tools_core.specs.declared.status.ToolStatus.TheVariants.{TooLong, PlanRefused}
 use Rattle.tools_core.specs.Refusals.{long_line, plan_line}

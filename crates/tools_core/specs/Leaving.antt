@@ -1,11 +1,8 @@
 -- What leaves the program of the text that a call has put, by its status.
 -- Own.
 use Rattle.std.specs.Prelude.{◌≡◌, ℕ, List, Option, Result}
-use Rattle.boot_io.specs.declared.sink.SinkFault.{SinkFault}
-use Rattle.boot_io.specs.Output.{HasLeftBy}
-use Rattle.tools_core.specs.declared.status.ToolStatus.{ToolStatus}
-use Rattle.tools_core.specs.Ends.{Ends, status_after}
-use Rattle.tools_core.specs.FileReading.{FilesTrail}
+use Rattle.boot_io.specs.{declared.sink.SinkFault.SinkFault, Output.HasLeftBy}
+use Rattle.tools_core.specs.{declared.status.ToolStatus.ToolStatus, Ends.Ends, Ends.status_after, FileReading.FilesTrail}
 use Rattle.tools_core.specs.Outcome.{Names, Outcome}
 
 -- what the words lead to was put behind a text, into a sink that had counted no fault

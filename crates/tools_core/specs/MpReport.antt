@@ -1,11 +1,8 @@
 -- What an MP file leads to: the first line of no form, or the replies, the cells and the records of its schedule.
 -- PI 1.8, volume 2, "MP Services Protocol"; the file and the lines are own.
 use Rattle.std.specs.Prelude.{◌≡◌, ℕ, List}
-use Rattle.mp_core.specs.declared.reply.MpOutcome.{MpOutcome}
-use Rattle.mp_core.specs.Past.{replies, schedule}
-use Rattle.mp_core.specs.Schedule.{cells_after, records_after}
-use Rattle.mp_core.specs.declared.file.MpFile.{MpFile}
-use Rattle.mp_core.specs.FileText.{IsFirstBad, IsMpFile}
+use Rattle.mp_core.specs.{declared.reply.MpOutcome.MpOutcome, Past.replies, Past.schedule, Schedule.cells_after, Schedule.records_after}
+use Rattle.mp_core.specs.{declared.file.MpFile.MpFile, FileText.IsFirstBad, FileText.IsMpFile}
 use Rattle.mp_core.specs.OutcomeText.{bad_line, outcome_text}
 use Rattle.tools_core.specs.declared.status.ToolStatus.{ToolStatus}
 use Rattle.tools_core.specs.declared.status.ToolStatus.TheVariants.{Done, CommandRefused}

@@ -3,8 +3,7 @@
 use Rattle.std.specs.Prelude.{◌≡◌, ◌⊎◌, ℕ, List, Option, Some, None, ⊤}
 use Rattle.std.specs.Io.KnownBytes.{Appends}
 use Rattle.pi_base.specs.Field.{AreBytes}
-use Rattle.tools_core.specs.declared.status.ToolStatus.{ToolStatus}
-use Rattle.tools_core.specs.declared.status.ToolStatus.TheVariants.{FileFault}
+use Rattle.tools_core.specs.{declared.status.ToolStatus.ToolStatus, declared.status.ToolStatus.TheVariants.FileFault}
 use Rattle.tools_core.specs.Ends.{Kind, OfSink, OfMemory, OfText, kind_of}
 use Rattle.tools_core.specs.Outcome.{Names, Outcome}
 

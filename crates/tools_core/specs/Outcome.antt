@@ -2,21 +2,13 @@
 -- Own.
 use Rattle.std.specs.Prelude.{◌≡◌, ◌⊎◌, ℕ, List, Option}
 use Rattle.pi_base.specs.declared.phase.Phase.TheVariants.{Pei, Dxe}
-use Rattle.tools_core.specs.declared.command_line.Tool.{Tool}
-use Rattle.tools_core.specs.declared.command_line.PlanTool.{PlanTool}
-use Rattle.tools_core.specs.declared.command_line.TraceTool.{TraceTool}
+use Rattle.tools_core.specs.{declared.command_line.Tool.Tool, declared.command_line.PlanTool.PlanTool}
+use Rattle.tools_core.specs.{declared.command_line.TraceTool.TraceTool, declared.status.ToolStatus.ToolStatus}
 use Rattle.tools_core.specs.declared.command_line.Tool.TheVariants.{AssembleDepex, AssembleScript, ReadPei, ReadDxe, ReadScript, Mp, Volume, ReadVolume}
-use Rattle.tools_core.specs.declared.status.ToolStatus.{ToolStatus}
-use Rattle.tools_core.specs.declared.status.ToolStatus.TheVariants.{Usage}
+use Rattle.tools_core.specs.{declared.status.ToolStatus.TheVariants.Usage, FileReading.IsRead, FileReading.LongOutcome, Refusals.usage_line}
 use Rattle.tools_core.specs.CommandLine.{AskForFollow, AskForMap, AskForNothing, AskForPlan, AskForTool, AskForTrace}
-use Rattle.tools_core.specs.FileReading.{IsRead, LongOutcome}
-use Rattle.tools_core.specs.Refusals.{usage_line}
-use Rattle.tools_core.specs.TraceReport.{TraceNames, TraceOutcome}
-use Rattle.tools_core.specs.FollowReport.{FollowNames, FollowOutcome}
-use Rattle.tools_core.specs.PlanReport.{PlanNames, PlanOutcome}
-use Rattle.tools_core.specs.GcdReport.{GcdReport}
-use Rattle.tools_core.specs.MpReport.{MpReport}
-use Rattle.tools_core.specs.PrintReport.{PrintReport}
+use Rattle.tools_core.specs.{TraceReport.TraceNames, TraceReport.TraceOutcome, FollowReport.FollowNames, FollowReport.FollowOutcome}
+use Rattle.tools_core.specs.{PlanReport.PlanNames, PlanReport.PlanOutcome, GcdReport.GcdReport, MpReport.MpReport, PrintReport.PrintReport}
 use Rattle.tools_core.specs.VolumeReport.{VolumeReport}
 use Rattle.tools_core.specs.TextReport.{AssemblyReport, DepexReport, ExpressionReport, ScriptReport}
 

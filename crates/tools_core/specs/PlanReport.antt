@@ -2,15 +2,11 @@
 -- Own.
 use Rattle.std.specs.Prelude.{◌≡◌, ℕ, List, Option}
 use Rattle.boot_plan.specs.declared.plan.Plan.{Plan}
-use Rattle.boot_core.specs.Job.{IsNamedIn}
-use Rattle.boot_core.specs.Reading.{plan_limit}
+use Rattle.boot_core.specs.{Job.IsNamedIn, Reading.plan_limit}
 use Rattle.tools_core.specs.declared.command_line.PlanTool.{PlanTool}
 use Rattle.tools_core.specs.declared.command_line.PlanTool.TheVariants.{Hobs, Reasons}
-use Rattle.tools_core.specs.declared.status.ToolStatus.{ToolStatus}
-use Rattle.tools_core.specs.ExplainReport.{ExplainReport}
-use Rattle.tools_core.specs.FileReading.{IsRead, LongOutcome}
-use Rattle.tools_core.specs.HobsReport.{HobsReport}
-use Rattle.tools_core.specs.JobOutcome.{JobOutcome}
+use Rattle.tools_core.specs.{declared.status.ToolStatus.ToolStatus, ExplainReport.ExplainReport}
+use Rattle.tools_core.specs.{FileReading.IsRead, FileReading.LongOutcome, HobsReport.HobsReport, JobOutcome.JobOutcome}
 
 -- what a plan and the images of its volumes lead to
 abbrev pub PlanReport : PlanTool → Plan → List (List ℕ) → ToolStatus → List ℕ → Type 0

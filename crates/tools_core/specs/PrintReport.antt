@@ -1,9 +1,7 @@
 -- What the bytes of a volume lead to: its text, or the refusal of its first fault, as of a plan's first volume.
 -- Own.
 use Rattle.std.specs.Prelude.{◌≡◌, ◌≢◌, ℕ, List}
-use Rattle.fv_volume.specs.declared.fault.VolFault.{VolFault}
-use Rattle.fv_volume.specs.declared.fault.VolCause.TheVariants.{Memory}
-use Rattle.fv_volume.specs.Volume.{IsFirstFault}
+use Rattle.fv_volume.specs.{declared.fault.VolFault.VolFault, declared.fault.VolCause.TheVariants.Memory, Volume.IsFirstFault}
 use Rattle.mod_catalog.specs.ImageCause.{volume_cause}
 use Rattle.volume_print.specs.Description.{IsTextOf}
 use Rattle.tools_core.specs.declared.status.ToolStatus.{ToolStatus}

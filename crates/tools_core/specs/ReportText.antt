@@ -7,12 +7,10 @@ use Rattle.boot_model.specs.declared.line.RunEnd.{RunEnd}
 use Rattle.boot_model.specs.declared.line.RunEnd.TheVariants as E
 use Rattle.recorded_boot.specs.declared.trace.verdict.Verdict.{Verdict}
 use Rattle.recorded_boot.specs.declared.trace.verdict.Verdict.TheVariants.{Yes, No}
-use Rattle.tools_core.specs.declared.status.ToolStatus.{ToolStatus}
+use Rattle.tools_core.specs.{declared.status.ToolStatus.ToolStatus, declared.report.Report.Report, SourceRefusal.source_line}
 use Rattle.tools_core.specs.declared.status.ToolStatus.TheVariants as S
-use Rattle.tools_core.specs.declared.report.Report.{Report}
 use Rattle.tools_core.specs.declared.report.Report.TheVariants as R
 use Rattle.tools_core.specs.Refusals.{usage_line, file_line, long_line, plan_line, image_line, twins_line, end_line, verdict_line, text_line, text_long_line, malformed_line, bytes_line}
-use Rattle.tools_core.specs.SourceRefusal.{source_line}
 use Rattle.tools_core.specs.FollowText.{order_line, last_text}
 use Rattle.recorded_boot.specs.declared.follow.following.Followed.{Followed}
 use Rattle.recorded_boot.specs.declared.follow.following.Followed.TheVariants as F

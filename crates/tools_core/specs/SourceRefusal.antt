@@ -2,15 +2,13 @@
 -- Own.
 use Rattle.std.specs.Prelude.{ℕ, List, [], ◌∷◌, codes, decimal, Option, Some, None}
 use Rattle.boot_io.specs.Line.{line_of}
-use Rattle.source_words.specs.declared.depex.fault.ExpressionFault.{ExpressionFault}
+use Rattle.source_words.specs.{declared.depex.fault.ExpressionFault.ExpressionFault, declared.script.fault.LineFault.LineFault}
 use Rattle.source_words.specs.declared.depex.fault.ExpressionFault.TheVariants as E
-use Rattle.source_words.specs.declared.script.fault.LineFault.{LineFault}
 use Rattle.source_words.specs.declared.script.fault.LineFault.TheVariants as A
 use Rattle.source_words.specs.declared.script.script.ScriptCause.{ScriptCause}
 use Rattle.source_words.specs.declared.script.script.ScriptCause.TheVariants as S
-use Rattle.volume_text.specs.declared.fault.Cause.{Cause}
+use Rattle.volume_text.specs.{declared.fault.Cause.Cause, declared.fault.Fault.Fault}
 use Rattle.volume_text.specs.declared.fault.Cause.TheVariants as C
-use Rattle.volume_text.specs.declared.fault.Fault.{Fault}
 use Rattle.tools_core.specs.Refusals.{refused_text}
 
 -- what is wrong with the line of an action

@@ -5,15 +5,10 @@ use Rattle.hex.specs.Hex.{encode_lower}
 use Rattle.pi_base.specs.declared.phase.Phase.{Phase}
 use Rattle.depex_code.specs.declared.depex.Depex.{Depex}
 use Rattle.depex_code.specs.Expression.{bytes_of, instructions, IsMalformed, Reads}
-use Rattle.act_code.specs.declared.fault.ActFault.{ActFault}
-use Rattle.act_code.specs.declared.fault.ActCause.TheVariants.{Memory}
-use Rattle.act_code.specs.declared.script.Script.{Script}
+use Rattle.act_code.specs.{declared.fault.ActFault.ActFault, declared.fault.ActCause.TheVariants.Memory, declared.script.Script.Script}
 use Rattle.act_code.specs.Script.{IsFault, IsScript, script_bytes}
-use Rattle.asm_text.specs.BadLine.{IsBadLine}
-use Rattle.asm_text.specs.ExpressionText.{depex_text}
-use Rattle.asm_text.specs.ReadDepex.{IsDepexOf, IsDepexText}
-use Rattle.asm_text.specs.ReadScript.{IsScriptOf, IsScriptText}
-use Rattle.asm_text.specs.ScriptText.{script_text}
+use Rattle.asm_text.specs.{BadLine.IsBadLine, ExpressionText.depex_text, ReadDepex.IsDepexOf, ReadDepex.IsDepexText}
+use Rattle.asm_text.specs.{ReadScript.IsScriptOf, ReadScript.IsScriptText, ScriptText.script_text}
 use Rattle.tools_core.specs.declared.status.ToolStatus.{ToolStatus}
 use Rattle.tools_core.specs.declared.status.ToolStatus.TheVariants.{Done, TextRefused}
 use Rattle.tools_core.specs.Refusals.{text_line, text_long_line, malformed_line, bytes_line}

@@ -3,21 +3,16 @@
 use Rattle.std.specs.Prelude.{◌≡◌, ℕ, true, List}
 use Rattle.boot_plan.specs.declared.plan.Plan.{Plan}
 use Rattle.mod_catalog.specs.declared.catalogue.Catalog.{Catalog}
-use Rattle.boot_model.specs.declared.line.Line.{Line}
-use Rattle.boot_model.specs.FreeRun.{AreFreeLines}
-use Rattle.boot_model.specs.PlanBoard.{board_of}
+use Rattle.boot_model.specs.{declared.line.Line.Line, FreeRun.AreFreeLines, PlanBoard.board_of}
 use Rattle.explain_text.specs.declared.reasons.Explained.{Explained}
 use Rattle.boot_reasons.specs.Explained.{IsExplainedBy}
-use Rattle.recorded_boot.specs.Order.{order_of}
-use Rattle.recorded_boot.specs.Verdict.{IsBoot, IsFirstOff}
-use Rattle.recorded_boot.specs.InOrder.{order_choices}
+use Rattle.recorded_boot.specs.{Order.order_of, Verdict.IsBoot, Verdict.IsFirstOff, InOrder.order_choices}
 use Rattle.recorded_boot.specs.declared.order.lines.StartOrder.{StartOrder}
 use Rattle.trace_reader.specs.Trace.{IsBadLine, IsTrace}
 use Rattle.boot_core.specs.Choices.{Choices}
 use Rattle.tools_core.specs.declared.status.ToolStatus.{ToolStatus}
 use Rattle.tools_core.specs.declared.status.ToolStatus.TheVariants.{Done, No}
-use Rattle.tools_core.specs.ExplainReport.{IsExplanation}
-use Rattle.tools_core.specs.Refusals.{no_line}
+use Rattle.tools_core.specs.{ExplainReport.IsExplanation, Refusals.no_line}
 
 -- the choices that the starts of an order have: the module of the next one is named, and each is let
 abbrev pub start_choices : Catalog → StartOrder → Choices

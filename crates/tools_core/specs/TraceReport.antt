@@ -2,22 +2,16 @@
 -- Own.
 use Rattle.std.specs.Prelude.{◌≡◌, ℕ, List, Option}
 use Rattle.boot_plan.specs.declared.plan.Plan.{Plan}
-use Rattle.mod_catalog.specs.declared.catalogue.Catalog.{Catalog}
-use Rattle.mod_catalog.specs.declared.image_fault.ImageFault.{ImageFault}
-use Rattle.mod_catalog.specs.Catalogue.{IsCatalogue}
+use Rattle.mod_catalog.specs.{declared.catalogue.Catalog.Catalog, declared.image_fault.ImageFault.ImageFault, Catalogue.IsCatalogue}
 use Rattle.mod_catalog.specs.ImageFault.{IsImageFault}
 use Rattle.recorded_boot.specs.Named.{HasNoTwins, IsFirstWithTwins}
-use Rattle.boot_core.specs.Job.{IsNamedIn}
-use Rattle.boot_core.specs.Reading.{plan_limit}
+use Rattle.boot_core.specs.{Job.IsNamedIn, Reading.plan_limit}
 use Rattle.tools_core.specs.declared.command_line.TraceTool.{TraceTool}
 use Rattle.tools_core.specs.declared.command_line.TraceTool.TheVariants.{Check, Explain}
 use Rattle.tools_core.specs.declared.status.ToolStatus.{ToolStatus}
 use Rattle.tools_core.specs.declared.status.ToolStatus.TheVariants.{ImageRefused, Twins}
-use Rattle.tools_core.specs.CheckReport.{VerdictReport}
-use Rattle.tools_core.specs.FileReading.{IsRead, LongOutcome}
-use Rattle.tools_core.specs.JobOutcome.{JobOutcome}
-use Rattle.tools_core.specs.Refusals.{image_line, twins_line}
-use Rattle.tools_core.specs.ToldReport.{ToldReport}
+use Rattle.tools_core.specs.{CheckReport.VerdictReport, FileReading.IsRead, FileReading.LongOutcome, JobOutcome.JobOutcome}
+use Rattle.tools_core.specs.{Refusals.image_line, Refusals.twins_line, ToldReport.ToldReport}
 
 -- how many bytes a trace may have
 abbrev pub trace_limit : ℕ

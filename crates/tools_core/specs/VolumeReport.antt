@@ -1,8 +1,7 @@
 -- What the text of a volume leads to: the bytes of the volume that its lines say, or the refusal of the first line at fault.
 -- Own.
 use Rattle.std.specs.Prelude.{◌≡◌, ℕ, List}
-use Rattle.volume_text.specs.declared.fault.Fault.{Fault}
-use Rattle.volume_text.specs.declared.fault.TextFault.TheVariants.{Bad}
+use Rattle.volume_text.specs.{declared.fault.Fault.Fault, declared.fault.TextFault.TheVariants.Bad}
 use Rattle.volume_text.specs.Text.{Says, Leads, IsRefused}
 use Rattle.tools_core.specs.declared.status.ToolStatus.{ToolStatus}
 use Rattle.tools_core.specs.declared.status.ToolStatus.TheVariants.{Done, TextRefused}

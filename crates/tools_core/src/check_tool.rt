@@ -1,9 +1,7 @@
 // The verdict on a trace.
 ghost use Rattle.std.specs.Prelude.{◌≡◌, ◌≤◌, IfOk, length};
 ghost use Rattle.boot_plan.specs.Range.{IsPlanInRange};
-ghost use Rattle.tools_core.specs.declared.command_line.TraceTool.TheVariants.{Check};
-ghost use Rattle.tools_core.specs.Ends.{Tells};
-ghost use Rattle.tools_core.specs.TraceReport.{TraceReport};
+ghost use Rattle.tools_core.specs.{declared.command_line.TraceTool.TheVariants.Check, Ends.Tells, TraceReport.TraceReport};
 
 use crate::report::Report;
 use boot_core::plan_files::Job;

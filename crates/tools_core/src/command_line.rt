@@ -1,7 +1,6 @@
 // The words of a command line.
 ghost use Rattle.std.specs.Prelude.{◌≡◌, ◌↔◌, ℕ, List, [], ◌∷◌, codes, IfSome, IfNone, IsTrue};
-ghost use Rattle.tools_core.specs.declared.command_line.Tool.{Tool};
-ghost use Rattle.tools_core.specs.declared.command_line.TraceTool.{TraceTool};
+ghost use Rattle.tools_core.specs.{declared.command_line.Tool.Tool, declared.command_line.TraceTool.TraceTool};
 ghost use Rattle.tools_core.specs.declared.command_line.PlanTool.{PlanTool};
 ghost use Rattle.tools_core.specs.CommandLine.{tool_words, trace_word, plan_word, AskForTool, AskForMap, AskForFollow, AskForPlan, AskForTrace};
 ghost use Rattle.boot_io.specs.Words.{words_of};

@@ -2,8 +2,7 @@
 ghost use Rattle.std.specs.Prelude.{◌≡◌, ◌≤◌, ◌++◌, IfOk, length};
 ghost use Rattle.boot_plan.specs.Range.{IsPlanInRange};
 ghost use Rattle.boot_core.specs.Examining.{IsExamined};
-ghost use Rattle.explain_text.specs.Lines.{IsCatalogText};
-ghost use Rattle.explain_text.specs.Text.{explained_text};
+ghost use Rattle.explain_text.specs.{Lines.IsCatalogText, Text.explained_text};
 ghost use Rattle.mod_catalog.specs.declared.limits.TheConstants.{MOST_MODULES};
 ghost use Rattle.tools_core.specs.Ends.{Tells};
 ghost use Rattle.tools_core.specs.ExplainReport.{ExplainReport, IsExplanation, RunsItself};

@@ -1,7 +1,6 @@
 // The memory space map of a HOB list.
 ghost use Rattle.std.specs.Prelude.{◌≤◌, length, IfOk};
-ghost use Rattle.tools_core.specs.Ends.{Tells};
-ghost use Rattle.tools_core.specs.GcdReport.{GcdReport};
+ghost use Rattle.tools_core.specs.{Ends.Tells, GcdReport.GcdReport};
 
 use crate::report::Report;
 use gcd_map::{CommandFault, GcdCause, from_hobs, read_commands};

@@ -4,8 +4,7 @@ ghost use Rattle.boot_plan.specs.Range.{IsPlanInRange};
 ghost use Rattle.mod_catalog.specs.declared.image_fault.ImageFault.{ImageFault as OfImage};
 ghost use Rattle.boot_model.specs.declared.line.Line.TheVariants as L;
 ghost use Rattle.tools_core.specs.declared.report.Report.TheVariants as R;
-ghost use Rattle.tools_core.specs.Ends.{Tells};
-ghost use Rattle.tools_core.specs.HobsReport.{HobsReport};
+ghost use Rattle.tools_core.specs.{Ends.Tells, HobsReport.HobsReport};
 
 use crate::report::Report;
 use boot_core::plan_files::{Job, NoJob};

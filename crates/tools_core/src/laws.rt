@@ -2,16 +2,11 @@
 ghost use Rattle.std.specs.Prelude.{◌≤◌, ℕ, List, Option, length};
 ghost use Rattle.pi_base.specs.Field.{AreBytes};
 ghost use Rattle.boot_core.specs.Job.{IsNamedIn};
-ghost use Rattle.tools_core.specs.declared.command_line.Tool.{Tool};
-ghost use Rattle.tools_core.specs.declared.command_line.PlanTool.{PlanTool};
-ghost use Rattle.tools_core.specs.declared.command_line.TraceTool.{TraceTool};
-ghost use Rattle.tools_core.specs.FollowReport.{OrderTextsOutcome, order_limit};
-ghost use Rattle.tools_core.specs.JobOutcome.{JobOutcome};
-ghost use Rattle.tools_core.specs.PlanReport.{PlanReport};
-ghost use Rattle.tools_core.specs.GcdReport.{GcdReport};
+ghost use Rattle.tools_core.specs.{declared.command_line.Tool.Tool, declared.command_line.PlanTool.PlanTool};
+ghost use Rattle.tools_core.specs.{declared.command_line.TraceTool.TraceTool, FollowReport.OrderTextsOutcome, FollowReport.order_limit};
+ghost use Rattle.tools_core.specs.{JobOutcome.JobOutcome, PlanReport.PlanReport, GcdReport.GcdReport};
 ghost use Rattle.tools_core.specs.OneOutcome.{AreAllTold, AreTold, IsOne};
-ghost use Rattle.tools_core.specs.Outcome.{ContentReport, Outcome};
-ghost use Rattle.tools_core.specs.TraceReport.{TextsOutcome};
+ghost use Rattle.tools_core.specs.{Outcome.ContentReport, Outcome.Outcome, TraceReport.TextsOutcome};
 
 /// A HOB list and a text of commands lead to one report.
 pub(crate) fn one_map_report()

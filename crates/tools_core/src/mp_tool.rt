@@ -1,7 +1,6 @@
 // The MP services over a list of events.
 ghost use Rattle.std.specs.Prelude.{◌≤◌, length, IfOk};
-ghost use Rattle.tools_core.specs.Ends.{Tells};
-ghost use Rattle.tools_core.specs.MpReport.{MpReport};
+ghost use Rattle.tools_core.specs.{Ends.Tells, MpReport.MpReport};
 
 use crate::report::Report;
 use mp_core::{MpFault, read_mp, run};

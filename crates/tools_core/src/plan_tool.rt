@@ -1,8 +1,7 @@
 // A plan alone: the HOB list of its boot, or its boot, explained.
 ghost use Rattle.std.specs.Prelude.{◌≡◌, ◌≤◌, IfOk, OnErr, length};
 ghost use Rattle.boot_core.specs.Job.{IsNamedIn};
-ghost use Rattle.tools_core.specs.Ends.{Reports};
-ghost use Rattle.tools_core.specs.JobOutcome.{JobOutcome};
+ghost use Rattle.tools_core.specs.{Ends.Reports, JobOutcome.JobOutcome};
 ghost use Rattle.tools_core.specs.PlanReport.{PlanNames, PlanOutcome, PlanReport};
 
 use crate::command_line::PlanTool;

@@ -1,8 +1,7 @@
 // Printing a report.
 ghost use Rattle.std.specs.Prelude.{◌≡◌};
 ghost use Rattle.boot_io.specs.Sink.{Puts, SinkFaultsAfter};
-ghost use Rattle.tools_core.specs.Refusals.{bytes_line, cause_text, malformed_line, malformed_text, no_line};
-ghost use Rattle.tools_core.specs.Refusals.{refused_bytes, refused_text, refused_twins, text_line, twins_line, verdict_line};
+ghost use Rattle.tools_core.specs.Refusals.{bytes_line, cause_text, malformed_line, malformed_text, no_line, refused_bytes, refused_text, refused_twins, text_line, twins_line, verdict_line};
 ghost use Rattle.tools_core.specs.ReportText.{report_text};
 
 use crate::follow_print::{put_followed, put_order};

@@ -1,7 +1,6 @@
 // The files of a tool.
 ghost use Rattle.std.specs.Prelude.{◌≡◌, ℕ, List, IfOk, OnErr};
-ghost use Rattle.tools_core.specs.Ends.{IsReading};
-ghost use Rattle.tools_core.specs.FileRefusal.{IsFileRefusal, IsReportOf};
+ghost use Rattle.tools_core.specs.{Ends.IsReading, FileRefusal.IsFileRefusal, FileRefusal.IsReportOf};
 
 use crate::report::Report;
 use boot_core::plan_files::NoJob;

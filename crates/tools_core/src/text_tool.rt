@@ -1,8 +1,7 @@
 // Expressions and scripts as text, and as bytes.
 ghost use Rattle.std.specs.Prelude.{◌≡◌, ◌≤◌, length, IfOk};
 ghost use Rattle.tools_core.specs.declared.report.Report.TheVariants as R;
-ghost use Rattle.tools_core.specs.Ends.{Tells};
-ghost use Rattle.tools_core.specs.Outcome.{ContentReport};
+ghost use Rattle.tools_core.specs.{Ends.Tells, Outcome.ContentReport};
 ghost use Rattle.tools_core.specs.TextReport.{AssemblyReport, DepexReport, ExpressionReport, ScriptReport, hex_line};
 
 use crate::command_line::Tool;

@@ -2,15 +2,10 @@
 ghost use Rattle.std.specs.Prelude.{◌≡◌, ◌≤◌, ◌<◌, ◌-◌, ◌^◌, ℕ, List, IfOk, length};
 ghost use Rattle.boot_core.specs.Examining.{IsExamined};
 ghost use Rattle.boot_plan.specs.Range.{IsPlanInRange};
-ghost use Rattle.recorded_boot.specs.Checking.{IsChecked};
-ghost use Rattle.recorded_boot.specs.declared.trace.verdict.Verdict.TheVariants.{Yes};
-ghost use Rattle.recorded_boot.specs.Named.{AreNames};
+ghost use Rattle.recorded_boot.specs.{Checking.IsChecked, declared.trace.verdict.Verdict.TheVariants.Yes, Named.AreNames};
 ghost use Rattle.trace_reader.specs.Trace.{IsTrace};
-ghost use Rattle.tools_core.specs.declared.command_line.TraceTool.TheVariants.{Explain};
-ghost use Rattle.tools_core.specs.Ends.{Tells};
-ghost use Rattle.tools_core.specs.ExplainReport.{IsExplanation};
-ghost use Rattle.tools_core.specs.ToldReport.{RunsInOrder};
-ghost use Rattle.tools_core.specs.TraceReport.{TraceReport};
+ghost use Rattle.tools_core.specs.{declared.command_line.TraceTool.TheVariants.Explain, Ends.Tells, ExplainReport.IsExplanation};
+ghost use Rattle.tools_core.specs.{ToldReport.RunsInOrder, TraceReport.TraceReport};
 
 use crate::by_starts::ByStarts;
 use crate::explain_tool::{catalog_text, with_run};

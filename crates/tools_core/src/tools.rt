@@ -1,13 +1,10 @@
 // The top call.
 ghost use Rattle.std.specs.Prelude.{◌≡◌, ◌⊎◌, ◌<◌, ◌≤◌, IfNone, IfOk, IfSome, OnErr};
-ghost use Rattle.boot_io.specs.Faults.{Rose};
-ghost use Rattle.boot_io.specs.Words.{words_of};
+ghost use Rattle.boot_io.specs.{Faults.Rose, Words.words_of};
 ghost use Rattle.mp_core.specs.OneAfterAnother.{CompletesInOrder, IdlesInOrder};
 ghost use Rattle.tools_core.specs.Ends.{Ends, Reports, status_after};
-ghost use Rattle.tools_core.specs.Leaving.{HasLeft, HasPut};
-ghost use Rattle.tools_core.specs.OneOutcome.{AnswersExactly};
+ghost use Rattle.tools_core.specs.{Leaving.HasLeft, Leaving.HasPut, OneOutcome.AnswersExactly, TextAgain.TextsMakeVolumesAgain};
 ghost use Rattle.tools_core.specs.Outcome.{limit_of, MapNames, MapOutcome, Names, Outcome, ToolOutcome};
-ghost use Rattle.tools_core.specs.TextAgain.{TextsMakeVolumesAgain};
 
 use crate::command_line::{Tool, asked_follow, asked_map, asked_plan, asked_tool, asked_trace};
 use crate::follow_tool::with_follow;

@@ -1,8 +1,6 @@
 // Volumes from their texts, and texts of volumes.
 ghost use Rattle.std.specs.Prelude.{◌≤◌, length, IfOk};
-ghost use Rattle.tools_core.specs.Ends.{Tells};
-ghost use Rattle.tools_core.specs.PrintReport.{PrintReport};
-ghost use Rattle.tools_core.specs.VolumeReport.{VolumeReport};
+ghost use Rattle.tools_core.specs.{Ends.Tells, PrintReport.PrintReport, VolumeReport.VolumeReport};
 
 use crate::report::Report;
 use fv_volume::VolCause;

@@ -1,7 +1,5 @@
 -- Lines that show bytes behind a keyword.
-use Rattle.std.proofs.Common.{◌≡◌, ◌++◌, ℕ, List, [], ◌∷◌, flat_map, sym, ap, ◌∙◌, append-nil, arith, length, decimal, ◌<◌, ◌^◌, Option, Some, None, Result, Ok, Err, IfOk}
-use Rattle.std.specs.Prelude.{codes}
-use Rattle.std.specs.Option.{MatchOption}
+use Rattle.std.proofs.Common.{◌≡◌, ◌++◌, ℕ, List, [], ◌∷◌, flat_map, sym, ap, ◌∙◌, append-nil, arith, length, decimal, ◌<◌, ◌^◌, Option, Some, None, Result, Ok, Err, IfOk, codes, MatchOption}
 use Rattle.hex.specs.Hex.{IsBytes, encode_lower}
 use Rattle.boot_model.specs.Text.{bytes_text, dash}
 use Rattle.line_words.specs.PrintedWords.{Finds}

@@ -1,11 +1,8 @@
 -- The first two words of a service's line.
-use Rattle.std.proofs.Common.{◌≡◌, ◌++◌, ℕ, List, ◌∷◌, flat_map}
-use Rattle.std.specs.Prelude.{codes}
-use Rattle.pi_base.specs.declared.word.Word.{Word}
+use Rattle.std.proofs.Common.{◌≡◌, ◌++◌, ℕ, List, ◌∷◌, flat_map, codes}
+use Rattle.pi_base.specs.{declared.word.Word.Word, WordText.word_text}
 use Rattle.boot_io.specs.Line.{spaced}
-use Rattle.boot_model.specs.declared.line.CallName.{CallName}
-use Rattle.pi_base.specs.WordText.{word_text}
-use Rattle.boot_model.specs.Text.{call_text}
+use Rattle.boot_model.specs.{declared.line.CallName.CallName, Text.call_text}
 use Rattle.trace_reader.proofs.Splits.{same_front, same_back, behind_is, tail_of}
 use Rattle.boot_trace.proofs.FixedWords.{call_text_plain, word_text_plain, call_text_one, word_text_one}
 

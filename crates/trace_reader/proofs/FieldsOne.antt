@@ -1,25 +1,19 @@
 -- Each word of a field is one value's.
-use Rattle.std.proofs.Common.{◌≡◌, ◌<◌, ◌≤◌, ◌^◌, ◌+◌, ◌*◌, ℕ, List, [], ◌∷◌, Option, Some, None, Bool, true, false, cond, eqb, Ok, refl, sym, ap, ◌∙◌, arith, length, decimal, get_or, drop}
-use Rattle.std.specs.Prelude.{codes}
-use Rattle.std.specs.Fmt.{digits}
-use Rattle.std.specs.Str.Parse.{digits_value, AllDigits}
-use Rattle.std.proofs.lemmas.Bool.{eqb-true}
-use Rattle.std.proofs.lemmas.Fmt.{decimal_injective}
-use Rattle.std.proofs.lemmas.Str.Parse.{digit_from_value}
+use Rattle.std.proofs.Common.{◌≡◌, ◌<◌, ◌≤◌, ◌^◌, ◌+◌, ◌*◌, ℕ, List, [], ◌∷◌, Option, Some, None, Bool, true, false, cond, eqb, Ok, refl, sym, ap, ◌∙◌, arith, length, decimal, get_or, drop, codes, eqb-true}
+use Rattle.std.specs.{Fmt.digits, Str.Parse.digits_value, Str.Parse.AllDigits}
+use Rattle.std.proofs.{lemmas.Fmt.decimal_injective, lemmas.Str.Parse.digit_from_value}
 use Rattle.hex.specs.Hex.{IsBytes, encode_lower, lower_digits, decode_of}
 use Rattle.hex.proofs.HexLemmas.{decode_of-encode_lower, length-encode_with}
 use Rattle.uuid.proofs.TextLemmas.{by_index_length}
-use Rattle.pi_base.specs.declared.guid.Guid.{Guid}
+use Rattle.pi_base.specs.{declared.guid.Guid.Guid, WordText.hexadecimal, WordText.guid_text}
 use Rattle.store_model.specs.declared.state.TheConstants.{CORE}
 use Rattle.boot_model.specs.declared.line.ExpressionWord.{ExpressionWord}
 use Rattle.boot_model.specs.declared.line.ExpressionWord.TheVariants as V
-use Rattle.pi_base.specs.WordText.{hexadecimal, guid_text}
 use Rattle.boot_model.specs.Text.{by_text, rank_text, name_text, expression_text, bytes_text}
 use Rattle.line_words.specs.PrintedWords.{IsGuid}
 use Rattle.trace_reader.specs.Readable.{IsRank, IsName, IsExpression}
-use Rattle.line_words.proofs.Numerals.{numeral}
+use Rattle.line_words.proofs.{Numerals.numeral, GuidWords.guid_back}
 use Rattle.trace_reader.proofs.HexWords.{one_byte}
-use Rattle.line_words.proofs.GuidWords.{guid_back}
 
 pub wide_one : (m n : ℕ) → m < 2 ^ 64 → n < 2 ^ 64 → decimal m ≡ decimal n → m ≡ n
 wide_one m n fits fit is = decimal_injective m n fits fit is

@@ -1,22 +1,14 @@
 -- A form for each variant of a line, and the form of a text.
-use Rattle.std.proofs.Common.{◌≡◌, ◌++◌, ℕ, List, [], ◌∷◌, Option, Some, Bool, true, false, ◌&&◌, eqb, refl, sym, ap, ◌∙◌, flat_map, option_map}
-use Rattle.std.specs.Prelude.{codes}
-use Rattle.std.specs.List.{find}
+use Rattle.std.proofs.Common.{◌≡◌, ◌++◌, ℕ, List, [], ◌∷◌, Option, Some, Bool, true, false, ◌&&◌, eqb, refl, sym, ap, ◌∙◌, flat_map, option_map, codes, find}
 use Rattle.arrayvec.specs.declared.array_vec.ArrayVec.{ArrayVec}
-use Rattle.pi_base.specs.declared.guid.Guid.{Guid}
-use Rattle.pi_base.specs.declared.word.Word.{Word}
+use Rattle.pi_base.specs.{declared.guid.Guid.Guid, declared.word.Word.Word}
 use Rattle.boot_plan.specs.declared.fault.PlanCause.{PlanCause}
 use Rattle.mod_catalog.specs.declared.image_fault.ImageCause.{ImageCause}
 use Rattle.boot_io.specs.Line.{spaced}
-use Rattle.boot_model.specs.declared.licence.Licence.{Licence}
-use Rattle.boot_model.specs.declared.line.Line.{Line}
+use Rattle.boot_model.specs.{declared.licence.Licence.Licence, declared.line.Line.Line, declared.line.CallName.CallName}
 use Rattle.boot_model.specs.declared.line.Line.TheVariants as L
-use Rattle.boot_model.specs.declared.line.CallName.{CallName}
-use Rattle.boot_model.specs.declared.line.Extra.{Extra}
-use Rattle.boot_model.specs.declared.line.Reason.{Reason}
-use Rattle.boot_model.specs.declared.line.RunEnd.{RunEnd}
-use Rattle.boot_model.specs.declared.line.ExpressionWord.{ExpressionWord}
-use Rattle.boot_model.specs.Text.{keyword, words}
+use Rattle.boot_model.specs.{declared.line.Extra.Extra, declared.line.Reason.Reason, declared.line.RunEnd.RunEnd}
+use Rattle.boot_model.specs.{declared.line.ExpressionWord.ExpressionWord, Text.keyword, Text.words}
 
 pub data Form : Type 0 where
   OfReport : Form

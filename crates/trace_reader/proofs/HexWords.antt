@@ -1,8 +1,6 @@
 -- Words of bytes, decoded.
-use Rattle.std.proofs.Common.{◌≡◌, ◌<◌, ◌^◌, ℕ, zero, suc, List, [], ◌∷◌, Result, Ok, Err, Bool, true, false, sym, ap, ◌∙◌, arith, length, ◌/◌, Option, Some, None, Decides}
-use Rattle.std.specs.Option.{MatchOption}
+use Rattle.std.proofs.Common.{◌≡◌, ◌<◌, ◌^◌, ℕ, zero, suc, List, [], ◌∷◌, Result, Ok, Err, Bool, true, false, sym, ap, ◌∙◌, arith, length, ◌/◌, Option, Some, None, Decides, MatchOption, MatchResult}
 use Rattle.line_words.specs.PrintedWords.{Finds}
-use Rattle.std.specs.Prelude.{MatchResult}
 use Rattle.hex.specs.Hex.{IsBytes, encode_lower, decode_sized, lower_digits}
 use Rattle.hex.specs.declared.error.FromHexError.{FromHexError}
 use Rattle.hex.proofs.HexLemmas.{decode_sized-encode_lower, length-encode_with}

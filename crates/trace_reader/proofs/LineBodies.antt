@@ -1,9 +1,7 @@
 -- A readable line has no line feed before its end.
-use Rattle.std.proofs.Common.{◌≡◌, ◌++◌, ℕ, List, [], ◌∷◌, flat_map, refl, sym, ap, ◌∙◌, true, false, eqb, ltb, arith, append_assoc}
-use Rattle.std.specs.Prelude.{⊤, nat_le}
-use Rattle.std.specs.List.{list_all, AllByRecursion}
-use Rattle.std.proofs.lemmas.Bool.{and_parts}
-use Rattle.std.proofs.lemmas.Bool.Decides.{nat_tests}
+use Rattle.std.proofs.Common.{◌≡◌, ◌++◌, ℕ, List, [], ◌∷◌, flat_map, refl, sym, ap, ◌∙◌, true, false, eqb, ltb, arith, append_assoc, nat_le}
+use Rattle.std.specs.{Prelude.⊤, List.list_all, List.AllByRecursion}
+use Rattle.std.proofs.{lemmas.Bool.and_parts, lemmas.Bool.Decides.nat_tests}
 use Rattle.hex.specs.Hex.{IsBytes}
 use Rattle.boot_io.specs.Line.{spaced}
 use Rattle.boot_model.specs.declared.line.Line.{Line}

@@ -3,14 +3,11 @@ use Rattle.std.proofs.Common.{◌≡◌, ◌++◌, ℕ, List, [], ◌∷◌, ref
 use Rattle.std.specs.List.{AllByRecursion}
 use Rattle.hex.specs.Hex.{encode_lower}
 use Rattle.boot_io.specs.Line.{spaced}
-use Rattle.boot_model.specs.declared.line.Line.{Line}
+use Rattle.boot_model.specs.{declared.line.Line.Line, declared.line.CallName.CallName, declared.line.Extra.Extra}
 use Rattle.boot_model.specs.declared.line.Line.TheVariants as L
-use Rattle.boot_model.specs.declared.line.CallName.{CallName}
 use Rattle.boot_model.specs.declared.line.CallName.TheVariants as C
-use Rattle.boot_model.specs.declared.line.Extra.{Extra}
 use Rattle.boot_model.specs.declared.line.Extra.TheVariants as E
-use Rattle.pi_base.specs.declared.word.Word.{Word}
-use Rattle.pi_base.specs.WordText.{hexadecimal, word_text}
+use Rattle.pi_base.specs.{declared.word.Word.Word, WordText.hexadecimal, WordText.word_text}
 use Rattle.boot_model.specs.Text.{keyword, words, call_text, extra_words}
 use Rattle.line_words.specs.PrintedWords.{IsPlain}
 use Rattle.trace_reader.specs.Readable.{IsReadable, IsExtra, shows_number}

@@ -6,10 +6,9 @@ use Rattle.boot_model.specs.declared.line.Line.{Line}
 use Rattle.boot_model.specs.Text.{keyword, words, line_text, text_of}
 use Rattle.trace_reader.specs.Readable.{IsReadable}
 use Rattle.trace_reader.specs.Trace.{IsTrace, IsBadLine, BeginsWithLine}
-use Rattle.trace_reader.proofs.Splits.{behind_is, tail_of}
+use Rattle.trace_reader.proofs.{Splits.behind_is, Splits.tail_of, LinesOne.line_one}
 use Rattle.line_words.proofs.LineFeeds.{same_line}
 use Rattle.trace_reader.proofs.LineBodies.{body_lacks, line_then, no_feed_no_line}
-use Rattle.trace_reader.proofs.LinesOne.{line_one}
 
 abbrev body : Line → List ℕ
 body line = keyword line ++ flat_map spaced (words line)

@@ -1,16 +1,11 @@
 -- Bytes that are no line of some forms.
 use Rattle.std.specs.Prelude.{◌≢◌, ℕ, List, Option, codes}
-use Rattle.pi_base.specs.declared.guid.Guid.{Guid}
-use Rattle.pi_base.specs.declared.word.Word.{Word}
+use Rattle.pi_base.specs.{declared.guid.Guid.Guid, declared.word.Word.Word}
 use Rattle.boot_plan.specs.declared.fault.PlanCause.{PlanCause}
 use Rattle.mod_catalog.specs.declared.image_fault.ImageCause.{ImageCause}
-use Rattle.boot_model.specs.declared.licence.Licence.{Licence}
+use Rattle.boot_model.specs.{declared.licence.Licence.Licence, declared.line.CallName.CallName, declared.line.Extra.Extra}
 use Rattle.boot_model.specs.declared.line.Line.TheVariants as L
-use Rattle.boot_model.specs.declared.line.CallName.{CallName}
-use Rattle.boot_model.specs.declared.line.Extra.{Extra}
-use Rattle.boot_model.specs.declared.line.Reason.{Reason}
-use Rattle.boot_model.specs.declared.line.RunEnd.{RunEnd}
-use Rattle.boot_model.specs.declared.line.ExpressionWord.{ExpressionWord}
+use Rattle.boot_model.specs.{declared.line.Reason.Reason, declared.line.RunEnd.RunEnd, declared.line.ExpressionWord.ExpressionWord}
 use Rattle.arrayvec.specs.declared.array_vec.ArrayVec.{ArrayVec}
 use Rattle.trace_reader.specs.Readable.{IsLineOf}
 

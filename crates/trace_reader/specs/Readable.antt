@@ -2,20 +2,14 @@
 use Rattle.std.specs.Prelude.{◌≡◌, ◌<◌, ◌≤◌, ◌^◌, ◌++◌, ℕ, Bool, true, false, List, Option, Some, None, ⊤, flat_map, length, nat_le, ◌&&◌}
 use Rattle.std.specs.List.{list_all}
 use Rattle.hex.specs.Hex.{IsBytes}
-use Rattle.pi_base.specs.declared.guid.Guid.{Guid}
-use Rattle.pi_base.specs.declared.word.Word.{Word}
-use Rattle.pi_base.specs.declared.word.Word.TheVariants.{Success}
+use Rattle.pi_base.specs.{declared.guid.Guid.Guid, declared.word.Word.Word, declared.word.Word.TheVariants.Success}
 use Rattle.boot_io.specs.Line.{spaced}
-use Rattle.boot_model.specs.declared.line.TheConstants.{SHOWN_LEN}
-use Rattle.boot_model.specs.declared.line.Line.{Line}
+use Rattle.boot_model.specs.{declared.line.TheConstants.SHOWN_LEN, declared.line.Line.Line, declared.line.CallName.CallName}
 use Rattle.boot_model.specs.declared.line.Line.TheVariants as L
-use Rattle.boot_model.specs.declared.line.CallName.{CallName}
 use Rattle.boot_model.specs.declared.line.CallName.TheVariants as C
-use Rattle.boot_model.specs.declared.line.Extra.{Extra}
+use Rattle.boot_model.specs.{declared.line.Extra.Extra, declared.line.ExpressionWord.ExpressionWord, Text.keyword, Text.words}
 use Rattle.boot_model.specs.declared.line.Extra.TheVariants as E
-use Rattle.boot_model.specs.declared.line.ExpressionWord.{ExpressionWord}
 use Rattle.boot_model.specs.declared.line.ExpressionWord.TheVariants as V
-use Rattle.boot_model.specs.Text.{keyword, words}
 use Rattle.line_words.specs.PrintedWords.{IsGuid, Lacks}
 
 -- a rank, if there is one, fits its type

@@ -1,11 +1,9 @@
 -- The text of a trace (own).
 use Rattle.std.specs.Prelude.{◌≡◌, ◌+◌, ◌<◌, ◌++◌, ℕ, List, length, ⊤}
 use Rattle.std.specs.List.{AllByRecursion}
-use Rattle.boot_model.specs.declared.line.Line.{Line}
-use Rattle.boot_model.specs.Text.{line_text, text_of}
-use Rattle.trace_reader.specs.declared.fault.TraceFault.{TraceFault}
+use Rattle.boot_model.specs.{declared.line.Line.Line, Text.line_text, Text.text_of}
+use Rattle.trace_reader.specs.{declared.fault.TraceFault.TraceFault, Readable.IsReadable}
 use Rattle.trace_reader.specs.declared.fault.TraceFault.TheVariants as F
-use Rattle.trace_reader.specs.Readable.{IsReadable}
 
 -- the text is that of readable lines
 abbrev pub IsTrace : List ℕ → List Line → Type 0

@@ -1,7 +1,6 @@
 // The lines of an audit.
 ghost use Rattle.std.specs.Prelude.{IfSome, IsNone};
-ghost use Rattle.trace_reader.specs.Readable.{IsLineOf};
-ghost use Rattle.trace_reader.specs.Lacking.{LacksLinesOfAudit};
+ghost use Rattle.trace_reader.specs.{Readable.IsLineOf, Lacking.LacksLinesOfAudit};
 
 use crate::field::fields_after;
 use crate::hex_word::Kind;

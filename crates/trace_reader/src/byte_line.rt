@@ -1,6 +1,5 @@
 // The lines of bytes: logged texts, HOBs, and files that could not be read.
-ghost use Rattle.std.specs.Prelude.{◌≡◌, ◌<◌, ◌++◌, ◌^◌, ◌∷◌, [], ℕ, List, IfSome, IsNone, IfOk, MatchOption, codes, decimal, flat_map, length};
-ghost use Rattle.std.specs.Bool.{Decides};
+ghost use Rattle.std.specs.Prelude.{◌≡◌, ◌<◌, ◌++◌, ◌^◌, ◌∷◌, [], ℕ, List, IfSome, IsNone, IfOk, MatchOption, codes, decimal, flat_map, length, Decides};
 ghost use Rattle.hex.specs.Hex.{IsBytes, encode_lower};
 ghost use Rattle.boot_io.specs.Line.{spaced};
 ghost use Rattle.boot_model.specs.Text.{bytes_text};

@@ -1,10 +1,7 @@
 // The lines of services.
-ghost use Rattle.std.specs.Prelude.{◌≡◌, ℕ, true, IfSome, IsNone};
-ghost use Rattle.std.specs.Bool.{Decides};
-ghost use Rattle.pi_base.specs.declared.word.Word.TheVariants.{Success};
-ghost use Rattle.boot_model.specs.declared.line.CallName.TheVariants.{Peek};
-ghost use Rattle.pi_base.specs.declared.word.Word.{Word};
-ghost use Rattle.boot_model.specs.declared.line.CallName.{CallName};
+ghost use Rattle.std.specs.Prelude.{◌≡◌, ℕ, true, IfSome, IsNone, Decides};
+ghost use Rattle.pi_base.specs.{declared.word.Word.TheVariants.Success, declared.word.Word.Word};
+ghost use Rattle.boot_model.specs.{declared.line.CallName.TheVariants.Peek, declared.line.CallName.CallName};
 ghost use Rattle.boot_model.specs.declared.line.Line.TheVariants as L;
 ghost use Rattle.boot_model.specs.declared.line.Extra.TheVariants as E;
 ghost use Rattle.arrayvec.specs.declared.array_vec.ArrayVec.{ArrayVec};

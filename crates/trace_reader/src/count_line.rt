@@ -1,7 +1,6 @@
 // The lines of counts, with which the lists begin.
 ghost use Rattle.std.specs.Prelude.{IfSome, IsNone};
-ghost use Rattle.trace_reader.specs.Readable.{IsLineOf};
-ghost use Rattle.trace_reader.specs.Lacking.{LacksLinesOfCount};
+ghost use Rattle.trace_reader.specs.{Readable.IsLineOf, Lacking.LacksLinesOfCount};
 
 use crate::field::fields_after;
 use boot_model::Line;

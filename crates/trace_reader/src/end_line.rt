@@ -1,7 +1,6 @@
 // The lines of what ends: frames, phases and the run.
 ghost use Rattle.std.specs.Prelude.{IfSome, IsNone};
-ghost use Rattle.trace_reader.specs.Readable.{IsLineOf};
-ghost use Rattle.trace_reader.specs.Lacking.{LacksLinesOfEnd};
+ghost use Rattle.trace_reader.specs.{Readable.IsLineOf, Lacking.LacksLinesOfEnd};
 
 use crate::field::fields_after;
 use crate::fixed_word::Fixed;

@@ -1,7 +1,6 @@
 // The lines of the entries of lists.
 ghost use Rattle.std.specs.Prelude.{IfSome, IsNone};
-ghost use Rattle.trace_reader.specs.Readable.{IsLineOf};
-ghost use Rattle.trace_reader.specs.Lacking.{LacksLinesOfEntry};
+ghost use Rattle.trace_reader.specs.{Readable.IsLineOf, Lacking.LacksLinesOfEntry};
 
 use crate::field::fields_after;
 use crate::number::{By, Hexadecimal};

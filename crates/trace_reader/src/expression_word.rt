@@ -2,8 +2,7 @@
 ghost use Rattle.std.specs.Prelude.{◌≡◌, ◌++◌, IfSome, IsNone};
 ghost use Rattle.boot_model.specs.Text.{expression_text};
 ghost use Rattle.line_words.specs.PrintedWords.{Finds};
-ghost use Rattle.trace_reader.specs.Readable.{IsExpression};
-ghost use Rattle.trace_reader.specs.Lacking.{LacksPlainExpressions};
+ghost use Rattle.trace_reader.specs.{Readable.IsExpression, Lacking.LacksPlainExpressions};
 
 use crate::field::Field;
 use boot_model::ExpressionWord;

@@ -1,8 +1,7 @@
 // A line of a trace, without its line feed.
 ghost use Rattle.std.specs.Prelude.{IfSome, IsNone, IfOk};
 ghost use Rattle.line_words.specs.PrintedWords.{Finds, Lacks};
-ghost use Rattle.trace_reader.specs.Readable.{IsLineOf};
-ghost use Rattle.trace_reader.specs.Lacking.{LacksPlainLines};
+ghost use Rattle.trace_reader.specs.{Readable.IsLineOf, Lacking.LacksPlainLines};
 
 use crate::audit_line::audit_line;
 use crate::byte_line::{file_line, hob_line, log_line};

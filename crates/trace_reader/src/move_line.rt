@@ -1,7 +1,6 @@
 // The lines of the move to permanent memory.
 ghost use Rattle.std.specs.Prelude.{IfSome, IsNone};
-ghost use Rattle.trace_reader.specs.Readable.{IsLineOf};
-ghost use Rattle.trace_reader.specs.Lacking.{LacksLinesOfMove};
+ghost use Rattle.trace_reader.specs.{Readable.IsLineOf, Lacking.LacksLinesOfMove};
 
 use crate::field::fields_after;
 use crate::fixed_word::Fixed;

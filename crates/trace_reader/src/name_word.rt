@@ -1,6 +1,5 @@
 // Words of GUIDs, and of ranks and names that may be absent.
-ghost use Rattle.std.specs.Prelude.{◌≡◌};
-ghost use Rattle.std.specs.Bool.{Decides};
+ghost use Rattle.std.specs.Prelude.{◌≡◌, Decides};
 ghost use Rattle.pi_base.specs.WordText.{guid_text};
 ghost use Rattle.boot_model.specs.Text.{dash, name_text, rank_text};
 ghost use Rattle.line_words.specs.PrintedWords.{IsGuid};

@@ -1,7 +1,6 @@
 // The lines of notifications.
 ghost use Rattle.std.specs.Prelude.{IfSome, IsNone};
-ghost use Rattle.trace_reader.specs.Readable.{IsLineOf};
-ghost use Rattle.trace_reader.specs.Lacking.{LacksLinesOfNotify};
+ghost use Rattle.trace_reader.specs.{Readable.IsLineOf, Lacking.LacksLinesOfNotify};
 
 use crate::field::fields_after;
 use boot_model::Line;

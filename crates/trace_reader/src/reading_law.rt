@@ -1,9 +1,7 @@
 // What a text of a trace can be read as.
 ghost use Rattle.std.specs.Prelude.{◌≡◌, ℕ, List};
-ghost use Rattle.boot_model.specs.declared.line.Line.{Line};
-ghost use Rattle.boot_model.specs.Text.{line_text};
-ghost use Rattle.trace_reader.specs.Readable.{IsReadable};
-ghost use Rattle.trace_reader.specs.Trace.{IsTrace, IsBadLine};
+ghost use Rattle.boot_model.specs.{declared.line.Line.Line, Text.line_text};
+ghost use Rattle.trace_reader.specs.{Readable.IsReadable, Trace.IsTrace, Trace.IsBadLine};
 
 /// No two readable lines have one text; and a text is of one list of readable lines or has one first bad line, never both.
 pub fn one_reading()

@@ -1,7 +1,6 @@
 // The lines of refusals, but for those of files.
 ghost use Rattle.std.specs.Prelude.{IfSome, IsNone};
-ghost use Rattle.trace_reader.specs.Readable.{IsLineOf};
-ghost use Rattle.trace_reader.specs.Lacking.{LacksLinesOfRefusal};
+ghost use Rattle.trace_reader.specs.{Readable.IsLineOf, Lacking.LacksLinesOfRefusal};
 
 use crate::field::fields_after;
 use crate::fixed_word::Fixed;

@@ -1,7 +1,6 @@
 // The lines of reports and starts.
 ghost use Rattle.std.specs.Prelude.{IfSome, IsNone};
-ghost use Rattle.trace_reader.specs.Readable.{IsLineOf};
-ghost use Rattle.trace_reader.specs.Lacking.{LacksLinesOfStart};
+ghost use Rattle.trace_reader.specs.{Readable.IsLineOf, Lacking.LacksLinesOfStart};
 
 use crate::field::fields_after;
 use crate::fixed_word::Fixed;

@@ -1,20 +1,12 @@
 -- The bytes that a volume of a text has at its `end` are read as the name and the files that its lines say.
-use Rattle.std.proofs.Common.{◌≡◌, ◌<◌, ◌≤◌, ◌^◌, ℕ, Bool, true, false, cond, List, Option, Some, None, Result, Ok, Err, refl, subst, arith, All}
-use Rattle.std.proofs.lemmas.Bool.{and_parts}
-use Rattle.std.proofs.lemmas.Bool.Decides.{nat_tests}
-use Rattle.std.specs.Prelude.{nat_lt, nat_le, ◌&&◌}
-use Rattle.fv_volume.specs.declared.build.fault.BuildFault.{BuildFault}
+use Rattle.std.proofs.Common.{◌≡◌, ◌<◌, ◌≤◌, ◌^◌, ℕ, Bool, true, false, cond, List, Option, Some, None, Result, Ok, Err, refl, subst, arith, All, nat_lt, nat_le, ◌&&◌}
+use Rattle.std.proofs.{lemmas.Bool.and_parts, lemmas.Bool.Decides.nat_tests}
+use Rattle.fv_volume.specs.{declared.build.fault.BuildFault.BuildFault, Files.HasWholeName, Header.is_header_length, Front.is_placed}
 use Rattle.fv_volume.specs.declared.build.fault.BuildFault.TheVariants.{TooMany, Size, NoRoom, Memory}
-use Rattle.fv_volume.specs.Files.{HasWholeName}
-use Rattle.fv_volume.specs.Header.{is_header_length}
-use Rattle.fv_volume.specs.Front.{is_placed}
-use Rattle.fv_volume.specs.Building.{volume_bytes, volume_fault}
-use Rattle.fv_volume.specs.Reading.{IsWhole, IsReadAs}
+use Rattle.fv_volume.specs.{Building.volume_bytes, Building.volume_fault, Reading.IsWhole, Reading.IsReadAs}
 use Rattle.fv_volume.proofs.VolumesRead.{read_as}
-use Rattle.volume_text.specs.declared.fault.Cause.{Cause}
+use Rattle.volume_text.specs.{declared.fault.Cause.Cause, declared.volume.OpenVolume.OpenVolume, Words.is_length, Words.is_header}
 use Rattle.volume_text.specs.declared.fault.Cause.TheVariants as cause
-use Rattle.volume_text.specs.declared.volume.OpenVolume.{OpenVolume}
-use Rattle.volume_text.specs.Words.{is_length, is_header}
 use Rattle.volume_text.specs.Open.{refused_by, is_in_range, built_of}
 
 -- what the ranges say

@@ -1,7 +1,6 @@
 -- Parts of bytes are bytes.
-use Rattle.std.proofs.Common.{ℕ, zero, suc, ◌+◌, ◌<◌, ◌≤◌, List, [], ◌∷◌, ◌++◌, length, take, drop, flat_map, take-append-drop, arith}
+use Rattle.std.proofs.Common.{ℕ, zero, suc, ◌+◌, ◌<◌, ◌≤◌, List, [], ◌∷◌, ◌++◌, length, take, drop, flat_map, take-append-drop, arith, length-take-le, length-drop}
 use Rattle.std.specs.List.{AllByRecursion}
-use Rattle.std.proofs.lemmas.List.{length-take-le, length-drop}
 use Rattle.hex.specs.Hex.{IsBytes}
 use Rattle.pi_base.specs.Guids.{guid_at}
 use Rattle.line_words.specs.PrintedWords.{IsGuid}

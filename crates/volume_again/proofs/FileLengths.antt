@@ -1,14 +1,9 @@
 -- Files that are there again take as many bytes.
 use Rattle.std.proofs.Common.{◌≡◌, ℕ, ◌+◌, List, [], ◌∷◌, ◌++◌, length, map, replicate, refl, sym, ap, ◌∙◌, arith, length-append}
-use Rattle.fv_volume.specs.declared.build.file_system.FileSystem.{FileSystem}
-use Rattle.fv_volume.specs.declared.build.new_file.Body.{Body}
+use Rattle.fv_volume.specs.{declared.build.file_system.FileSystem.FileSystem, declared.build.new_file.Body.Body}
 use Rattle.fv_volume.specs.declared.build.new_file.Body.TheVariants.{Sections, Bytes}
-use Rattle.fv_volume.specs.declared.build.new_file.NewFile.{NewFile}
-use Rattle.fv_volume.specs.declared.build.new_file.NewSection.{NewSection}
-use Rattle.fv_volume.specs.Placing.{gap, laid}
-use Rattle.fv_volume.specs.Sections.{section_bytes, section_size}
-use Rattle.fv_volume.specs.Files.{bytes_in}
-use Rattle.fv_volume.specs.Reading.{AreEach}
+use Rattle.fv_volume.specs.{declared.build.new_file.NewFile.NewFile, declared.build.new_file.NewSection.NewSection}
+use Rattle.fv_volume.specs.{Placing.gap, Placing.laid, Sections.section_bytes, Sections.section_size, Files.bytes_in, Reading.AreEach}
 use Rattle.fv_volume.proofs.Sizes.{length-section}
 use Rattle.volume_again.specs.Again.{IsSectionAgain, IsBodyAgain}
 

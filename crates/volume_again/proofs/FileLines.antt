@@ -1,19 +1,14 @@
 -- The lines of files say the files again.
-use Rattle.std.proofs.Common.{◌≡◌, inl, inr, ℕ, true, List, [], ◌∷◌, ◌++◌, map, flat_map, Ok, refl, sym, ap, subst, append_assoc}
-use Rattle.std.specs.Prelude.{codes, ◌==◌}
+use Rattle.std.proofs.Common.{◌≡◌, inl, inr, ℕ, true, List, [], ◌∷◌, ◌++◌, map, flat_map, Ok, refl, sym, ap, subst, append_assoc, codes, ◌==◌, eqb-true, append-nil}
 use Rattle.std.specs.List.{list_any, AllByRecursion}
-use Rattle.std.proofs.lemmas.Bool.{and_parts, eqb-true}
-use Rattle.std.proofs.lemmas.List.{append-nil}
+use Rattle.std.proofs.lemmas.Bool.{and_parts}
 use Rattle.pi_base.specs.declared.phase.Phase.{Phase}
 use Rattle.act_code.specs.declared.action.Action.{Action}
 use Rattle.asm_text.specs.ActionText.{action_text}
 use Rattle.asm_text.specs.ScriptText.{line, block_text, action_line, block_lines}
 use Rattle.source_words.proofs.PrintedActions.{IsGoodAction, action_read}
-use Rattle.fv_volume.specs.declared.build.new_file.NewFile.{NewFile}
-use Rattle.fv_volume.specs.declared.build.new_file.NewSection.{NewSection}
-use Rattle.fv_volume.specs.Reading.{AreEach}
-use Rattle.volume_text.specs.Open.{is_script_of}
-use Rattle.volume_text.specs.Script.{action_at, said_by}
+use Rattle.fv_volume.specs.{declared.build.new_file.NewFile.NewFile, declared.build.new_file.NewSection.NewSection, Reading.AreEach}
+use Rattle.volume_text.specs.{Open.is_script_of, Script.action_at, Script.said_by}
 use Rattle.volume_text.specs.Volume.{SayBlocks, no_block, block, action}
 use Rattle.volume_again.specs.Again.{IsSectionAgain}
 use Rattle.volume_again.proofs.TextLines.{Has, has_none, has_line, has_both}

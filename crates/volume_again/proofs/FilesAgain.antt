@@ -1,31 +1,19 @@
 -- A printed text says the files again of which it is the text.
-use Rattle.std.proofs.Common.{◌≡◌, inl, inr, ℕ, zero, suc, ◌<◌, ◌≤◌, ◌^◌, ◌%◌, ◌&&◌, Bool, true, false, cond, List, [], ◌∷◌, ◌++◌, length, map, take, drop, flat_map, Option, Some, None, Ok, refl, sym, ap, ◌∙◌, subst, append_assoc, arith, decimal, All}
+use Rattle.std.proofs.Common.{◌≡◌, inl, inr, ℕ, zero, suc, ◌<◌, ◌≤◌, ◌^◌, ◌%◌, ◌&&◌, Bool, true, false, cond, List, [], ◌∷◌, ◌++◌, length, map, take, drop, flat_map, Option, Some, None, Ok, refl, sym, ap, ◌∙◌, subst, append_assoc, arith, decimal, All, codes, nat_le, ◌==◌, eqb-true, append-nil, length-drop}
 use Rattle.std.specs.List.{AllByRecursion}
-use Rattle.std.specs.Prelude.{codes, nat_le, ◌==◌}
-use Rattle.std.proofs.lemmas.Bool.{and_parts, eqb-true}
-use Rattle.std.proofs.lemmas.Bool.Decides.{nat_tests}
-use Rattle.std.proofs.lemmas.List.{append-nil, length-drop}
-use Rattle.std.proofs.lemmas.List.Elements.{All-head, All-tail}
+use Rattle.std.proofs.{lemmas.Bool.and_parts, lemmas.Bool.Decides.nat_tests, lemmas.List.Elements.All-head, lemmas.List.Elements.All-tail}
 use Rattle.hex.specs.Hex.{IsBytes, encode_lower}
 use Rattle.pi_base.specs.Guids.{guid_at}
-use Rattle.asm_text.specs.ExpressionText.{expression_text}
-use Rattle.asm_text.specs.ScriptText.{line, block_lines}
+use Rattle.asm_text.specs.{ExpressionText.expression_text, ScriptText.line, ScriptText.block_lines}
 use Rattle.mod_catalog.specs.APrioriNames.{guids_in}
 use Rattle.depex_code.specs.Expression.{instructions, bytes_of}
-use Rattle.fv_volume.specs.declared.build.new_file.NewFile.{NewFile}
-use Rattle.fv_volume.specs.declared.build.new_file.NewSection.{NewSection}
+use Rattle.fv_volume.specs.{declared.build.new_file.NewFile.NewFile, declared.build.new_file.NewSection.NewSection}
 use Rattle.fv_volume.specs.declared.build.new_file.Body.{Body}
 use Rattle.fv_volume.specs.declared.build.new_file.Body.TheVariants.{Sections, Bytes}
-use Rattle.fv_volume.specs.declared.build.attributes.FileAttributes.{FileAttributes}
-use Rattle.fv_volume.specs.declared.build.volume_header.VolumeForm.{VolumeForm}
-use Rattle.fv_volume.specs.declared.build.volume_name.VolumeName.{VolumeName}
-use Rattle.fv_volume.specs.Attributes.{plain_attributes}
-use Rattle.fv_volume.specs.Front.{is_placed}
-use Rattle.fv_volume.specs.Reading.{AreEach}
-use Rattle.volume_text.specs.declared.volume.OpenVolume.{OpenVolume}
-use Rattle.volume_text.specs.Words.{is_header, is_length}
+use Rattle.fv_volume.specs.{declared.build.attributes.FileAttributes.FileAttributes, declared.build.volume_header.VolumeForm.VolumeForm}
+use Rattle.fv_volume.specs.{declared.build.volume_name.VolumeName.VolumeName, Attributes.plain_attributes, Front.is_placed, Reading.AreEach}
+use Rattle.volume_text.specs.{declared.volume.OpenVolume.OpenVolume, Words.is_header, Words.is_length, Step.section_of}
 use Rattle.volume_text.specs.Open.{new_file, depex_type, built_of}
-use Rattle.volume_text.specs.Step.{section_of}
 use Rattle.volume_text.specs.Volume.{SayFiles, no_file, named, padded, file, bodied, section, depex, script, volume}
 use Rattle.volume_text.specs.Text.{numbered, Describes, Says as TextSays, Leads}
 use Rattle.volume_print.specs.Spelling.{phase_word, guid_word as told_guid, is_a_priori, volume_line, name_line, IsSectionText, as_volume, as_expression, as_guids, as_script, as_bytes, AreSectionTexts, whole, body_line, head_line, are_erased, pad_line, pad_text, with_pads, IsBodyText, host_of, IsFileText, IsVolumeText}
@@ -35,9 +23,7 @@ use Rattle.volume_again.specs.Again.{IsNameOfBytes, IsOfBytes, IsBodyOfBytes, Is
 use Rattle.volume_again.proofs.TextLines.{IsLine, Has, has_none, has_line, has_both, has_all, has_own}
 use Rattle.volume_again.proofs.SaidLines.{volume_text, volume_says, name_text, name_says, least_size, file_text, file_says, section_text, section_says, body_says, pad_says, guids_say, depex_says, script_says as script_begins, end_says}
 use Rattle.volume_again.proofs.FileLines.{block_texts, script_says, script_has, same_scripts}
-use Rattle.volume_again.proofs.Trees.{expression_is}
-use Rattle.volume_again.proofs.GuidRuns.{run_is, guids_are}
-use Rattle.volume_again.proofs.GoodScripts.{good_script}
+use Rattle.volume_again.proofs.{Trees.expression_is, GuidRuns.run_is, GuidRuns.guids_are, GoodScripts.good_script}
 use Rattle.volume_again.proofs.ByteRuns.{left_bytes, guid_there}
 use Rattle.volume_again.proofs.PadPieces.{IsGoodPiece, IsGoodPad, erased_pad}
 

@@ -1,9 +1,6 @@
 -- The form of a volume that is built again is the one that its text says.
-use Rattle.std.proofs.Common.{◌≡◌, inl, inr, ℕ, ◌+◌, ◌-◌, ◌*◌, ◌<◌, ◌≤◌, ◌^◌, Bool, true, false, cond, List, ◌++◌, length, drop, replicate, Option, Some, None, refl, sym, ap, ◌∙◌, arith, append_assoc}
-use Rattle.std.specs.Prelude.{nat_lt, nat_le, bit_and, bit_or, bit_xor, ◌==◌}
-use Rattle.std.proofs.lemmas.Bool.{and_parts, cases_lt}
-use Rattle.std.proofs.lemmas.List.{length-replicate}
-use Rattle.std.proofs.lemmas.Bool.Decides.{nat_tests}
+use Rattle.std.proofs.Common.{◌≡◌, inl, inr, ℕ, ◌+◌, ◌-◌, ◌*◌, ◌<◌, ◌≤◌, ◌^◌, Bool, true, false, cond, List, ◌++◌, length, drop, replicate, Option, Some, None, refl, sym, ap, ◌∙◌, arith, append_assoc, nat_lt, nat_le, bit_and, bit_or, bit_xor, ◌==◌}
+use Rattle.std.proofs.{lemmas.Bool.and_parts, lemmas.Bool.cases_lt, lemmas.List.length-replicate, lemmas.Bool.Decides.nat_tests}
 use Rattle.std.proofs.lemmas.Nat.{and_or_self, or_lt}
 use Rattle.std.specs.Int.{bit_at}
 use Rattle.std.proofs.lemmas.Nat.Bits.{bit_at_or, bit_at_xor, bit_at-lt, bit_at-pow_same, bit_at-pow_other, and_pow, same_from_bits}
@@ -11,16 +8,12 @@ use Rattle.pi_base.specs.Field.{little_number, little_bytes}
 use Rattle.pi_base.proofs.FieldLaws.{little_number-little_bytes}
 use Rattle.fv_volume.specs.declared.build.file_system.FileSystem.{FileSystem}
 use Rattle.fv_volume.specs.declared.build.file_system.FileSystem.TheVariants.{Ffs2, Ffs3}
-use Rattle.fv_volume.specs.declared.build.new_file.NewFile.{NewFile}
-use Rattle.fv_volume.specs.declared.build.volume_header.VolumeForm.{VolumeForm}
-use Rattle.fv_volume.specs.Checksum.{checksum16}
+use Rattle.fv_volume.specs.{declared.build.new_file.NewFile.NewFile, declared.build.volume_header.VolumeForm.VolumeForm}
+use Rattle.fv_volume.specs.{Checksum.checksum16, declared.build.volume_name.VolumeName.VolumeName}
 use Rattle.fv_volume.specs.Header.{plain, head_of, header_with, volume_header}
-use Rattle.fv_volume.specs.declared.build.volume_name.VolumeName.{VolumeName}
 use Rattle.fv_volume.specs.Front.{ext_at, extended_bytes, name_part, front_len, is_placed}
-use Rattle.fv_volume.specs.Building.{filled_from, volume_bytes}
-use Rattle.fv_volume.specs.Reading.{IsWhole, guid_of}
-use Rattle.fv_volume.proofs.Parts.{drop_behind, drop_text}
-use Rattle.fv_volume.proofs.VolumesRead.{length-header}
+use Rattle.fv_volume.specs.{Building.filled_from, Building.volume_bytes, Reading.IsWhole, Reading.guid_of}
+use Rattle.fv_volume.proofs.{Parts.drop_behind, Parts.drop_text, VolumesRead.length-header}
 use Rattle.volume_print.specs.Description.{file_system_in, told_attributes, form_in, name_in}
 use Rattle.volume_again.proofs.GoodHeaders.{there_by}
 

@@ -1,25 +1,15 @@
 -- What a reader takes of a volume's headers, a line of its text can tell: its header's length, and its name with its place.
-use Rattle.std.proofs.Common.{◌≡◌, ℕ, ◌+◌, ◌%◌, ◌<◌, ◌≤◌, ◌^◌, Bool, true, false, cond, List, length, drop, Option, Some, None, Result, Ok, Err, refl, sym, ap, ◌∙◌, subst, arith}
-use Rattle.std.specs.Prelude.{◌==◌, ◌&&◌, nat_lt, nat_le}
+use Rattle.std.proofs.Common.{◌≡◌, ℕ, ◌+◌, ◌%◌, ◌<◌, ◌≤◌, ◌^◌, Bool, true, false, cond, List, length, drop, Option, Some, None, Result, Ok, Err, refl, sym, ap, ◌∙◌, subst, arith, ◌==◌, ◌&&◌, nat_lt, nat_le}
 use Rattle.std.proofs.lemmas.Bool.Decides.{nat_tests}
 use Rattle.hex.specs.Hex.{IsBytes}
-use Rattle.pi_base.specs.declared.guid.Guid.{Guid}
-use Rattle.pi_base.specs.Field.{little_number}
-use Rattle.pi_base.specs.Guids.{guid_at}
+use Rattle.pi_base.specs.{declared.guid.Guid.Guid, Field.little_number, Guids.guid_at}
 use Rattle.pi_base.proofs.FieldLaws.{little_number-lt}
 use Rattle.line_words.specs.PrintedWords.{IsGuid}
-use Rattle.fv_volume.specs.declared.volume.Volume.{Volume}
-use Rattle.fv_volume.specs.declared.fault.VolFault.{VolFault}
-use Rattle.fv_volume.specs.VolumeHeader.{volume_header, header_fault}
-use Rattle.fv_volume.specs.ExtendedHeader.{misplaced, extended_header}
-use Rattle.fv_volume.specs.Frame.{frame_with, frame_or_fault}
-use Rattle.fv_volume.specs.Volume.{IsVolume}
-use Rattle.fv_volume.specs.declared.build.file_system.FileSystem.TheVariants.{Ffs2}
-use Rattle.fv_volume.specs.declared.build.volume_header.VolumeForm.{VolumeForm}
-use Rattle.fv_volume.specs.declared.build.volume_name.VolumeName.{VolumeName}
-use Rattle.fv_volume.specs.Header.{plain}
-use Rattle.fv_volume.specs.Front.{is_placed}
-use Rattle.fv_volume.specs.Reading.{guid_of}
+use Rattle.fv_volume.specs.{declared.volume.Volume.Volume, declared.fault.VolFault.VolFault}
+use Rattle.fv_volume.specs.{VolumeHeader.volume_header, VolumeHeader.header_fault, ExtendedHeader.misplaced, ExtendedHeader.extended_header}
+use Rattle.fv_volume.specs.{Frame.frame_with, Frame.frame_or_fault, Volume.IsVolume, declared.build.file_system.FileSystem.TheVariants.Ffs2}
+use Rattle.fv_volume.specs.{declared.build.volume_header.VolumeForm.VolumeForm, declared.build.volume_name.VolumeName.VolumeName}
+use Rattle.fv_volume.specs.{Header.plain, Front.is_placed, Reading.guid_of}
 use Rattle.volume_text.specs.Words.{is_header}
 use Rattle.volume_print.specs.Description.{file_system_in, told_attributes, form_in, name_at, name_in}
 use Rattle.volume_again.specs.Again.{IsNameOfBytes}

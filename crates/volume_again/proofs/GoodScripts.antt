@@ -1,15 +1,10 @@
 -- The actions of a script of bytes are such as a line can show.
-use Rattle.std.proofs.Common.{◌≡◌, ℕ, ◌-◌, ◌≤◌, true, List, [], ◌∷◌, ◌++◌, length, flat_map, refl, arith, subst}
-use Rattle.std.specs.Prelude.{nat_lt, nat_le}
+use Rattle.std.proofs.Common.{◌≡◌, ℕ, ◌-◌, ◌≤◌, true, List, [], ◌∷◌, ◌++◌, length, flat_map, refl, arith, subst, nat_lt, nat_le}
 use Rattle.std.specs.List.{list_all, AllByRecursion}
-use Rattle.std.proofs.lemmas.Bool.{and_parts, and_from}
-use Rattle.std.proofs.lemmas.Bool.Decides.{nat_tests}
+use Rattle.std.proofs.{lemmas.Bool.and_parts, lemmas.Bool.and_from, lemmas.Bool.Decides.nat_tests}
 use Rattle.hex.specs.Hex.{IsBytes}
-use Rattle.pi_base.specs.Field.{little_bytes}
-use Rattle.pi_base.specs.declared.phase.Phase.{Phase}
-use Rattle.act_code.specs.declared.action.Action.{Action}
-use Rattle.act_code.specs.declared.script.Script.{Script}
-use Rattle.act_code.specs.Format.{registers_in, blocks_in}
+use Rattle.pi_base.specs.{Field.little_bytes, declared.phase.Phase.Phase}
+use Rattle.act_code.specs.{declared.action.Action.Action, declared.script.Script.Script, Format.registers_in, Format.blocks_in}
 use Rattle.act_code.specs.Header.{header_bytes}
 use Rattle.act_code.specs.Script.{action_bytes, operand_bytes, block_bytes, IsSound, AreSound, IsBlock, IsScript, Each}
 use Rattle.act_code.specs.Table.{number_of, format_of, code_of_action, operands}

@@ -1,10 +1,8 @@
 -- Whole GUIDs one behind the other are the bytes that they stand in.
-use Rattle.std.proofs.Common.{◌≡◌, ℕ, zero, suc, ◌+◌, ◌*◌, ◌≤◌, ◌/◌, ◌%◌, List, [], ◌∷◌, ◌++◌, length, map, take, drop, flat_map, refl, sym, ap, ◌∙◌, arith, take-append-drop}
+use Rattle.std.proofs.Common.{◌≡◌, ℕ, zero, suc, ◌+◌, ◌*◌, ◌≤◌, ◌/◌, ◌%◌, List, [], ◌∷◌, ◌++◌, length, map, take, drop, flat_map, refl, sym, ap, ◌∙◌, arith, take-append-drop, length-take-le, length-drop, drop-drop}
 use Rattle.std.specs.List.{AllByRecursion}
-use Rattle.std.proofs.lemmas.List.{length-take-le, length-drop, drop-drop}
 use Rattle.hex.specs.Hex.{IsBytes}
-use Rattle.pi_base.specs.Guids.{guid_at}
-use Rattle.pi_base.specs.Lists.{numbers}
+use Rattle.pi_base.specs.{Guids.guid_at, Lists.numbers}
 use Rattle.mod_catalog.specs.APrioriNames.{guids_in}
 use Rattle.line_words.specs.PrintedWords.{IsGuid}
 use Rattle.volume_again.proofs.ByteRuns.{bytes_front, bytes_back}

@@ -1,30 +1,21 @@
 -- What a reader lists of bytes: files at multiples of 8, none of them a pad, with names, types and bodies of bytes.
-use Rattle.std.proofs.Common.{◌≡◌, ℕ, ◌+◌, ◌-◌, ◌%◌, ◌<◌, ◌≤◌, Bool, true, false, cond, List, [], ◌∷◌, ◌++◌, length, take, drop, Option, Some, None, Result, Ok, Err, refl, sym, ap, ◌∙◌, subst, arith, slice_index}
-use Rattle.std.specs.Prelude.{not, ◌==◌, nat_lt}
+use Rattle.std.proofs.Common.{◌≡◌, ℕ, ◌+◌, ◌-◌, ◌%◌, ◌<◌, ◌≤◌, Bool, true, false, cond, List, [], ◌∷◌, ◌++◌, length, take, drop, Option, Some, None, Result, Ok, Err, refl, sym, ap, ◌∙◌, subst, arith, slice_index, not, ◌==◌, nat_lt}
 use Rattle.std.specs.List.{AllByRecursion}
-use Rattle.std.proofs.lemmas.Bool.Decides.{nat_tests}
-use Rattle.std.proofs.lemmas.List.Concat.{flat_map-cons}
+use Rattle.std.proofs.{lemmas.Bool.Decides.nat_tests, lemmas.List.Concat.flat_map-cons}
 use Rattle.hex.specs.Hex.{IsBytes}
-use Rattle.pi_base.specs.Field.{little_number}
-use Rattle.pi_base.specs.Guids.{guid_at}
+use Rattle.pi_base.specs.{Field.little_number, Guids.guid_at}
 use Rattle.line_words.specs.PrintedWords.{IsGuid}
-use Rattle.fv_volume.specs.declared.file.FfsFile.{FfsFile}
-use Rattle.fv_volume.specs.declared.volume.Volume.{Volume}
-use Rattle.fv_volume.specs.declared.fault.VolCause.{VolCause}
+use Rattle.fv_volume.specs.{declared.file.FfsFile.FfsFile, declared.volume.Volume.Volume, declared.fault.VolCause.VolCause}
 use Rattle.fv_volume.specs.declared.fault.VolCause.TheVariants.{FileSum, FileSize}
-use Rattle.fv_volume.specs.declared.fault.VolFault.{VolFault}
+use Rattle.fv_volume.specs.{declared.fault.VolFault.VolFault, VolumeHeader.volume_header, VolumeHeader.header_fault}
 use Rattle.fv_volume.specs.FileState.{file_state, is_dead, is_whole}
 use Rattle.fv_volume.specs.FileHeader.{is_large, fields_at, file_header, header_sum, size_is_wrong, data_is_wrong}
 use Rattle.fv_volume.specs.Item.{body_of, sound_item, item_of, item_or_cause, item_at, listed_of}
-use Rattle.fv_volume.specs.VolumeHeader.{volume_header, header_fault}
-use Rattle.fv_volume.specs.ExtendedHeader.{extended_header}
+use Rattle.fv_volume.specs.{ExtendedHeader.extended_header, Volume.IsVolume}
 use Rattle.fv_volume.specs.Frame.{aligned, frame_with, frame_or_fault, frame_of}
 use Rattle.fv_volume.specs.Search.{ends_at, Leads, files_of}
-use Rattle.fv_volume.specs.Volume.{IsVolume}
-use Rattle.fv_volume.proofs.Items.{has_room}
-use Rattle.fv_volume.proofs.Spelled.{ones}
-use Rattle.volume_again.proofs.ByteRuns.{taken_bytes, guid_there}
-use Rattle.volume_again.proofs.StandAgain.{IsListedFile}
+use Rattle.fv_volume.proofs.{Items.has_room, Spelled.ones}
+use Rattle.volume_again.proofs.{ByteRuns.taken_bytes, ByteRuns.guid_there, StandAgain.IsListedFile}
 
 -- the types of values that have no public name
 abbrev pub TypeOf : {A : Type 0} → A → Type 0

@@ -1,42 +1,29 @@
 -- A volume's text says it again, and what is made of the text is read as the same volume.
-use Rattle.std.proofs.Common.{◌≡◌, ℕ, ◌+◌, ◌-◌, ◌%◌, ◌≤◌, true, List, [], ◌∷◌, ◌++◌, length, map, Option, Some, None, Result, Ok, Err, replicate, sym, ap, ◌∙◌, subst, append_assoc, length-append, arith, All}
-use Rattle.std.specs.Prelude.{nat_le, ◌&&◌}
+use Rattle.std.proofs.Common.{◌≡◌, ℕ, ◌+◌, ◌-◌, ◌%◌, ◌≤◌, true, List, [], ◌∷◌, ◌++◌, length, map, Option, Some, None, Result, Ok, Err, replicate, sym, ap, ◌∙◌, subst, append_assoc, length-append, arith, All, nat_le, ◌&&◌}
 use Rattle.std.specs.List.{AllByRecursion}
-use Rattle.std.proofs.lemmas.Bool.Decides.{nat_tests}
-use Rattle.std.proofs.lemmas.List.Elements.{All-nil, All-cons}
+use Rattle.std.proofs.{lemmas.Bool.Decides.nat_tests, lemmas.List.Elements.All-nil, lemmas.List.Elements.All-cons}
 use Rattle.hex.specs.Hex.{IsBytes}
 use Rattle.pi_base.specs.declared.guid.Guid.{Guid}
-use Rattle.fv_volume.specs.declared.file.FfsFile.{FfsFile}
+use Rattle.fv_volume.specs.{declared.file.FfsFile.FfsFile, declared.build.file_system.FileSystem.FileSystem}
 use Rattle.fv_volume.proofs.Standing.{volume_inside}
-use Rattle.fv_volume.specs.declared.build.file_system.FileSystem.{FileSystem}
-use Rattle.fv_volume.specs.declared.build.new_file.NewFile.{NewFile}
-use Rattle.fv_volume.specs.declared.build.volume_header.VolumeForm.{VolumeForm}
-use Rattle.fv_volume.specs.Files.{HasWholeName}
+use Rattle.fv_volume.specs.{declared.build.new_file.NewFile.NewFile, declared.build.volume_header.VolumeForm.VolumeForm, Files.HasWholeName}
 use Rattle.fv_volume.specs.Reading.{AreEach, IsFileRead, listed, IsWhole, guid_of, IsReadAs}
-use Rattle.fv_volume.specs.declared.build.volume_name.VolumeName.{VolumeName}
-use Rattle.fv_volume.specs.Header.{head_of, volume_header}
+use Rattle.fv_volume.specs.{declared.build.volume_name.VolumeName.VolumeName, Header.head_of, Header.volume_header}
 use Rattle.fv_volume.specs.Front.{ext_at, name_part, front_len, first_place, is_placed}
 use Rattle.fv_volume.specs.Building.{need, filled_from, volume_bytes}
 use Rattle.fv_volume.proofs.VolumesRead.{length-header, length-front, sound, fits_header}
-use Rattle.volume_text.specs.declared.fault.Cause.{Cause}
-use Rattle.volume_text.specs.declared.fault.Fault.{Fault}
-use Rattle.volume_text.specs.declared.fault.TextFault.TheVariants.{Bad}
-use Rattle.volume_text.specs.declared.volume.OpenVolume.{OpenVolume}
-use Rattle.volume_text.specs.Open.{built_of}
+use Rattle.volume_text.specs.{declared.fault.Cause.Cause, declared.fault.Fault.Fault, declared.fault.TextFault.TheVariants.Bad}
+use Rattle.volume_text.specs.{declared.volume.OpenVolume.OpenVolume, Open.built_of, Words.is_length}
 use Rattle.volume_again.proofs.BuiltTexts.{Made, made, made_again as read_again, ranges}
-use Rattle.volume_text.specs.Words.{is_length}
 use Rattle.volume_text.specs.Text.{Says, Leads, IsRefused}
 use Rattle.volume_print.specs.Description.{IsFileIn, form_in, name_in, IsInner, IsTextOf}
 use Rattle.volume_print.specs.Places.{rooms, pads_before, places}
 use Rattle.volume_again.specs.Again.{IsNameOfBytes, IsFileAgain, among}
 use Rattle.volume_again.specs.Made.{StandIn, IsMadeAgain, SaysItself, CannotBeBuilt}
-use Rattle.volume_again.proofs.FilesAgain.{volume_told, inner_laws}
+use Rattle.volume_again.proofs.{FilesAgain.volume_told, FilesAgain.inner_laws, GoodHeaders.head_good, ListedFiles.volume_good}
 use Rattle.volume_again.proofs.FormAgain.{is_told, form_again, name_again}
-use Rattle.volume_again.proofs.GoodHeaders.{head_good}
-use Rattle.volume_again.proofs.ListedFiles.{volume_good}
 use Rattle.volume_again.proofs.PadsStand.{laid_stand, stand_up, pads_stand}
-use Rattle.volume_again.proofs.WholeNames.{files_whole}
-use Rattle.volume_again.proofs.OfBytes.{files_of_bytes, attributes_fit}
+use Rattle.volume_again.proofs.{WholeNames.files_whole, OfBytes.files_of_bytes, OfBytes.attributes_fit}
 use Rattle.volume_again.proofs.PadPieces.{IsGoodPad, pad_whole}
 use Rattle.volume_again.proofs.StandAgain.{IsListedFile, stand_again, none_left_out, kept, rooms_at, pads_fit, length-all}
 

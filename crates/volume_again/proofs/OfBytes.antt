@@ -1,28 +1,20 @@
 -- The files that are told of bytes are of bytes.
-use Rattle.std.proofs.Common.{◌≡◌, ℕ, ◌+◌, ◌<◌, ◌^◌, Bool, true, false, cond, List, [], ◌∷◌, length, map, take, drop, Option, Some, None, Ok, Err, refl, sym, ap, ◌∙◌, subst, arith, slice_index, All}
-use Rattle.std.specs.Prelude.{◌==◌, nat_lt, bit_and, bit_xor}
+use Rattle.std.proofs.Common.{◌≡◌, ℕ, ◌+◌, ◌<◌, ◌^◌, Bool, true, false, cond, List, [], ◌∷◌, length, map, take, drop, Option, Some, None, Ok, Err, refl, sym, ap, ◌∙◌, subst, arith, slice_index, All, ◌==◌, nat_lt, bit_and, bit_xor}
 use Rattle.std.specs.List.{AllByRecursion}
-use Rattle.std.proofs.lemmas.List.Elements.{All-nil, All-cons}
-use Rattle.std.proofs.lemmas.Nat.{xor_lt}
+use Rattle.std.proofs.{lemmas.List.Elements.All-nil, lemmas.List.Elements.All-cons, lemmas.Nat.xor_lt}
 use Rattle.hex.specs.Hex.{IsBytes}
 use Rattle.pi_base.specs.Field.{little_number}
 use Rattle.pi_base.proofs.FieldLaws.{little_number-lt}
 use Rattle.line_words.specs.PrintedWords.{IsGuid}
-use Rattle.fv_volume.specs.declared.sections.section.Section.{Section}
+use Rattle.fv_volume.specs.{declared.sections.section.Section.Section, SectionHeader.header_at, SectionHeader.section_of}
 use Rattle.fv_volume.specs.declared.sections.fault.SecCause.TheVariants.{Size, Compressed, GuidDefined}
-use Rattle.fv_volume.specs.SectionHeader.{header_at, section_of}
-use Rattle.fv_volume.specs.Stream.{place_after, Leads}
-use Rattle.fv_volume.specs.declared.file.FfsFile.{FfsFile}
-use Rattle.fv_volume.specs.declared.build.file_system.FileSystem.{FileSystem}
-use Rattle.fv_volume.specs.declared.build.new_file.Body.{Body}
+use Rattle.fv_volume.specs.{Stream.place_after, Stream.Leads, declared.file.FfsFile.FfsFile}
+use Rattle.fv_volume.specs.{declared.build.file_system.FileSystem.FileSystem, declared.build.new_file.Body.Body}
 use Rattle.fv_volume.specs.declared.build.new_file.Body.TheVariants.{Sections, Bytes}
-use Rattle.fv_volume.specs.declared.build.new_file.NewFile.{NewFile}
-use Rattle.fv_volume.specs.declared.build.volume_header.VolumeForm.{VolumeForm}
-use Rattle.fv_volume.specs.Reading.{AreEach}
+use Rattle.fv_volume.specs.{declared.build.new_file.NewFile.NewFile, declared.build.volume_header.VolumeForm.VolumeForm, Reading.AreEach}
 use Rattle.volume_print.specs.Description.{section_in, IsBodyIn, IsFileIn, form_in}
 use Rattle.volume_again.specs.Again.{IsOfBytes, IsBodyOfBytes, IsFileOfBytes}
-use Rattle.volume_again.proofs.ByteRuns.{taken_bytes, left_bytes}
-use Rattle.volume_again.proofs.StandAgain.{IsListedFile}
+use Rattle.volume_again.proofs.{ByteRuns.taken_bytes, ByteRuns.left_bytes, StandAgain.IsListedFile}
 
 -- the type of a header, which has no public name
 abbrev TypeSome : {A : Type 0} → Option A → Type 0

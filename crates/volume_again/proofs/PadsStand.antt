@@ -1,23 +1,14 @@
 -- The pads of a volume that is made of a text stand where the bytes stood of which they are made.
-use Rattle.std.proofs.Common.{◌≡◌, ℕ, ◌+◌, ◌-◌, ◌/◌, ◌%◌, ◌≤◌, Bool, true, false, cond, List, [], ◌∷◌, ◌++◌, length, map, take, drop, replicate, sym, ap, ◌∙◌, subst, refl, append_assoc, length-append, arith}
-use Rattle.std.proofs.Math.Seq.{take-append_seam, drop-append_seam}
-use Rattle.std.specs.Prelude.{nat_lt}
+use Rattle.std.proofs.Common.{◌≡◌, ℕ, ◌+◌, ◌-◌, ◌/◌, ◌%◌, ◌≤◌, Bool, true, false, cond, List, [], ◌∷◌, ◌++◌, length, map, take, drop, replicate, sym, ap, ◌∙◌, subst, refl, append_assoc, length-append, arith, nat_lt}
+use Rattle.std.proofs.{Math.Seq.take-append_seam, Math.Seq.drop-append_seam, lemmas.Bool.Decides.nat_tests, lemmas.List.length-replicate}
 use Rattle.std.specs.List.{AllByRecursion}
-use Rattle.std.proofs.lemmas.Bool.Decides.{nat_tests}
-use Rattle.std.proofs.lemmas.List.{length-replicate}
 use Rattle.hex.specs.Hex.{IsBytes}
-use Rattle.fv_volume.specs.declared.file.FfsFile.{FfsFile}
-use Rattle.fv_volume.specs.Frame.{aligned}
-use Rattle.fv_volume.specs.Places.{AreInside}
-use Rattle.fv_volume.specs.declared.build.file_system.FileSystem.{FileSystem}
-use Rattle.fv_volume.specs.declared.build.new_file.NewFile.{NewFile}
-use Rattle.fv_volume.specs.Placing.{gap, laid}
-use Rattle.fv_volume.specs.Files.{file_bytes}
-use Rattle.fv_volume.specs.Reading.{AreEach}
+use Rattle.fv_volume.specs.{declared.file.FfsFile.FfsFile, Frame.aligned, Places.AreInside}
+use Rattle.fv_volume.specs.{declared.build.file_system.FileSystem.FileSystem, declared.build.new_file.NewFile.NewFile}
+use Rattle.fv_volume.specs.{Placing.gap, Placing.laid, Files.file_bytes, Reading.AreEach}
 use Rattle.volume_print.specs.Description.{IsFileIn}
 use Rattle.volume_print.specs.Places.{room_of, rooms, between, pad_of, pieces, pads_in, stands, behind, pads_before}
-use Rattle.volume_again.specs.Again.{IsFileAgain, among}
-use Rattle.volume_again.specs.Made.{StandIn, PadsStand}
+use Rattle.volume_again.specs.{Again.IsFileAgain, Again.among, Made.StandIn, Made.PadsStand}
 use Rattle.volume_again.proofs.PadPieces.{IsGoodPiece, cut_good, between_long, between_bytes, taken, taken_all, pad_long}
 use Rattle.volume_again.proofs.StandAgain.{IsListedFile, stands_even, behind_even, again_listed, again_long, stands_inside, rest_inside}
 

@@ -1,49 +1,33 @@
 -- What the lines of a printed text say.
-use Rattle.std.proofs.Common.{◌≡◌, ℕ, zero, suc, ◌^◌, ◌<◌, ◌≤◌, ◌%◌, Bool, true, false, not, List, [], ◌∷◌, ◌++◌, length, map, flat_map, Some, Result, Ok, refl, sym, ap, ◌∙◌, arith, decimal, subst, append_assoc}
-use Rattle.std.specs.Prelude.{nat_le, nat_lt, codes, bytes_eq, ◌==◌, ◌&&◌, if◌then◌else◌}
+use Rattle.std.proofs.Common.{◌≡◌, ℕ, zero, suc, ◌^◌, ◌<◌, ◌≤◌, ◌%◌, Bool, true, false, not, List, [], ◌∷◌, ◌++◌, length, map, flat_map, Some, Result, Ok, refl, sym, ap, ◌∙◌, arith, decimal, subst, append_assoc, nat_le, nat_lt, codes, bytes_eq, ◌==◌, ◌&&◌, if◌then◌else◌, eqb-true, append-nil}
 use Rattle.std.specs.List.{AllByRecursion}
-use Rattle.std.proofs.lemmas.Bool.{and_parts, eqb-true, false≢true}
-use Rattle.std.proofs.lemmas.Bool.Decides.{nat_tests}
-use Rattle.std.proofs.lemmas.List.{append-nil}
+use Rattle.std.proofs.{lemmas.Bool.and_parts, lemmas.Bool.false≢true, lemmas.Bool.Decides.nat_tests}
 use Rattle.hex.specs.Hex.{IsBytes, encode_with, encode_lower, decode_of}
 use Rattle.hex.proofs.HexLemmas.{decode_of-encode_lower}
-use Rattle.pi_base.specs.declared.guid.Guid.{Guid}
-use Rattle.pi_base.specs.declared.phase.Phase.{Phase}
+use Rattle.pi_base.specs.{declared.guid.Guid.Guid, declared.phase.Phase.Phase}
 use Rattle.pi_base.specs.declared.phase.Phase.TheVariants.{Pei, Dxe}
 use Rattle.pi_base.specs.WordText.{guid_text, hexadecimal}
 use Rattle.line_words.specs.PrintedWords.{IsGuid}
 use Rattle.depex_code.specs.declared.depex.Depex.{Depex}
 use Rattle.depex_code.specs.Expression.{IsOfPhase, instructions, bytes_of}
-use Rattle.act_code.specs.declared.action.Action.{Action}
-use Rattle.act_code.specs.declared.code.Code.{Code}
+use Rattle.act_code.specs.{declared.action.Action.Action, declared.code.Code.Code, Table.name_of, Table.code_of_action}
 use Rattle.act_code.specs.declared.code.Code.TheVariants as code
-use Rattle.act_code.specs.Table.{name_of, code_of_action}
-use Rattle.asm_text.specs.ActionText.{spaced, action_text}
-use Rattle.asm_text.specs.ExpressionText.{expression_text}
-use Rattle.asm_text.specs.ReadTree.{IsExpression}
+use Rattle.asm_text.specs.{ActionText.spaced, ActionText.action_text, ExpressionText.expression_text, ReadTree.IsExpression}
 use Rattle.source_words.proofs.PrintedActions.{IsGoodAction, action_shown}
-use Rattle.fv_volume.specs.declared.build.attributes.Alignment.{Alignment}
-use Rattle.fv_volume.specs.declared.build.attributes.Alignment.TheVariants.{Byte}
-use Rattle.fv_volume.specs.declared.build.attributes.FileAttributes.{FileAttributes}
-use Rattle.fv_volume.specs.declared.build.file_system.FileSystem.{FileSystem}
+use Rattle.fv_volume.specs.{declared.build.attributes.Alignment.Alignment, declared.build.attributes.Alignment.TheVariants.Byte}
+use Rattle.fv_volume.specs.{declared.build.attributes.FileAttributes.FileAttributes, declared.build.file_system.FileSystem.FileSystem}
 use Rattle.fv_volume.specs.declared.build.file_system.FileSystem.TheVariants.{Ffs2, Ffs3}
-use Rattle.fv_volume.specs.declared.build.volume_header.VolumeForm.{VolumeForm}
-use Rattle.fv_volume.specs.declared.build.volume_name.VolumeName.{VolumeName}
-use Rattle.fv_volume.specs.Header.{is_header_length}
-use Rattle.fv_volume.specs.Front.{is_placed}
-use Rattle.fv_volume.specs.Attributes.{alignment_len}
+use Rattle.fv_volume.specs.{declared.build.volume_header.VolumeForm.VolumeForm, declared.build.volume_name.VolumeName.VolumeName}
+use Rattle.fv_volume.specs.{Header.is_header_length, Front.is_placed, Attributes.alignment_len}
 use Rattle.source_words.specs.Words.{words}
-use Rattle.volume_text.specs.declared.fault.Cause.{Cause}
+use Rattle.volume_text.specs.{declared.fault.Cause.Cause, Reading.◌>>=◌, Reading.only_if, declared.statement.Statement.Statement}
 use Rattle.volume_text.specs.declared.fault.Cause.TheVariants as cause
-use Rattle.volume_text.specs.Reading.{◌>>=◌, only_if}
-use Rattle.volume_text.specs.declared.statement.Statement.{Statement}
 use Rattle.volume_text.specs.declared.statement.Statement.TheVariants as said
 use Rattle.volume_text.specs.Keywords.{keyword_of, phase_of, system_of}
 use Rattle.volume_text.specs.Words.{is_length, length_at, number_at, told_at, is_header, header_at, place_at, is_size, size_at, is_pad_length, pad_length_at, system_at, attributes_at, last_number, guid_at, file_type_at, section_type_at, phase_at, fixed_at, last_alignment, alignment_at, chosen_at}
 use Rattle.volume_text.specs.Bytes.{hex_answer, bytes_of as bytes_of_words, guids_of}
 use Rattle.volume_text.specs.Line.{volume_at, name_at, pad_at, file_at, script_at, guids_at, section_at, body_at, ReadsBy, ReadsDepex}
-use Rattle.volume_text.specs.Volume.{SaysLine}
-use Rattle.volume_text.specs.Text.{is_passed_over}
+use Rattle.volume_text.specs.{Volume.SaysLine, Text.is_passed_over}
 use Rattle.volume_print.specs.Spelling.{phase_word, system_word, type_word, fixed_words, alignment_words, attribute_words, number_words, guid_word as told_guid}
 use Rattle.fv_volume.specs.declared.sections.section_type.TheConstants.{RAW}
 use Rattle.source_words.proofs.LineWords.{IsWord, IsClear, clear_of, both_clear, spaced_clear, word_then, words_spaced, stands_spaced}

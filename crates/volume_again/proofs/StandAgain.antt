@@ -1,18 +1,12 @@
 -- Behind their pads files stand where they stood.
-use Rattle.std.proofs.Common.{◌≡◌, inl, inr, ℕ, ◌+◌, ◌-◌, ◌/◌, ◌%◌, ◌≤◌, ◌<◌, Bool, true, false, cond, List, [], ◌∷◌, ◌++◌, length, map, refl, sym, ap, ◌∙◌, arith}
-use Rattle.std.specs.Prelude.{nat_lt, not, ◌==◌, ◌⊎◌}
+use Rattle.std.proofs.Common.{◌≡◌, inl, inr, ℕ, ◌+◌, ◌-◌, ◌/◌, ◌%◌, ◌≤◌, ◌<◌, Bool, true, false, cond, List, [], ◌∷◌, ◌++◌, length, map, refl, sym, ap, ◌∙◌, arith, nat_lt, not, ◌==◌, ◌⊎◌}
 use Rattle.std.specs.List.{AllByRecursion}
-use Rattle.std.proofs.lemmas.Bool.Decides.{nat_tests}
-use Rattle.std.proofs.lemmas.List.Elements.{All-head, All-tail}
+use Rattle.std.proofs.{lemmas.Bool.Decides.nat_tests, lemmas.List.Elements.All-head, lemmas.List.Elements.All-tail}
 use Rattle.hex.specs.Hex.{IsBytes}
 use Rattle.pi_base.specs.declared.guid.Guid.{Guid}
 use Rattle.line_words.specs.PrintedWords.{IsGuid}
-use Rattle.fv_volume.specs.declared.file.FfsFile.{FfsFile}
-use Rattle.fv_volume.specs.Frame.{aligned}
-use Rattle.fv_volume.specs.Places.{AreInside}
-use Rattle.fv_volume.specs.declared.build.file_system.FileSystem.{FileSystem}
-use Rattle.fv_volume.specs.declared.build.new_file.NewFile.{NewFile}
-use Rattle.fv_volume.specs.Placing.{gap}
+use Rattle.fv_volume.specs.{declared.file.FfsFile.FfsFile, Frame.aligned, Places.AreInside}
+use Rattle.fv_volume.specs.{declared.build.file_system.FileSystem.FileSystem, declared.build.new_file.NewFile.NewFile, Placing.gap}
 use Rattle.fv_volume.specs.Files.{bytes_in, file_size, file_bytes, HasWholeName}
 use Rattle.fv_volume.specs.Reading.{AreEach, listed, listed_at}
 use Rattle.fv_volume.proofs.Sizes.{length-file_with}

@@ -1,12 +1,8 @@
 -- The lines of a text that is put together of lines.
-use Rattle.std.proofs.Common.{◌≡◌, ℕ, ◌+◌, ◌-◌, Bool, true, false, List, [], ◌∷◌, ◌++◌, length, map, refl, sym, ap, ◌∙◌, arith, append_assoc, slice_index}
-use Rattle.std.specs.Prelude.{nat_lt, not, filter, ◌==◌}
+use Rattle.std.proofs.Common.{◌≡◌, ℕ, ◌+◌, ◌-◌, Bool, true, false, List, [], ◌∷◌, ◌++◌, length, map, refl, sym, ap, ◌∙◌, arith, append_assoc, slice_index, nat_lt, not, filter, ◌==◌, append-nil}
 use Rattle.std.specs.List.{list_all, slice_split}
 use Rattle.std.specs.Str.Lines.{lines_of_parts, strip_carriage_return, lines}
-use Rattle.std.proofs.lemmas.Bool.{and_parts}
-use Rattle.std.proofs.lemmas.Bool.Decides.{nat_tests}
-use Rattle.std.proofs.lemmas.List.{append-nil}
-use Rattle.std.proofs.lemmas.List.Sums.{AllPass-from_list_all}
+use Rattle.std.proofs.{lemmas.Bool.and_parts, lemmas.Bool.Decides.nat_tests, lemmas.List.Sums.AllPass-from_list_all}
 use Rattle.line_words.proofs.LineLemmas.{is_byte, some_part}
 use Rattle.asm_text.specs.ScriptText.{line}
 use Rattle.volume_text.specs.Text.{is_passed_over, counted, numbered}

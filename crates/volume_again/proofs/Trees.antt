@@ -3,15 +3,12 @@ use Rattle.std.proofs.Common.{true, false, List, [], ◌∷◌, ◌++◌, map, s
 use Rattle.std.specs.List.{AllByRecursion}
 use Rattle.std.proofs.lemmas.List.{map-append}
 use Rattle.hex.specs.Hex.{IsBytes}
-use Rattle.depex_code.specs.declared.opcode.Opcode.{Opcode}
+use Rattle.depex_code.specs.{declared.opcode.Opcode.Opcode, declared.instruction.Instruction.Instruction, declared.depex.Depex.Depex}
 use Rattle.depex_code.specs.declared.opcode.Opcode.TheVariants as opcode
-use Rattle.depex_code.specs.declared.instruction.Instruction.{Instruction}
 use Rattle.depex_code.specs.declared.instruction.Instruction.TheVariants as instruction
-use Rattle.depex_code.specs.declared.depex.Depex.{Depex}
 use Rattle.depex_code.specs.declared.depex.Depex.TheVariants as depex
 use Rattle.depex_code.specs.Tree.{DepexTree, True, False, Push, Not, And, Or, postfix}
-use Rattle.depex_code.specs.Instruction.{instruction_bytes, IsWhole}
-use Rattle.depex_code.specs.Expression.{instructions, bytes_of}
+use Rattle.depex_code.specs.{Instruction.instruction_bytes, Instruction.IsWhole, Expression.instructions, Expression.bytes_of}
 use Rattle.asm_text.specs.ReadTree.{IsTree, IsExpression}
 use Rattle.volume_again.proofs.ByteRuns.{bytes_tail, each_bytes}
 

@@ -1,19 +1,15 @@
 -- The words for types are read as them.
-use Rattle.std.proofs.Common.{◌≡◌, ℕ, zero, suc, ◌+◌, ◌*◌, ◌^◌, ◌<◌, ◌/◌, ◌%◌, ◌&&◌, Bool, true, false, List, [], ◌∷◌, length, Some, refl, sym, ap, ◌∙◌, arith, slice_index}
-use Rattle.std.specs.Prelude.{nat_lt, bytes_eq, codes, ◌==◌, if◌then◌else◌, option_and_then}
+use Rattle.std.proofs.Common.{◌≡◌, ℕ, zero, suc, ◌+◌, ◌*◌, ◌^◌, ◌<◌, ◌/◌, ◌%◌, ◌&&◌, Bool, true, false, List, [], ◌∷◌, length, Some, refl, sym, ap, ◌∙◌, arith, slice_index, nat_lt, bytes_eq, codes, ◌==◌, if◌then◌else◌, option_and_then, eqb-true, inl, inr}
 use Rattle.std.specs.Char.{digit_value, is_digit}
-use Rattle.std.proofs.lemmas.Bool.{and_parts, cases_lt, eqb-true}
-use Rattle.std.proofs.lemmas.Bool.Decides.{nat_tests}
+use Rattle.std.proofs.{lemmas.Bool.and_parts, lemmas.Bool.cases_lt, lemmas.Bool.Decides.nat_tests}
 use Rattle.hex.specs.Hex.{encode_with, encode_lower, lower_digits}
 use Rattle.hex.proofs.HexLemmas.{length-encode_with}
 use Rattle.line_words.proofs.Comparisons.{same}
 use Rattle.line_words.specs.Number.{value_in, number_of}
-use Rattle.fv_volume.specs.declared.build.attributes.Alignment.{Alignment}
-use Rattle.fv_volume.specs.declared.build.attributes.Alignment.TheVariants.{Byte}
+use Rattle.fv_volume.specs.{declared.build.attributes.Alignment.Alignment, declared.build.attributes.Alignment.TheVariants.Byte}
 use Rattle.fv_volume.specs.Attributes.{alignment_len, alignment_of}
 use Rattle.volume_text.specs.Keywords.{below_256, byte_of, file_type_of}
 use Rattle.volume_print.specs.Spelling.{type_word}
-use Rattle.std.proofs.Common.{inl, inr}
 
 -- a digit by its value
 abbrev reads_back : ℕ → Bool

@@ -1,34 +1,26 @@
 -- The GUIDs that the lines of a text say have sixteen bytes each.
-use Rattle.std.proofs.Common.{◌≡◌, ℕ, ◌<◌, ◌^◌, arith, Bool, true, false, cond, List, [], ◌∷◌, ◌++◌, length, Option, Some, None, option_map, Result, Ok, Err, refl, sym, ap, ◌∙◌, subst, All}
+use Rattle.std.proofs.Common.{◌≡◌, ℕ, ◌<◌, ◌^◌, arith, Bool, true, false, cond, List, [], ◌∷◌, ◌++◌, length, Option, Some, None, option_map, Result, Ok, Err, refl, sym, ap, ◌∙◌, subst, All, IfOk, bytes_eq, codes, nat_lt}
 use Rattle.std.proofs.lemmas.List.Elements.{All-nil, All-cons, All-head, All-tail, All-push}
-use Rattle.std.specs.Prelude.{⊤, IfOk, bytes_eq, codes, nat_lt}
+use Rattle.std.specs.Prelude.{⊤}
 use Rattle.std.proofs.lemmas.Bool.Decides.{nat_tests}
-use Rattle.uuid.specs.Text.{parsed_hyphenated}
-use Rattle.uuid.specs.Parts.{swap_fields}
-use Rattle.pi_base.specs.declared.guid.Guid.{Guid}
-use Rattle.pi_base.specs.declared.phase.Phase.{Phase}
+use Rattle.uuid.specs.{Text.parsed_hyphenated, Parts.swap_fields}
+use Rattle.pi_base.specs.{declared.guid.Guid.Guid, declared.phase.Phase.Phase}
 use Rattle.pi_base.specs.declared.known_guid.TheConstants.{VOLUME_INFO_PPI, MEMORY_PPI, DXE_IPL_PPI}
 use Rattle.fv_volume.specs.declared.volume_header.TheConstants.{FFS2, FFS3}
 use Rattle.fv_volume.specs.declared.build.new_file.Body.{Body}
 use Rattle.fv_volume.specs.declared.build.new_file.Body.TheVariants.{Sections, Bytes}
-use Rattle.fv_volume.specs.declared.build.new_file.NewFile.{NewFile}
-use Rattle.fv_volume.specs.declared.build.new_file.NewSection.{NewSection}
-use Rattle.fv_volume.specs.Files.{HasWholeName}
-use Rattle.source_words.specs.GuidWord.{unbraced, guid_of}
-use Rattle.source_words.specs.Words.{words}
-use Rattle.volume_text.specs.declared.fault.Cause.{Cause}
+use Rattle.fv_volume.specs.{declared.build.new_file.NewFile.NewFile, declared.build.new_file.NewSection.NewSection, Files.HasWholeName}
+use Rattle.source_words.specs.{GuidWord.unbraced, GuidWord.guid_of, Words.words}
+use Rattle.volume_text.specs.{declared.fault.Cause.Cause, declared.statement.Statement.Statement, Keywords.keyword_of}
 use Rattle.volume_text.specs.declared.fault.Cause.TheVariants as cause
-use Rattle.volume_text.specs.declared.statement.Statement.{Statement}
 use Rattle.volume_text.specs.declared.statement.Statement.TheVariants as said
-use Rattle.volume_text.specs.Keywords.{keyword_of}
 use Rattle.volume_text.specs.Reading.{◌>>=◌, only_if, there}
 use Rattle.volume_text.specs.Words.{none_left, guid_at, phase_at, length_at, pad_length_at, system_at, told_at, header_at, attributes_at, place_at, size_at, chosen_at, file_type_at, section_type_at}
 use Rattle.volume_text.specs.Bytes.{bytes_of, guids_of}
 use Rattle.volume_text.specs.Line.{volume_at, name_at, pad_at, file_at, script_at, guids_at, raw_at, section_at, body_at, alone, ReadsBy, ReadsFirst, ReadsExpression}
 use Rattle.volume_text.specs.Open.{with_body, held_in, is_empty}
 use Rattle.volume_text.specs.Volume.{SaysLine, SayFiles, no_file, named, padded, file, bodied, section, depex, script, volume}
-use Rattle.fv_volume.specs.Reading.{IsWhole}
-use Rattle.fv_volume.specs.declared.build.volume_name.VolumeName.{VolumeName}
+use Rattle.fv_volume.specs.{Reading.IsWhole, declared.build.volume_name.VolumeName.VolumeName}
 
 -- a GUID that a word names or spells
 same_guid : (a b : Guid) → ◌≡◌ {A = Option Guid} (Some a) (Some b) → a ≡ b

@@ -2,15 +2,12 @@
 use Rattle.std.specs.Prelude.{◌≡◌, ◌⊎◌, ℕ, ◌<◌, ◌^◌, ⊤, List, [], ◌∷◌, ◌++◌, length, Option, Some, None, Ok, All, true}
 use Rattle.hex.specs.Hex.{IsBytes}
 use Rattle.line_words.specs.PrintedWords.{IsGuid}
-use Rattle.fv_volume.specs.declared.build.new_file.NewFile.{NewFile}
-use Rattle.fv_volume.specs.declared.build.new_file.NewSection.{NewSection}
+use Rattle.fv_volume.specs.{declared.build.new_file.NewFile.NewFile, declared.build.new_file.NewSection.NewSection}
 use Rattle.fv_volume.specs.declared.build.new_file.Body.{Body}
 use Rattle.fv_volume.specs.declared.build.new_file.Body.TheVariants.{Sections, Bytes}
-use Rattle.fv_volume.specs.declared.build.volume_header.VolumeForm.{VolumeForm}
-use Rattle.fv_volume.specs.declared.build.volume_name.VolumeName.{VolumeName}
+use Rattle.fv_volume.specs.{declared.build.volume_header.VolumeForm.VolumeForm, declared.build.volume_name.VolumeName.VolumeName}
 use Rattle.fv_volume.specs.Reading.{AreEach}
-use Rattle.volume_text.specs.declared.volume.OpenVolume.{OpenVolume}
-use Rattle.volume_text.specs.Open.{built_of}
+use Rattle.volume_text.specs.{declared.volume.OpenVolume.OpenVolume, Open.built_of}
 use Rattle.volume_text.specs.Text.{Describes, Says, Leads}
 use Rattle.volume_print.specs.Spelling.{holds_volume, host_of}
 

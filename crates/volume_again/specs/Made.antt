@@ -1,16 +1,10 @@
 -- The volume that is made of another one's text, as a reader finds it.
 use Rattle.std.specs.Prelude.{◌≡◌, ℕ, ◌+◌, ◌-◌, ⊤, List, [], ◌∷◌, length, map, take, drop, Err}
-use Rattle.fv_volume.specs.declared.volume.Volume.{Volume}
-use Rattle.fv_volume.specs.Frame.{aligned}
-use Rattle.fv_volume.specs.Volume.{IsVolume}
-use Rattle.fv_volume.specs.declared.build.file_system.FileSystem.{FileSystem}
-use Rattle.fv_volume.specs.declared.build.new_file.NewFile.{NewFile}
-use Rattle.fv_volume.specs.Reading.{AreEach, IsFileRead}
-use Rattle.fv_volume.specs.Files.{file_bytes}
+use Rattle.fv_volume.specs.{declared.volume.Volume.Volume, Frame.aligned, Volume.IsVolume, declared.build.file_system.FileSystem.FileSystem}
+use Rattle.fv_volume.specs.{declared.build.new_file.NewFile.NewFile, Reading.AreEach, Reading.IsFileRead, Files.file_bytes}
 use Rattle.fv_volume.specs.Front.{first_place}
 use Rattle.mod_catalog.specs.declared.limits.TheConstants.{MOST_DEPTH}
-use Rattle.volume_text.specs.declared.fault.Cause.{Cause}
-use Rattle.volume_text.specs.Open.{built_of}
+use Rattle.volume_text.specs.{declared.fault.Cause.Cause, Open.built_of}
 use Rattle.volume_print.specs.Description.{form_in, name_in, pads_of, IsInner, IsTextOf}
 use Rattle.volume_print.specs.Places.{Room, rooms, between, pads_in, behind, places, LeaveRoom}
 use Rattle.volume_again.specs.Again.{IsFileAgain, SaysAgain}

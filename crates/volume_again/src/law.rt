@@ -1,19 +1,12 @@
 // The laws of reading built volumes, and of reading a text back.
 ghost use Rattle.std.specs.Prelude.{◌≡◌, ◌≤◌, ◌<◌, ◌^◌, ℕ, List, Option, None, Ok, All, true};
 ghost use Rattle.pi_base.specs.Field.{AreBytes};
-ghost use Rattle.fv_volume.specs.declared.build.new_file.NewFile.{NewFile};
-ghost use Rattle.fv_volume.specs.declared.build.volume.TheConstants.{MOST_LEN};
-ghost use Rattle.fv_volume.specs.declared.build.volume_header.VolumeForm.{VolumeForm};
-ghost use Rattle.fv_volume.specs.declared.build.volume_name.VolumeName.{VolumeName};
-ghost use Rattle.fv_volume.specs.Files.{HasWholeName};
-ghost use Rattle.fv_volume.specs.Header.{is_header_length};
-ghost use Rattle.fv_volume.specs.Front.{is_placed};
-ghost use Rattle.fv_volume.specs.Building.{volume_bytes, volume_fault};
-ghost use Rattle.fv_volume.specs.Reading.{IsWhole, IsReadAs};
-ghost use Rattle.volume_text.specs.declared.fault.Fault.{Fault};
-ghost use Rattle.volume_text.specs.declared.fault.TextFault.TheVariants.{Bad};
-ghost use Rattle.volume_text.specs.declared.volume.OpenVolume.{OpenVolume};
-ghost use Rattle.volume_text.specs.Open.{built_of};
+ghost use Rattle.fv_volume.specs.{declared.build.new_file.NewFile.NewFile, declared.build.volume.TheConstants.MOST_LEN};
+ghost use Rattle.fv_volume.specs.{declared.build.volume_header.VolumeForm.VolumeForm, declared.build.volume_name.VolumeName.VolumeName};
+ghost use Rattle.fv_volume.specs.{Files.HasWholeName, Header.is_header_length, Front.is_placed};
+ghost use Rattle.fv_volume.specs.{Building.volume_bytes, Building.volume_fault, Reading.IsWhole, Reading.IsReadAs};
+ghost use Rattle.volume_text.specs.{declared.fault.Fault.Fault, declared.fault.TextFault.TheVariants.Bad};
+ghost use Rattle.volume_text.specs.{declared.volume.OpenVolume.OpenVolume, Open.built_of};
 ghost use Rattle.volume_text.specs.Text.{Says, Leads, IsRefused};
 ghost use Rattle.volume_print.specs.Description.{IsTextOf};
 ghost use Rattle.volume_again.specs.Made.{CannotBeBuilt, IsMadeAgain, SaysItself};

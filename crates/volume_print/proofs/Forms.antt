@@ -1,21 +1,16 @@
 -- In which form a section is told.
-use Rattle.std.proofs.Common.{◌≡◌, ℕ, zero, suc, Bool, true, false, List, Option, Some, None, refl, sym, ap, ◌∙◌, subst, arith}
-use Rattle.std.proofs.lemmas.Bool.Decides.{nat_tests}
-use Rattle.std.proofs.lemmas.Option.{same_Some}
-use Rattle.std.specs.Prelude.{◌==◌, bytes_eq, if◌then◌else◌}
+use Rattle.std.proofs.Common.{◌≡◌, ℕ, zero, suc, Bool, true, false, List, Option, Some, None, refl, sym, ap, ◌∙◌, subst, arith, ◌==◌, bytes_eq, if◌then◌else◌}
+use Rattle.std.proofs.{lemmas.Bool.Decides.nat_tests, lemmas.Option.same_Some}
 use Rattle.std.specs.List.{list_any}
-use Rattle.pi_base.specs.declared.phase.Phase.{Phase}
-use Rattle.pi_base.specs.declared.phase.Phase.TheVariants.{Pei, Dxe}
+use Rattle.pi_base.specs.{declared.phase.Phase.Phase, declared.phase.Phase.TheVariants.Pei, declared.phase.Phase.TheVariants.Dxe}
 use Rattle.fv_volume.specs.declared.build.new_file.NewSection.{NewSection}
 use Rattle.depex_code.specs.declared.depex.Depex.{Depex}
 use Rattle.depex_code.specs.Expression.{Reads, IsMalformed, instructions, bytes_of}
-use Rattle.act_code.specs.declared.script.Script.{Script}
-use Rattle.act_code.specs.Script.{IsScript}
+use Rattle.act_code.specs.{declared.script.Script.Script, Script.IsScript}
 use Rattle.volume_text.specs.Open.{depex_type, has_part, is_script_of}
 use Rattle.line_words.proofs.Comparisons.{not_same}
-use Rattle.volume_print.specs.declared.form.Host.{Host}
+use Rattle.volume_print.specs.{declared.form.Host.Host, Description.IsInner}
 use Rattle.volume_print.specs.Spelling.{IsExpressionOf, SaysExpression, is_guid_list}
-use Rattle.volume_print.specs.Description.{IsInner}
 use Rattle.volume_print.specs.Finding.{depex_phase, FindsExpression, FindsScript, FindsVolume, TellsExpression, TellsScript, TellsVolume}
 
 phase_back : (phase : Phase) → depex_phase (depex_type phase) ≡ Some phase

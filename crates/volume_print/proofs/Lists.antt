@@ -1,16 +1,9 @@
 -- Lists with one thing more.
-use Rattle.std.proofs.Common.{◌≡◌, ℕ, ◌+◌, ◌<◌, zero, suc, arith, Bool, true, false, List, [], ◌∷◌, ◌++◌, length, map, take, get_or, flat_map, refl, sym, ap, ◌∙◌, subst, append_assoc}
-use Rattle.std.proofs.lemmas.Grind.{flat_map-append}
-use Rattle.std.proofs.lemmas.List.{append-nil, map-append, take_more}
-use Rattle.std.proofs.lemmas.List.Folds.{list_any-append}
+use Rattle.std.proofs.Common.{◌≡◌, ℕ, ◌+◌, ◌<◌, zero, suc, arith, Bool, true, false, List, [], ◌∷◌, ◌++◌, length, map, take, get_or, flat_map, refl, sym, ap, ◌∙◌, subst, append_assoc, append-nil, ◌||◌, ◌*◌, codes}
+use Rattle.std.proofs.{lemmas.Grind.flat_map-append, lemmas.List.map-append, lemmas.List.take_more, lemmas.List.Folds.list_any-append}
 use Rattle.std.specs.List.{list_any}
-use Rattle.std.specs.Prelude.{◌||◌, ◌*◌, codes}
-use Rattle.pi_base.specs.declared.guid.Guid.{Guid}
-use Rattle.pi_base.specs.Guids.{guid_at}
-use Rattle.pi_base.specs.Lists.{numbers}
-use Rattle.pi_base.specs.WordText.{guid_text}
-use Rattle.fv_volume.specs.declared.build.new_file.NewSection.{NewSection}
-use Rattle.fv_volume.specs.Reading.{AreEach}
+use Rattle.pi_base.specs.{declared.guid.Guid.Guid, Guids.guid_at, Lists.numbers, WordText.guid_text}
+use Rattle.fv_volume.specs.{declared.build.new_file.NewSection.NewSection, Reading.AreEach}
 use Rattle.volume_print.specs.declared.form.Host.{Host}
 use Rattle.volume_print.specs.Spelling.{guid_word, IsSectionText, AreSectionTexts, whole}
 

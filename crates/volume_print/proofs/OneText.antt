@@ -1,36 +1,22 @@
 -- A volume has one text.
-use Rattle.std.proofs.Common.{◌≡◌, inl, inr, ℕ, zero, suc, ◌%◌, Bool, true, false, ◌&&◌, List, [], ◌∷◌, ◌++◌, length, map, take, drop, Option, Some, None, refl, sym, ap, ◌∙◌, subst, arith}
-use Rattle.std.proofs.lemmas.Bool.{and_parts}
-use Rattle.std.proofs.lemmas.Bool.Decides.{nat_tests}
-use Rattle.std.proofs.lemmas.Option.{same_Some}
-use Rattle.std.specs.Prelude.{◌-◌, ◌==◌, IfOk, Result, Ok, Err}
-use Rattle.pi_base.specs.declared.memory.OutOfMemory.{OutOfMemory}
-use Rattle.pi_base.specs.declared.guid.Guid.{Guid}
-use Rattle.pi_base.specs.declared.phase.Phase.{Phase}
-use Rattle.fv_volume.specs.declared.file.FfsFile.{FfsFile}
-use Rattle.fv_volume.specs.declared.volume.Volume.{Volume}
-use Rattle.fv_volume.specs.Volume.{IsVolume}
-use Rattle.fv_volume.specs.declared.sections.section.Section.{Section}
-use Rattle.fv_volume.specs.declared.sections.fault.SecFault.{SecFault}
-use Rattle.fv_volume.specs.Stream.{AreSections, IsFirstFault}
-use Rattle.fv_volume.specs.declared.build.attributes.FileAttributes.{FileAttributes}
-use Rattle.fv_volume.specs.declared.build.file_system.FileSystem.{FileSystem}
-use Rattle.fv_volume.specs.declared.build.new_file.NewFile.{NewFile}
-use Rattle.fv_volume.specs.declared.build.new_file.NewSection.{NewSection}
-use Rattle.fv_volume.specs.declared.build.new_file.Body.{Body}
+use Rattle.std.proofs.Common.{◌≡◌, inl, inr, ℕ, zero, suc, ◌%◌, Bool, true, false, ◌&&◌, List, [], ◌∷◌, ◌++◌, length, map, take, drop, Option, Some, None, refl, sym, ap, ◌∙◌, subst, arith, ◌-◌, ◌==◌, IfOk, Result, Ok, Err}
+use Rattle.std.proofs.{lemmas.Bool.and_parts, lemmas.Bool.Decides.nat_tests, lemmas.Option.same_Some}
+use Rattle.pi_base.specs.{declared.memory.OutOfMemory.OutOfMemory, declared.guid.Guid.Guid, declared.phase.Phase.Phase}
+use Rattle.fv_volume.specs.{declared.file.FfsFile.FfsFile, declared.volume.Volume.Volume, Volume.IsVolume}
+use Rattle.fv_volume.specs.{declared.sections.section.Section.Section, declared.sections.fault.SecFault.SecFault}
+use Rattle.fv_volume.specs.{Stream.AreSections, Stream.IsFirstFault, declared.build.attributes.FileAttributes.FileAttributes}
+use Rattle.fv_volume.specs.{declared.build.file_system.FileSystem.FileSystem, declared.build.new_file.NewFile.NewFile}
+use Rattle.fv_volume.specs.{declared.build.new_file.NewSection.NewSection, declared.build.new_file.Body.Body}
 use Rattle.fv_volume.specs.declared.build.new_file.Body.TheVariants.{Sections, Bytes}
 use Rattle.fv_volume.specs.Reading.{AreEach}
-use Rattle.depex_code.specs.declared.depex.Depex.{Depex}
-use Rattle.depex_code.specs.Expression.{Reads}
-use Rattle.act_code.specs.declared.script.Script.{Script}
-use Rattle.act_code.specs.Script.{IsScript}
+use Rattle.depex_code.specs.{declared.depex.Depex.Depex, Expression.Reads}
+use Rattle.act_code.specs.{declared.script.Script.Script, Script.IsScript}
 use Rattle.volume_text.specs.Text.{Leads}
 use Rattle.volume_print.specs.declared.form.Host.{Host}
 use Rattle.volume_print.specs.Spelling.{SaysExpression, is_a_priori, is_guid_list, holds_volume, expression_line, script_lines, IsSectionText, as_volume, as_expression, as_guids, as_script, as_bytes, AreSectionTexts, whole, with_pads, IsBodyText, head_line, host_of, IsFileText, volume_line, name_line}
 use Rattle.volume_print.specs.Description.{section_in, LieAsBuilt, IsNoStream, IsBodyIn, IsFileIn, form_in, name_in, IsSpelled, pads_of, IsTextBy, IsInner, IsTextOf}
 use Rattle.volume_print.specs.Finding.{depex_phase, FindsVolume, FindsText, TellsVolume}
-use Rattle.volume_print.proofs.Forms.{phase_of, no_phase}
-use Rattle.volume_print.proofs.Putting.{told_inside}
+use Rattle.volume_print.proofs.{Forms.phase_of, Forms.no_phase, Putting.told_inside}
 
 -- what holds of the parts
 pub record Laws : Type 0 where

@@ -1,33 +1,21 @@
 -- Texts that are put.
-use Rattle.std.proofs.Common.{◌≡◌, ℕ, zero, suc, ◌+◌, ◌<◌, ◌≤◌, Bool, true, false, decimal, List, [], ◌∷◌, ◌++◌, length, map, take, drop, get_or, flat_map, Some, None, refl, sym, ap, ◌∙◌, subst, append_assoc, arith}
-use Rattle.std.proofs.lemmas.Bool.{eqb-true}
-use Rattle.std.proofs.lemmas.Bool.Decides.{nat_tests}
-use Rattle.std.proofs.lemmas.List.{append-nil, take_more}
-use Rattle.std.specs.Prelude.{◌==◌, codes, slice_index}
-use Rattle.pi_base.specs.declared.phase.Phase.{Phase}
-use Rattle.pi_base.specs.declared.phase.Phase.TheVariants.{Pei, Dxe}
+use Rattle.std.proofs.Common.{◌≡◌, ℕ, zero, suc, ◌+◌, ◌<◌, ◌≤◌, Bool, true, false, decimal, List, [], ◌∷◌, ◌++◌, length, map, take, drop, get_or, flat_map, Some, None, refl, sym, ap, ◌∙◌, subst, append_assoc, arith, eqb-true, append-nil, ◌==◌, codes, slice_index}
+use Rattle.std.proofs.{lemmas.Bool.Decides.nat_tests, lemmas.List.take_more}
+use Rattle.pi_base.specs.{declared.phase.Phase.Phase, declared.phase.Phase.TheVariants.Pei, declared.phase.Phase.TheVariants.Dxe}
 use Rattle.pi_base.specs.WordText.{hexadecimal}
 use Rattle.act_code.specs.declared.script.Script.{Script}
 use Rattle.asm_text.specs.ScriptText.{line, phase_text, block_lines, script_text}
-use Rattle.fv_volume.specs.declared.file.FfsFile.{FfsFile}
-use Rattle.fv_volume.specs.declared.volume.Volume.{Volume}
-use Rattle.fv_volume.specs.declared.build.attributes.FileAttributes.{FileAttributes}
-use Rattle.fv_volume.specs.Attributes.{attributes_in}
-use Rattle.fv_volume.specs.declared.build.file_system.FileSystem.{FileSystem}
-use Rattle.fv_volume.specs.Files.{bytes_in, file_size}
-use Rattle.fv_volume.specs.Sections.{body_bytes}
-use Rattle.fv_volume.specs.Frame.{aligned}
-use Rattle.fv_volume.specs.Reading.{AreEach}
+use Rattle.fv_volume.specs.{declared.file.FfsFile.FfsFile, declared.volume.Volume.Volume}
+use Rattle.fv_volume.specs.{declared.build.attributes.FileAttributes.FileAttributes, Attributes.attributes_in}
+use Rattle.fv_volume.specs.{declared.build.file_system.FileSystem.FileSystem, Files.bytes_in, Files.file_size, Sections.body_bytes}
+use Rattle.fv_volume.specs.{Frame.aligned, Reading.AreEach, declared.sections.section.Section.Section}
 use Rattle.volume_print.proofs.Lists.{each_more, texts_more, whole_more, map_more}
 use Rattle.volume_print.proofs.Rooms.{each_long, rooms_more, length-rooms, length-pads, behind_more, pads_more, with_more, between_held, behind_held, next_held}
-use Rattle.fv_volume.specs.declared.sections.section.Section.{Section}
-use Rattle.fv_volume.specs.declared.build.new_file.NewFile.{NewFile}
-use Rattle.fv_volume.specs.declared.build.new_file.NewSection.{NewSection}
+use Rattle.fv_volume.specs.{declared.build.new_file.NewFile.NewFile, declared.build.new_file.NewSection.NewSection}
 use Rattle.fv_volume.specs.declared.build.new_file.Body.TheVariants.{Sections, Bytes}
-use Rattle.volume_print.specs.declared.form.Form.{Form}
+use Rattle.volume_print.specs.{declared.form.Form.Form, declared.form.Host.Host}
 use Rattle.volume_print.specs.declared.form.Form.TheVariants as form
 use Rattle.volume_text.specs.Text.{Leads}
-use Rattle.volume_print.specs.declared.form.Host.{Host}
 use Rattle.volume_print.specs.Spelling.{holds_volume, as_volume, as_expression, as_guids, as_script, as_bytes, body_line, head_line, name_line, volume_line, attribute_words, number_words, whole, pad_text, with_pads, IsSectionText, AreSectionTexts, IsFileText}
 use Rattle.volume_print.specs.Description.{section_in, form_in, name_in, pads_of, IsStream, IsBodyIn, IsFileIn, IsTextBy, IsInner}
 use Rattle.volume_print.specs.Finding.{form_text, FindsVolume, FindsText, TellsVolume, IsPlainForm, IsForm, AddsSection, AddsSections, AddsBody, AddsFile, AddsFiles, held}

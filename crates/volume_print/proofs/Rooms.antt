@@ -1,24 +1,13 @@
 -- Rooms of files with one more, and places that stand still at 2^64 - 1.
-use Rattle.std.proofs.Common.{◌≡◌, inl, inr, ℕ, ◌+◌, ◌-◌, ◌<◌, ◌≤◌, Bool, true, false, cond, List, [], ◌∷◌, ◌++◌, length, map, take, drop, get_or, flat_map, refl, sym, ap, ◌∙◌, append_assoc, arith}
+use Rattle.std.proofs.Common.{◌≡◌, inl, inr, ℕ, ◌+◌, ◌-◌, ◌<◌, ◌≤◌, Bool, true, false, cond, List, [], ◌∷◌, ◌++◌, length, map, take, drop, get_or, flat_map, refl, sym, ap, ◌∙◌, append_assoc, arith, append-nil, length-take-le, length-drop, nat_lt}
 use Rattle.std.proofs.lemmas.Bool.{cases_lt}
-use Rattle.std.proofs.lemmas.List.{append-nil, length-take-le, length-drop}
-use Rattle.std.specs.Prelude.{nat_lt}
-use Rattle.fv_volume.specs.declared.file.FfsFile.{FfsFile}
-use Rattle.fv_volume.specs.Frame.{aligned}
-use Rattle.fv_volume.specs.declared.build.file_system.FileSystem.{FileSystem}
-use Rattle.fv_volume.specs.declared.build.new_file.NewFile.{NewFile}
-use Rattle.fv_volume.specs.Files.{file_size}
-use Rattle.fv_volume.specs.Reading.{AreEach}
-use Rattle.fv_volume.specs.Placing.{gap}
-use Rattle.fv_volume.specs.Sections.{section_size, body_bytes}
+use Rattle.fv_volume.specs.{declared.file.FfsFile.FfsFile, Frame.aligned, declared.build.file_system.FileSystem.FileSystem}
+use Rattle.fv_volume.specs.{declared.build.new_file.NewFile.NewFile, Files.file_size, Reading.AreEach, Placing.gap}
+use Rattle.fv_volume.specs.{Sections.section_size, Sections.body_bytes, declared.sections.section.Section.Section, Stream.AreInside}
 use Rattle.fv_volume.proofs.Sizes.{saturated, size_of, length-body_more}
-use Rattle.fv_volume.specs.declared.sections.section.Section.{Section}
-use Rattle.fv_volume.specs.Stream.{AreInside}
-use Rattle.volume_print.specs.Description.{section_in}
+use Rattle.volume_print.specs.{Description.section_in, Finding.held, Spelling.pad_text, Spelling.with_pads}
 use Rattle.volume_print.proofs.Lists.{map_more}
-use Rattle.volume_print.specs.Finding.{held}
 use Rattle.volume_print.specs.Places.{Room, room_of, rooms, between, pads_in, stands, behind, behind_all, pads_before}
-use Rattle.volume_print.specs.Spelling.{pad_text, with_pads}
 
 -- as many
 pub each_long : {A B : Type 0} (Is : A → B → Type 0) (xs : List A) (ys : List B) → AreEach Is xs ys → length xs ≡ length ys

@@ -1,11 +1,8 @@
 -- By which sections a body is told.
-use Rattle.std.proofs.Common.{◌≡◌, inr, ℕ, ◌<◌, false, List, length, map, Some, None, arith}
-use Rattle.std.specs.Prelude.{◌==◌}
-use Rattle.fv_volume.specs.declared.build.file_system.FileSystem.{FileSystem}
-use Rattle.fv_volume.specs.Sections.{body_bytes}
+use Rattle.std.proofs.Common.{◌≡◌, inr, ℕ, ◌<◌, false, List, length, map, Some, None, arith, ◌==◌}
+use Rattle.fv_volume.specs.{declared.build.file_system.FileSystem.FileSystem, Sections.body_bytes}
 use Rattle.fv_volume.specs.declared.sections.section.Section.{Section}
-use Rattle.volume_print.specs.Description.{section_in, IsStream}
-use Rattle.volume_print.specs.Finding.{held, ReadsSections}
+use Rattle.volume_print.specs.{Description.section_in, Description.IsStream, Finding.held, Finding.ReadsSections}
 
 -- the sections take all of the body where they are built
 pub as_built : (file_system : FileSystem) (kind : ℕ) (stream : List ℕ) (read : List Section) (built : ℕ) → (kind == 1) ≡ false → ReadsSections stream (Some read)

@@ -1,12 +1,8 @@
 -- The pads that fill a stretch, one after the other.
-use Rattle.std.proofs.Common.{◌≡◌, ℕ, suc, ◌-◌, ◌/◌, ◌<◌, ◌≤◌, false, cond, List, [], ◌∷◌, ◌++◌, length, map, take, drop, flat_map, sym, ap, ◌∙◌, append_assoc, arith}
+use Rattle.std.proofs.Common.{◌≡◌, ℕ, suc, ◌-◌, ◌/◌, ◌<◌, ◌≤◌, false, cond, List, [], ◌∷◌, ◌++◌, length, map, take, drop, flat_map, sym, ap, ◌∙◌, append_assoc, arith, append-nil, length-drop, nat_lt, true, ◌&&◌}
 use Rattle.std.proofs.lemmas.Bool.Decides.{nat_tests}
-use Rattle.std.proofs.lemmas.List.{append-nil, length-drop}
-use Rattle.std.specs.Prelude.{nat_lt, true, ◌&&◌}
-use Rattle.pi_base.specs.declared.guid.Guid.{Guid}
-use Rattle.pi_base.specs.Guids.{guid_at}
-use Rattle.fv_volume.specs.declared.build.attributes.FileAttributes.{FileAttributes}
-use Rattle.fv_volume.specs.Attributes.{plain_attributes}
+use Rattle.pi_base.specs.{declared.guid.Guid.Guid, Guids.guid_at}
+use Rattle.fv_volume.specs.{declared.build.attributes.FileAttributes.FileAttributes, Attributes.plain_attributes}
 use Rattle.fv_volume.specs.declared.build.new_file.NewFile.{NewFile}
 use Rattle.volume_print.specs.Places.{pad_of, pieces, pads_in}
 use Rattle.volume_print.specs.Spelling.{are_erased, head_line, body_line, pad_line, pad_text}

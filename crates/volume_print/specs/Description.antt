@@ -1,35 +1,22 @@
 -- What a text says of a volume that a reader accepts.
-use Rattle.pi_base.specs.declared.guid.Guid.{Guid}
+use Rattle.pi_base.specs.{declared.guid.Guid.Guid, Field.little_number, declared.guid.TheConstants.GUID_LEN}
 use Rattle.std.specs.Prelude.{◌≡◌, ◌⊎◌, ℕ, zero, suc, ◌+◌, ◌-◌, ◌==◌, false, nat_lt, bit_and, bit_xor, bytes_eq, if◌then◌else◌, List, length, map, take, drop, slice_index, Option, Some, None}
-use Rattle.pi_base.specs.Field.{little_number}
-use Rattle.fv_volume.specs.declared.file.FfsFile.{FfsFile}
-use Rattle.fv_volume.specs.declared.file_header.TheConstants.{ATTRIBUTES_AT as FILE_ATTRIBUTES_AT}
-use Rattle.fv_volume.specs.declared.file_type.TheConstants.{RAW}
-use Rattle.fv_volume.specs.declared.volume.Volume.{Volume}
+use Rattle.fv_volume.specs.{declared.file.FfsFile.FfsFile, declared.file_header.TheConstants.ATTRIBUTES_AT as FILE_ATTRIBUTES_AT}
+use Rattle.fv_volume.specs.{declared.file_type.TheConstants.RAW, declared.volume.Volume.Volume, Volume.IsVolume}
 use Rattle.fv_volume.specs.declared.volume_header.TheConstants.{ATTRIBUTES_AT, ERASE_POLARITY, EXT_HEADER_OFFSET_AT, FFS3, FILE_SYSTEM_AT, HEADER_LENGTH_AT, LEAST_LEN}
-use Rattle.fv_volume.specs.Volume.{IsVolume}
-use Rattle.fv_volume.specs.declared.sections.section.Section.{Section}
-use Rattle.fv_volume.specs.declared.sections.fault.SecFault.{SecFault}
+use Rattle.fv_volume.specs.{declared.sections.section.Section.Section, declared.sections.fault.SecFault.SecFault}
 use Rattle.fv_volume.specs.Stream.{AreInside, AreSections, IsFirstFault}
 use Rattle.fv_volume.specs.declared.build.file_system.FileSystem.{FileSystem}
 use Rattle.fv_volume.specs.declared.build.file_system.FileSystem.TheVariants.{Ffs2, Ffs3}
-use Rattle.fv_volume.specs.declared.build.volume_header.VolumeForm.{VolumeForm}
-use Rattle.fv_volume.specs.declared.build.volume_name.VolumeName.{VolumeName}
-use Rattle.fv_volume.specs.declared.build.volume_name.TheConstants.{EXT_HEADER_LEN}
-use Rattle.fv_volume.specs.Front.{first_place}
-use Rattle.fv_volume.specs.declared.build.new_file.NewFile.{NewFile}
-use Rattle.fv_volume.specs.declared.build.new_file.NewSection.{NewSection}
+use Rattle.fv_volume.specs.{declared.build.volume_header.VolumeForm.VolumeForm, declared.build.volume_name.VolumeName.VolumeName}
+use Rattle.fv_volume.specs.{declared.build.volume_name.TheConstants.EXT_HEADER_LEN, Front.first_place}
+use Rattle.fv_volume.specs.{declared.build.new_file.NewFile.NewFile, declared.build.new_file.NewSection.NewSection}
 use Rattle.fv_volume.specs.declared.build.new_file.Body.{Body}
 use Rattle.fv_volume.specs.declared.build.new_file.Body.TheVariants.{Sections, Bytes}
-use Rattle.fv_volume.specs.Attributes.{attributes_in}
-use Rattle.fv_volume.specs.Sections.{body_bytes}
-use Rattle.fv_volume.specs.Header.{plain}
-use Rattle.pi_base.specs.declared.guid.TheConstants.{GUID_LEN}
-use Rattle.fv_volume.specs.Reading.{AreEach}
+use Rattle.fv_volume.specs.{Attributes.attributes_in, Sections.body_bytes, Header.plain, Reading.AreEach}
 use Rattle.mod_catalog.specs.declared.limits.TheConstants.{MOST_DEPTH}
 use Rattle.volume_text.specs.Text.{Leads}
-use Rattle.volume_print.specs.Places.{pads_before, rooms}
-use Rattle.volume_print.specs.Spelling.{IsVolumeText}
+use Rattle.volume_print.specs.{Places.pads_before, Places.rooms, Spelling.IsVolumeText}
 
 -- the section with its bytes
 abbrev pub section_in : List ℕ → Section → NewSection

@@ -1,29 +1,18 @@
 -- What is found of the bytes of a section.
 use Rattle.std.specs.Prelude.{◌≡◌, ℕ, ◌-◌, ◌^◌, ◌≤◌, false, true, ◌==◌, if◌then◌else◌, List, [], ◌++◌, length, min, flat_map, Option, Some, None}
-use Rattle.pi_base.specs.declared.phase.Phase.{Phase}
-use Rattle.pi_base.specs.declared.phase.Phase.TheVariants.{Pei, Dxe}
+use Rattle.pi_base.specs.{declared.phase.Phase.Phase, declared.phase.Phase.TheVariants.Pei, declared.phase.Phase.TheVariants.Dxe}
 use Rattle.fv_volume.specs.declared.sections.section_type.TheConstants.{PEI_DEPEX, DXE_DEPEX}
-use Rattle.fv_volume.specs.declared.build.new_file.NewSection.{NewSection}
+use Rattle.fv_volume.specs.{declared.build.new_file.NewSection.NewSection, declared.sections.section.Section.Section}
 use Rattle.depex_code.specs.declared.depex.Depex.{Depex}
-use Rattle.act_code.specs.declared.script.Script.{Script}
-use Rattle.act_code.specs.Script.{IsScript}
-use Rattle.fv_volume.specs.declared.sections.section.Section.{Section}
-use Rattle.fv_volume.specs.declared.sections.fault.SecFault.{SecFault}
+use Rattle.act_code.specs.{declared.script.Script.Script, Script.IsScript}
+use Rattle.fv_volume.specs.{declared.sections.fault.SecFault.SecFault, declared.file.FfsFile.FfsFile, declared.volume.Volume.Volume}
 use Rattle.fv_volume.specs.Stream.{AreInside, AreSections, IsFirstFault}
-use Rattle.volume_print.specs.declared.form.Form.{Form}
+use Rattle.volume_print.specs.{declared.form.Form.Form, declared.form.Host.Host, Description.IsBodyIn, Description.IsFileIn}
 use Rattle.volume_print.specs.declared.form.Form.TheVariants as form
-use Rattle.volume_print.specs.declared.form.Host.{Host}
-use Rattle.fv_volume.specs.declared.file.FfsFile.{FfsFile}
-use Rattle.fv_volume.specs.declared.volume.Volume.{Volume}
-use Rattle.fv_volume.specs.Volume.{IsVolume}
+use Rattle.fv_volume.specs.{Volume.IsVolume, declared.build.new_file.NewFile.NewFile, declared.build.new_file.Body.Body}
 use Rattle.volume_text.specs.Text.{Leads}
-use Rattle.fv_volume.specs.declared.build.new_file.NewFile.{NewFile}
-use Rattle.fv_volume.specs.declared.build.new_file.Body.{Body}
-use Rattle.fv_volume.specs.declared.build.file_system.FileSystem.{FileSystem}
-use Rattle.fv_volume.specs.Files.{bytes_in}
-use Rattle.fv_volume.specs.Reading.{AreEach}
+use Rattle.fv_volume.specs.{declared.build.file_system.FileSystem.FileSystem, Files.bytes_in, Reading.AreEach}
 use Rattle.volume_print.specs.Spelling.{IsExpressionOf, SaysExpression, is_guid_list, SaysScript, SaysVolume, IsSectionText, AreSectionTexts, IsBodyText, IsFileText, expression_line, guids_line, script_lines, section_line, whole, pad_text, with_pads}
-use Rattle.volume_print.specs.Description.{IsBodyIn, IsFileIn}
 use Rattle.volume_print.specs.Places.{room_of, rooms, between, pads_in, behind, behind_all, pads_before}
 
 -- the expression that bytes are, or none

@@ -1,15 +1,10 @@
 -- Where the files of a volume stand, and the pad files that bring them there where they are built again (own).
 use Rattle.std.specs.Prelude.{ℕ, ◌+◌, ◌-◌, ◌/◌, ◌≤◌, ◌≡◌, ◌⊎◌, ⊤, zero, suc, nat_lt, if◌then◌else◌, List, [], ◌∷◌, length, map, take, drop}
 use Rattle.pi_base.specs.Guids.{guid_at}
-use Rattle.fv_volume.specs.declared.file.FfsFile.{FfsFile}
-use Rattle.fv_volume.specs.declared.file_header.TheConstants.{HEADER_LEN as FILE_HEADER_LEN}
-use Rattle.fv_volume.specs.declared.file_type.TheConstants.{PAD}
-use Rattle.fv_volume.specs.Frame.{aligned}
-use Rattle.fv_volume.specs.Attributes.{plain_attributes}
-use Rattle.fv_volume.specs.declared.build.file_system.FileSystem.{FileSystem}
-use Rattle.fv_volume.specs.declared.build.new_file.NewFile.{NewFile}
-use Rattle.fv_volume.specs.declared.build.new_file.Body.TheVariants.{Bytes}
-use Rattle.fv_volume.specs.Files.{bytes_in, file_size}
+use Rattle.fv_volume.specs.{declared.file.FfsFile.FfsFile, declared.file_header.TheConstants.HEADER_LEN as FILE_HEADER_LEN}
+use Rattle.fv_volume.specs.{declared.file_type.TheConstants.PAD, Frame.aligned, Attributes.plain_attributes}
+use Rattle.fv_volume.specs.{declared.build.file_system.FileSystem.FileSystem, declared.build.new_file.NewFile.NewFile}
+use Rattle.fv_volume.specs.{declared.build.new_file.Body.TheVariants.Bytes, Files.bytes_in, Files.file_size}
 use Rattle.volume_print.specs.declared.pad.TheConstants.{LONG_PAD}
 
 -- where a file stands in its volume, and how many bytes it takes where it is built

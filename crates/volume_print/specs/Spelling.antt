@@ -3,40 +3,28 @@
 use Rattle.std.specs.Prelude.{◌≡◌, ℕ, ◌%◌, ⊤, Bool, true, false, ◌&&◌, ◌||◌, ◌==◌, if◌then◌else◌, List, [], ◌∷◌, ◌++◌, length, codes, decimal, flat_map, Option, Some, None}
 use Rattle.std.specs.List.{list_all, list_any}
 use Rattle.hex.specs.Hex.{encode_lower}
-use Rattle.pi_base.specs.declared.guid.Guid.{Guid}
-use Rattle.pi_base.specs.declared.phase.Phase.{Phase}
-use Rattle.pi_base.specs.declared.phase.Phase.TheVariants.{Pei, Dxe}
-use Rattle.pi_base.specs.declared.guid.TheConstants.{GUID_LEN}
-use Rattle.pi_base.specs.Guids.{same_guid}
-use Rattle.pi_base.specs.WordText.{guid_text, hexadecimal}
+use Rattle.pi_base.specs.{declared.guid.Guid.Guid, declared.phase.Phase.Phase}
+use Rattle.pi_base.specs.{declared.phase.Phase.TheVariants.Pei, declared.phase.Phase.TheVariants.Dxe, declared.guid.TheConstants.GUID_LEN}
+use Rattle.pi_base.specs.{Guids.same_guid, WordText.guid_text, WordText.hexadecimal}
 use Rattle.fv_volume.specs.declared.file_type.TheConstants.{RAW, FREEFORM, PEIM, DRIVER, COMBINED_PEIM_DRIVER, VOLUME_IMAGE, COMBINED_MM_DXE, PAD}
 use Rattle.fv_volume.specs.declared.sections.section_type.TheConstants.{RAW as RAW_SECTION, VOLUME_IMAGE as VOLUME_SECTION}
 use Rattle.fv_volume.specs.declared.build.file_system.FileSystem.{FileSystem}
 use Rattle.fv_volume.specs.declared.build.file_system.FileSystem.TheVariants.{Ffs2, Ffs3}
-use Rattle.fv_volume.specs.declared.build.volume_header.VolumeForm.{VolumeForm}
-use Rattle.fv_volume.specs.declared.build.volume_header.TheConstants.{HEADER_LEN}
+use Rattle.fv_volume.specs.{declared.build.volume_header.VolumeForm.VolumeForm, declared.build.volume_header.TheConstants.HEADER_LEN}
 use Rattle.fv_volume.specs.declared.build.volume_name.VolumeName.{VolumeName}
 use Rattle.fv_volume.specs.declared.build.volume_name.TheConstants.{EXT_AT, EXT_HEADER_LEN}
-use Rattle.fv_volume.specs.declared.build.attributes.Alignment.{Alignment}
-use Rattle.fv_volume.specs.declared.build.attributes.FileAttributes.{FileAttributes}
-use Rattle.fv_volume.specs.Attributes.{alignment_len, plain_attributes}
-use Rattle.fv_volume.specs.Files.{bytes_in}
-use Rattle.fv_volume.specs.declared.build.new_file.NewFile.{NewFile}
-use Rattle.fv_volume.specs.declared.build.new_file.NewSection.{NewSection}
-use Rattle.fv_volume.specs.declared.build.new_file.Body.{Body}
+use Rattle.fv_volume.specs.{declared.build.attributes.Alignment.Alignment, declared.build.attributes.FileAttributes.FileAttributes}
+use Rattle.fv_volume.specs.{Attributes.alignment_len, Attributes.plain_attributes, Files.bytes_in, declared.build.new_file.NewFile.NewFile}
+use Rattle.fv_volume.specs.{declared.build.new_file.NewSection.NewSection, declared.build.new_file.Body.Body}
 use Rattle.fv_volume.specs.declared.build.new_file.Body.TheVariants.{Sections, Bytes}
 use Rattle.fv_volume.specs.Reading.{AreEach}
 use Rattle.depex_code.specs.declared.depex.Depex.{Depex}
 use Rattle.depex_code.specs.Expression.{Reads, instructions, bytes_of}
-use Rattle.act_code.specs.declared.script.Script.{Script}
-use Rattle.act_code.specs.Script.{IsScript}
-use Rattle.mod_catalog.specs.FileType.{a_priori_name}
-use Rattle.mod_catalog.specs.APrioriNames.{guids_in}
-use Rattle.asm_text.specs.ExpressionText.{expression_text}
-use Rattle.asm_text.specs.ScriptText.{line, block_lines}
+use Rattle.act_code.specs.{declared.script.Script.Script, Script.IsScript}
+use Rattle.mod_catalog.specs.{FileType.a_priori_name, APrioriNames.guids_in}
+use Rattle.asm_text.specs.{ExpressionText.expression_text, ScriptText.line, ScriptText.block_lines}
 use Rattle.volume_text.specs.Open.{depex_type, has_part, is_script_of}
-use Rattle.volume_print.specs.declared.form.Host.{Host}
-use Rattle.volume_print.specs.declared.pad.TheConstants.{ERASED}
+use Rattle.volume_print.specs.{declared.form.Host.Host, declared.pad.TheConstants.ERASED}
 
 unfoldable pub phase_word : Phase → List ℕ
 phase_word Pei = codes "pei"

@@ -2,8 +2,7 @@
 ghost use Rattle.std.specs.Prelude.{◌≡◌, ◌≤◌, ◌<◌, ◌+◌, ◌++◌, length, slice_index, take, drop, OnOk, IfOk};
 ghost use Rattle.fv_volume.specs.Attributes.{attributes_in};
 ghost use Rattle.volume_print.specs.Spelling.{fixed_words, alignment_words, body_line, head_line};
-ghost use Rattle.volume_print.specs.Description.{IsStream};
-ghost use Rattle.volume_print.specs.Finding.{ReadsSections};
+ghost use Rattle.volume_print.specs.{Description.IsStream, Finding.ReadsSections};
 
 use crate::place::sections_len;
 use crate::word::{put_bytes, put_decimal, put_guid, put_type};

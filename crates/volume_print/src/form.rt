@@ -3,8 +3,7 @@ ghost use Rattle.std.specs.Prelude.{◌≡◌, ◌≤◌, ◌+◌, false, length
 ghost use Rattle.std.specs.List.{list_any};
 ghost use Rattle.fv_volume.specs.Stream.{AreInside};
 ghost use Rattle.volume_text.specs.Open.{is_script_of};
-ghost use Rattle.volume_print.specs.Description.{section_in};
-ghost use Rattle.volume_print.specs.Spelling.{is_guid_list};
+ghost use Rattle.volume_print.specs.{Description.section_in, Spelling.is_guid_list};
 ghost use Rattle.volume_print.specs.Finding.{depex_phase, FindsExpression, FindsScript, IsPlainForm, TellsExpression, TellsScript};
 
 use act_code::{ActCause, Script, one_outcome, read_script};

@@ -1,8 +1,7 @@
 // Which sections are told as volumes.
 ghost use Rattle.std.specs.Prelude.{◌≡◌, IfOk, IfSome};
 ghost use Rattle.fv_volume.specs.Places.{AreInside};
-ghost use Rattle.volume_print.specs.Spelling.{holds_volume};
-ghost use Rattle.volume_print.specs.Finding.{FindsVolume, FindsText};
+ghost use Rattle.volume_print.specs.{Spelling.holds_volume, Finding.FindsVolume, Finding.FindsText};
 
 use crate::form::Host;
 use fv_volume::file_type::VOLUME_IMAGE as VOLUME_FILE;

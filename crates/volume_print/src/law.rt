@@ -1,8 +1,6 @@
 // The law of printed texts.
 ghost use Rattle.std.specs.Prelude.{◌≡◌, ℕ, List};
-ghost use Rattle.fv_volume.specs.Volume.{IsFirstFault};
-ghost use Rattle.fv_volume.specs.declared.fault.VolFault.{VolFault};
-ghost use Rattle.fv_volume.specs.declared.volume.Volume.{Volume};
+ghost use Rattle.fv_volume.specs.{Volume.IsFirstFault, declared.fault.VolFault.VolFault, declared.volume.Volume.Volume};
 ghost use Rattle.volume_print.specs.Description.{IsTextBy, IsInner, IsTextOf};
 
 /// A volume has one text, and bytes with a fault have none.

@@ -1,10 +1,7 @@
 // Where the files of a volume stand where they are built again.
 ghost use Rattle.std.specs.Prelude.{◌≡◌, ◌-◌, ◌^◌, ◌+◌, length, map, min};
-ghost use Rattle.fv_volume.specs.Stream.{AreInside};
-ghost use Rattle.fv_volume.specs.Frame.{aligned};
-ghost use Rattle.fv_volume.specs.Sections.{body_bytes};
-ghost use Rattle.volume_print.specs.Description.{section_in};
-ghost use Rattle.volume_print.specs.Places.{stands};
+ghost use Rattle.fv_volume.specs.{Stream.AreInside, Frame.aligned, Sections.body_bytes};
+ghost use Rattle.volume_print.specs.{Description.section_in, Places.stands};
 
 use fv_volume::ALIGNMENT;
 use fv_volume::build::{FileSystem, gap, section_size};

@@ -1,6 +1,5 @@
 // The lines of sections.
-ghost use Rattle.std.specs.Prelude.{◌≡◌, ◌++◌, OnOk};
-ghost use Rattle.std.specs.List.{flat_map};
+ghost use Rattle.std.specs.Prelude.{◌≡◌, ◌++◌, OnOk, flat_map};
 ghost use Rattle.mod_catalog.specs.APrioriNames.{guids_in};
 ghost use Rattle.volume_print.specs.Spelling.{expression_line, script_lines, guid_word, guids_line, section_line};
 ghost use Rattle.volume_print.specs.Finding.{form_text};

@@ -1,7 +1,6 @@
 // A volume's text, with the texts of the volumes nested in it.
 ghost use Rattle.std.specs.Prelude.{◌≤◌, ◌<◌, ◌+◌, ℕ, length, map, IfOk, OnOk};
-ghost use Rattle.fv_volume.specs.Places.{AreInside as AreFilesInside};
-ghost use Rattle.fv_volume.specs.Stream.{AreInside};
+ghost use Rattle.fv_volume.specs.{Places.AreInside as AreFilesInside, Stream.AreInside};
 ghost use Rattle.volume_print.specs.Description.{section_in, IsTextBy, IsInner};
 ghost use Rattle.volume_print.specs.Finding.{IsForm, TellsVolume, AddsSection, AddsSections, AddsBody, AddsFile, AddsFiles};
 

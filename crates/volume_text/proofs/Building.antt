@@ -1,18 +1,11 @@
 -- The bytes of a volume at its `end`.
-use Rattle.std.proofs.Common.{◌≡◌, ◌<◌, ◌≤◌, ◌^◌, ℕ, Bool, true, false, List, Option, None, Some, Result, Ok, Err, refl, sym, ap, ◌∙◌, arith}
-use Rattle.std.proofs.lemmas.Bool.{and_parts}
-use Rattle.std.proofs.lemmas.Bool.Decides.{nat_tests}
-use Rattle.std.specs.Prelude.{nat_lt, nat_le, ◌&&◌, if◌then◌else◌}
-use Rattle.volume_text.specs.declared.fault.Cause.{Cause}
-use Rattle.volume_text.specs.declared.fault.Cause.TheVariants.{Range}
-use Rattle.fv_volume.specs.declared.build.fault.BuildFault.{BuildFault}
+use Rattle.std.proofs.Common.{◌≡◌, ◌<◌, ◌≤◌, ◌^◌, ℕ, Bool, true, false, List, Option, None, Some, Result, Ok, Err, refl, sym, ap, ◌∙◌, arith, nat_lt, nat_le, ◌&&◌, if◌then◌else◌}
+use Rattle.std.proofs.{lemmas.Bool.and_parts, lemmas.Bool.Decides.nat_tests}
+use Rattle.volume_text.specs.{declared.fault.Cause.Cause, declared.fault.Cause.TheVariants.Range, declared.volume.OpenVolume.OpenVolume}
+use Rattle.fv_volume.specs.{declared.build.fault.BuildFault.BuildFault, Header.is_header_length, Front.is_placed}
 use Rattle.fv_volume.specs.declared.build.fault.BuildFault.TheVariants.{TooMany, Size, NoRoom, Memory}
 use Rattle.fv_volume.specs.Building.{volume_bytes, volume_fault, IsRefusal}
-use Rattle.fv_volume.specs.Header.{is_header_length}
-use Rattle.fv_volume.specs.Front.{is_placed}
-use Rattle.volume_text.specs.declared.volume.OpenVolume.{OpenVolume}
-use Rattle.volume_text.specs.Reading.{Stops}
-use Rattle.volume_text.specs.Words.{is_length, is_header}
+use Rattle.volume_text.specs.{Reading.Stops, Words.is_length, Words.is_header}
 use Rattle.volume_text.specs.Open.{stop_of, refused_by, is_in_range, built_of}
 
 -- attributes are a number of 32 bits

@@ -1,19 +1,13 @@
 -- A volume that a text describes is built at its `end`, or refused there.
 use Rattle.std.proofs.Common.{◌≡◌, inl, ℕ, List, [], ◌∷◌, ◌++◌, None, Result, Ok, Err, refl, sym, ap, ◌∙◌, subst}
-use Rattle.volume_text.specs.declared.fault.Cause.{Cause}
-use Rattle.volume_text.specs.declared.fault.Fault.{Fault}
-use Rattle.volume_text.specs.declared.fault.TextFault.TheVariants.{Bad}
+use Rattle.volume_text.specs.{declared.fault.Cause.Cause, declared.fault.Fault.Fault, declared.fault.TextFault.TheVariants.Bad}
 use Rattle.volume_text.specs.declared.statement.Statement.TheVariants as said
-use Rattle.volume_text.specs.declared.step.State.{State}
+use Rattle.volume_text.specs.{declared.step.State.State, declared.volume.OpenVolume.OpenVolume, Reading.◌>>=◌, Reading.at, Open.built_of}
 use Rattle.volume_text.specs.declared.step.State.TheVariants.{Begin, Filling, Done}
-use Rattle.volume_text.specs.declared.volume.OpenVolume.{OpenVolume}
-use Rattle.volume_text.specs.Reading.{◌>>=◌, at}
-use Rattle.volume_text.specs.Open.{built_of}
 use Rattle.volume_text.specs.Step.{Steps, closed, closed_in, last_volume}
 use Rattle.volume_text.specs.Text.{numbered, Goes, Describes, Leads, IsRefused}
 use Rattle.volume_text.proofs.Completing.{Parts, parts, One, one, First, first, opened_with, files_go}
-use Rattle.volume_text.proofs.OneLine.{one_step}
-use Rattle.volume_text.proofs.OneText.{one_goes}
+use Rattle.volume_text.proofs.{OneLine.one_step, OneText.one_goes}
 
 abbrev Lines : Type 0
 Lines = List (ℕ × List ℕ)

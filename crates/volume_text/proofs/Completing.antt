@@ -3,14 +3,11 @@ use Rattle.std.proofs.Common.{◌≡◌, ℕ, List, [], ◌∷◌, ◌++◌, map
 use Rattle.fv_volume.specs.declared.build.volume_name.VolumeName.{VolumeName}
 use Rattle.pi_base.specs.declared.phase.Phase.{Phase}
 use Rattle.fv_volume.specs.declared.sections.section_type.TheConstants.{RAW, VOLUME_IMAGE}
-use Rattle.fv_volume.specs.declared.build.new_file.NewFile.{NewFile}
-use Rattle.fv_volume.specs.declared.build.new_file.NewSection.{NewSection}
+use Rattle.fv_volume.specs.{declared.build.new_file.NewFile.NewFile, declared.build.new_file.NewSection.NewSection}
 use Rattle.fv_volume.specs.declared.build.volume_header.VolumeForm.{VolumeForm}
 use Rattle.act_code.specs.declared.action.Action.{Action}
-use Rattle.volume_text.specs.declared.statement.Statement.{Statement}
+use Rattle.volume_text.specs.{declared.statement.Statement.Statement, declared.volume.OpenVolume.OpenVolume, declared.step.State.State}
 use Rattle.volume_text.specs.declared.statement.Statement.TheVariants as said
-use Rattle.volume_text.specs.declared.volume.OpenVolume.{OpenVolume}
-use Rattle.volume_text.specs.declared.step.State.{State}
 use Rattle.volume_text.specs.declared.step.State.TheVariants.{Begin, Filling, Writing, Done}
 use Rattle.volume_text.specs.declared.fault.Cause.TheVariants as cause
 use Rattle.volume_text.specs.Reading.{at, only_if, ◌>>=◌}
@@ -19,8 +16,7 @@ use Rattle.volume_text.specs.Script.{script_of}
 use Rattle.volume_text.specs.Step.{Steps, Takes, section_of, nested_in}
 use Rattle.volume_text.specs.Volume.{SaysLine, SayBlocks, no_block, block, action, SayFiles, no_file, named, padded, file, bodied, section, depex, script, volume}
 use Rattle.volume_text.specs.Text.{numbered, Goes, Says, Leads}
-use Rattle.volume_text.proofs.Lasts.{last_push}
-use Rattle.volume_text.proofs.Wholeness.{none_wrong}
+use Rattle.volume_text.proofs.{Lasts.last_push, Wholeness.none_wrong}
 
 abbrev Lines : Type 0
 Lines = List (ℕ × List ℕ)

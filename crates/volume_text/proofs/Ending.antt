@@ -1,27 +1,19 @@
 -- What calls answer, put together.
-use Rattle.std.proofs.Common.{◌≡◌, ℕ, List, [], ◌∷◌, ◌++◌, Option, Some, None, Result, Ok, Err, refl, sym, ap, subst}
-use Rattle.std.specs.Prelude.{IfOk, All}
+use Rattle.std.proofs.Common.{◌≡◌, ℕ, List, [], ◌∷◌, ◌++◌, Option, Some, None, Result, Ok, Err, refl, sym, ap, subst, IfOk, All}
 use Rattle.std.specs.List.{AllByRecursion}
 use Rattle.std.proofs.lemmas.List.Elements.{All-nil, All-cons, All-append, All-from_recursion, recursion_from_All}
 use Rattle.fv_volume.specs.declared.sections.section_type.TheConstants.{RAW, VOLUME_IMAGE}
 use Rattle.pi_base.specs.declared.phase.Phase.{Phase}
-use Rattle.fv_volume.specs.declared.build.new_file.NewFile.{NewFile}
-use Rattle.fv_volume.specs.declared.build.new_file.NewSection.{NewSection}
+use Rattle.fv_volume.specs.{declared.build.new_file.NewFile.NewFile, declared.build.new_file.NewSection.NewSection}
 use Rattle.fv_volume.specs.declared.build.volume_header.VolumeForm.{VolumeForm}
-use Rattle.act_code.specs.declared.action.Action.{Action}
-use Rattle.act_code.specs.declared.script.Script.{Script}
+use Rattle.act_code.specs.{declared.action.Action.Action, declared.script.Script.Script}
 use Rattle.source_words.specs.Script.{IsSaid, AreSaid}
-use Rattle.volume_text.specs.declared.fault.Stop.{Stop}
+use Rattle.volume_text.specs.{declared.fault.Stop.Stop, declared.fault.TextFault.TextFault, declared.statement.Statement.Statement}
 use Rattle.volume_text.specs.declared.fault.Stop.TheVariants as stop
-use Rattle.volume_text.specs.declared.fault.TextFault.{TextFault}
 use Rattle.volume_text.specs.declared.fault.TextFault.TheVariants as text_fault
-use Rattle.volume_text.specs.declared.statement.Statement.{Statement}
-use Rattle.volume_text.specs.declared.volume.OpenVolume.{OpenVolume}
-use Rattle.volume_text.specs.declared.step.State.{State}
+use Rattle.volume_text.specs.{declared.volume.OpenVolume.OpenVolume, declared.step.State.State, declared.fault.Cause.Cause, Line.Reads}
 use Rattle.volume_text.specs.declared.step.State.TheVariants.{Begin, Filling, Writing, Done}
-use Rattle.volume_text.specs.declared.fault.Cause.{Cause}
 use Rattle.volume_text.specs.Reading.{◌>>=◌, Stops, Gives, StopsAs, StopsText, Answers, at}
-use Rattle.volume_text.specs.Line.{Reads}
 use Rattle.volume_text.specs.Open.{with_section, depex_type, part_checked, built_of}
 use Rattle.volume_text.specs.Script.{last_block, script_of, with_block, IsScriptBody}
 use Rattle.volume_text.specs.Step.{IsSaidState, section_of, with_top, filling, nested_in, nested, with_depex, last_volume, closed_in, closed, at_line, EndsScript, Takes, Steps}

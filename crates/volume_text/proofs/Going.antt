@@ -1,15 +1,10 @@
 -- Going through the lines of a text, one by one.
-use Rattle.std.proofs.Common.{◌≡◌, ℕ, ◌+◌, Bool, true, false, List, [], ◌∷◌, ◌++◌, length, Result, Ok, Err, refl, sym, ap, subst, ◌∙◌, append_assoc, arith, inl, inr}
-use Rattle.std.specs.Prelude.{if◌then◌else◌}
-use Rattle.std.proofs.lemmas.List.{append-nil}
+use Rattle.std.proofs.Common.{◌≡◌, ℕ, ◌+◌, Bool, true, false, List, [], ◌∷◌, ◌++◌, length, Result, Ok, Err, refl, sym, ap, subst, ◌∙◌, append_assoc, arith, inl, inr, if◌then◌else◌, append-nil}
 use Rattle.line_words.specs.Line.{lines}
-use Rattle.volume_text.specs.declared.fault.Fault.{Fault}
-use Rattle.volume_text.specs.declared.step.State.{State}
+use Rattle.volume_text.specs.{declared.fault.Fault.Fault, declared.step.State.State}
 use Rattle.volume_text.specs.declared.step.State.TheVariants.{Begin, Done}
-use Rattle.volume_text.specs.declared.fault.TextFault.{TextFault}
+use Rattle.volume_text.specs.{declared.fault.TextFault.TextFault, Reading.StopsText, Step.Steps}
 use Rattle.volume_text.specs.declared.fault.TextFault.TheVariants as text_fault
-use Rattle.volume_text.specs.Reading.{StopsText}
-use Rattle.volume_text.specs.Step.{Steps}
 use Rattle.volume_text.specs.Text.{is_passed_over, counted, numbered, Goes, Leads, Moves, IsBadLine, IsEndCause, IsRefused}
 
 same_Ok : {A E : Type 0} (x y : A) → ◌≡◌ {A = Result A E} (Ok x) (Ok y) → x ≡ y

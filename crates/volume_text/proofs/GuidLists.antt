@@ -1,12 +1,9 @@
 -- GUIDs to the end of a line, read one by one.
-use Rattle.std.proofs.Common.{◌≡◌, ℕ, List, [], ◌∷◌, ◌++◌, Some, None, Result, Ok, Err, refl, sym, ap, append_assoc}
-use Rattle.std.proofs.lemmas.List.{append-nil}
+use Rattle.std.proofs.Common.{◌≡◌, ℕ, List, [], ◌∷◌, ◌++◌, Some, None, Result, Ok, Err, refl, sym, ap, append_assoc, append-nil}
 use Rattle.pi_base.specs.declared.guid.Guid.{Guid}
 use Rattle.source_words.specs.GuidWord.{guid_of}
-use Rattle.volume_text.specs.declared.fault.Cause.{Cause}
+use Rattle.volume_text.specs.{declared.fault.Cause.Cause, Reading.◌>>=◌, Bytes.guids_of}
 use Rattle.volume_text.specs.declared.fault.Cause.TheVariants as cause
-use Rattle.volume_text.specs.Reading.{◌>>=◌}
-use Rattle.volume_text.specs.Bytes.{guids_of}
 
 -- bytes in front of others
 abbrev pub in_front : List ℕ → Result (List ℕ) Cause → Result (List ℕ) Cause

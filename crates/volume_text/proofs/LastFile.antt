@@ -1,9 +1,7 @@
 -- The last file of an open volume, as it is changed.
 use Rattle.std.proofs.Common.{◌≡◌, List, [], ◌∷◌, ◌++◌, Result, Ok, sym, ap, ◌∙◌}
 use Rattle.fv_volume.specs.declared.build.new_file.NewFile.{NewFile}
-use Rattle.volume_text.specs.declared.volume.OpenVolume.{OpenVolume}
-use Rattle.volume_text.specs.declared.fault.Cause.{Cause}
-use Rattle.volume_text.specs.declared.fault.Stop.{Stop}
+use Rattle.volume_text.specs.{declared.volume.OpenVolume.OpenVolume, declared.fault.Cause.Cause, declared.fault.Stop.Stop}
 use Rattle.volume_text.specs.declared.fault.Stop.TheVariants as stop
 use Rattle.volume_text.specs.Reading.{◌>>=◌, Stops}
 use Rattle.volume_text.specs.Open.{last_of, with_files, with_last}

@@ -1,38 +1,26 @@
 -- A line says one thing, and leads to one state or one fault.
 use Rattle.std.proofs.Common.{◌≡◌, ◌⊎◌, inl, inr, ℕ, ◌<◌, ◌≤◌, List, [], ◌∷◌, length, map, Option, Some, None, Result, Ok, Err, sym, ap, ◌∙◌, subst, arith}
 use Rattle.pi_base.specs.declared.phase.Phase.{Phase}
-use Rattle.depex_code.specs.declared.depex.Depex.{Depex}
-use Rattle.depex_code.specs.Expression.{instructions, bytes_of as opcode_bytes}
-use Rattle.source_words.specs.declared.depex.fault.ExpressionFault.{ExpressionFault}
+use Rattle.depex_code.specs.{declared.depex.Depex.Depex, Expression.instructions, Expression.bytes_of as opcode_bytes}
+use Rattle.source_words.specs.{declared.depex.fault.ExpressionFault.ExpressionFault, Tokens.token_of, Cause.expression_cause}
 use Rattle.source_words.specs.declared.depex.fault.ExpressionFault.TheVariants as expression_fault
-use Rattle.source_words.specs.Tokens.{token_of}
-use Rattle.source_words.specs.Cause.{expression_cause}
 use Rattle.source_words.proofs.Says.{are_pass, are_one}
 use Rattle.fv_volume.specs.declared.sections.section_type.TheConstants.{RAW}
-use Rattle.act_code.specs.declared.script.Script.{Script}
-use Rattle.act_code.specs.Script.{script_bytes}
-use Rattle.source_words.specs.declared.script.script.ScriptCause.{ScriptCause}
-use Rattle.source_words.specs.declared.script.script.ScriptFault.{ScriptFault}
+use Rattle.act_code.specs.{declared.script.Script.Script, Script.script_bytes}
+use Rattle.source_words.specs.{declared.script.script.ScriptCause.ScriptCause, declared.script.script.ScriptFault.ScriptFault, Words.words}
 use Rattle.source_words.specs.declared.script.script.ScriptFault.TheVariants.{Bad, TooLong, Memory}
 use Rattle.source_words.specs.Script.{IsUnfit, IsWhole, first_fault, line_causes}
-use Rattle.volume_text.specs.declared.fault.Cause.{Cause}
+use Rattle.volume_text.specs.{declared.fault.Cause.Cause, declared.fault.Fault.Fault, declared.keyword.Keyword.Keyword}
 use Rattle.volume_text.specs.declared.fault.Cause.TheVariants as cause
-use Rattle.volume_text.specs.declared.fault.Fault.{Fault}
-use Rattle.volume_text.specs.declared.keyword.Keyword.{Keyword}
 use Rattle.volume_text.specs.declared.keyword.Keyword.TheVariants as keyword
-use Rattle.volume_text.specs.declared.statement.Statement.{Statement}
+use Rattle.volume_text.specs.{declared.statement.Statement.Statement, declared.volume.OpenVolume.OpenVolume, declared.step.State.State}
 use Rattle.volume_text.specs.declared.statement.Statement.TheVariants as said
-use Rattle.volume_text.specs.declared.volume.OpenVolume.{OpenVolume}
-use Rattle.volume_text.specs.declared.step.State.{State}
 use Rattle.volume_text.specs.declared.step.State.TheVariants.{Begin, Filling, Writing, Done}
-use Rattle.volume_text.specs.Keywords.{keyword_of}
+use Rattle.volume_text.specs.{Keywords.keyword_of, Words.phase_at, Script.placed, Script.IsScriptBody}
 use Rattle.volume_text.specs.Reading.{◌>>=◌, at, onward}
 use Rattle.volume_text.specs.Line.{IsExpression, IsNoExpression, IsBody, ReadsExpression, ReadsBy, ReadsFirst}
-use Rattle.volume_text.specs.Words.{phase_at}
-use Rattle.volume_text.specs.Script.{placed, IsScriptBody}
 use Rattle.volume_text.specs.Step.{section_of, filling, EndsScript, TakesInScript, Takes, TakesRead, Steps}
 use Rattle.std.proofs.lemmas.Option.{same_Some}
-use Rattle.source_words.specs.Words.{words}
 
 -- words are one expression, or one thing is wrong with them
 no_cause_of : (phase : Phase) (others : List (List ℕ)) (expression : Depex) (fault : ExpressionFault) → IsExpression phase others expression

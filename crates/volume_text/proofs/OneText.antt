@@ -1,11 +1,8 @@
 -- A text describes one volume, or has one first line at fault.
 use Rattle.std.proofs.Common.{◌≡◌, inl, inr, ℕ, List, [], ◌∷◌, ◌++◌, Result, Ok, Err, sym, ap, ◌∙◌, subst}
-use Rattle.volume_text.specs.declared.fault.Cause.{Cause}
-use Rattle.volume_text.specs.declared.fault.Fault.{Fault}
+use Rattle.volume_text.specs.{declared.fault.Cause.Cause, declared.fault.Fault.Fault, declared.step.State.State, Step.Steps}
 use Rattle.volume_text.specs.declared.fault.TextFault.TheVariants as text_fault
-use Rattle.volume_text.specs.declared.step.State.{State}
 use Rattle.volume_text.specs.declared.step.State.TheVariants.{Begin, Filling, Writing, Done}
-use Rattle.volume_text.specs.Step.{Steps}
 use Rattle.volume_text.specs.Text.{numbered, Goes, Leads, IsBadLine, IsEndCause, IsCutShort, IsRefused}
 use Rattle.volume_text.proofs.OneLine.{one_step}
 

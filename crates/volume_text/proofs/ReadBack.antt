@@ -1,17 +1,13 @@
 -- A volume that a text describes is read again as the name and the files that its lines say.
 use Rattle.std.proofs.Common.{◌≡◌, ℕ, Bool, true, false, cond, List, Option, Some, None, Result, Ok, Err, refl, sym, subst, arith, All}
-use Rattle.fv_volume.specs.declared.build.fault.BuildFault.{BuildFault}
+use Rattle.fv_volume.specs.{declared.build.fault.BuildFault.BuildFault, declared.build.volume_name.VolumeName.VolumeName}
 use Rattle.fv_volume.specs.declared.build.fault.BuildFault.TheVariants.{TooMany, Size, NoRoom, Memory}
-use Rattle.fv_volume.specs.declared.build.volume_name.VolumeName.{VolumeName}
-use Rattle.fv_volume.specs.Files.{HasWholeName}
-use Rattle.fv_volume.specs.Building.{volume_bytes, volume_fault}
+use Rattle.fv_volume.specs.{Files.HasWholeName, Building.volume_bytes, Building.volume_fault}
 use Rattle.fv_volume.specs.Reading.{IsWhole, IsReadAs, IsReadBack}
 use Rattle.fv_volume.proofs.VolumesRead.{read_as, read_back}
-use Rattle.volume_text.specs.declared.fault.Cause.{Cause}
+use Rattle.volume_text.specs.{declared.fault.Cause.Cause, declared.volume.OpenVolume.OpenVolume, Text.Says}
 use Rattle.volume_text.specs.declared.fault.Cause.TheVariants as cause
-use Rattle.volume_text.specs.declared.volume.OpenVolume.{OpenVolume}
 use Rattle.volume_text.specs.Open.{refused_by, is_in_range, built_of}
-use Rattle.volume_text.specs.Text.{Says}
 use Rattle.volume_text.proofs.Building.{ranges}
 
 -- want of memory is nothing that stands against a volume

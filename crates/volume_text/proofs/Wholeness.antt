@@ -1,15 +1,10 @@
 -- With a script in the grammar nothing is wrong at any of its lines.
-use Rattle.std.proofs.Common.{◌≡◌, ℕ, suc, ◌+◌, ◌-◌, ◌<◌, ◌≤◌, true, false, List, [], ◌∷◌, ◌++◌, length, Option, Some, None, refl, ap, ◌∙◌, subst, arith, length-append}
-use Rattle.std.specs.Prelude.{slice_get, nat_le, nat_lt, ◌==◌}
+use Rattle.std.proofs.Common.{◌≡◌, ℕ, suc, ◌+◌, ◌-◌, ◌<◌, ◌≤◌, true, false, List, [], ◌∷◌, ◌++◌, length, Option, Some, None, refl, ap, ◌∙◌, subst, arith, length-append, slice_get, nat_le, nat_lt, ◌==◌}
 use Rattle.std.specs.List.{list_all, AllByRecursion}
-use Rattle.std.proofs.lemmas.Bool.{and_parts}
-use Rattle.std.proofs.lemmas.Bool.Decides.{nat_tests}
+use Rattle.std.proofs.{lemmas.Bool.and_parts, lemmas.Bool.Decides.nat_tests}
 use Rattle.pi_base.specs.declared.phase.Phase.{Phase}
-use Rattle.act_code.specs.declared.action.Action.{Action}
-use Rattle.act_code.specs.declared.script.Script.{Script}
-use Rattle.act_code.specs.Format.{registers_in}
+use Rattle.act_code.specs.{declared.action.Action.Action, declared.script.Script.Script, Format.registers_in, ScriptReading.ends_in_ret}
 use Rattle.act_code.specs.Script.{IsSound, AreSound, IsBlock, IsInGrammar}
-use Rattle.act_code.specs.ScriptReading.{ends_in_ret}
 use Rattle.act_code.specs.Table.{format_of, code_of_action, operands}
 use Rattle.act_code.specs.Index.{names_below}
 use Rattle.source_words.specs.declared.script.script.ScriptCause.{ScriptCause}

@@ -1,12 +1,9 @@
 -- Bytes that words spell to the end of a line (own).
-use Rattle.std.specs.Prelude.{ℕ, List, [], ◌∷◌, ◌++◌, Result, Ok, Err}
-use Rattle.std.specs.List.{flat_map}
-use Rattle.hex.specs.Hex.{decode_of}
-use Rattle.hex.specs.declared.error.FromHexError.{FromHexError}
+use Rattle.std.specs.Prelude.{ℕ, List, [], ◌∷◌, ◌++◌, Result, Ok, Err, flat_map}
+use Rattle.hex.specs.{Hex.decode_of, declared.error.FromHexError.FromHexError}
 use Rattle.source_words.specs.GuidWord.{guid_of}
-use Rattle.volume_text.specs.declared.fault.Cause.{Cause}
+use Rattle.volume_text.specs.{declared.fault.Cause.Cause, Reading.◌>>=◌, Reading.there}
 use Rattle.volume_text.specs.declared.fault.Cause.TheVariants as cause
-use Rattle.volume_text.specs.Reading.{◌>>=◌, there}
 
 abbrev pub hex_answer : Result (List ℕ) FromHexError → Result (List ℕ) Cause
 hex_answer (Ok bytes) = Ok bytes

@@ -1,9 +1,7 @@
 -- The first words of lines, and the words for phases, file systems and types (own).
-use Rattle.std.specs.Prelude.{ℕ, nat_lt, bytes_eq, if◌then◌else◌, codes, List, [], ◌∷◌, Option, Some, None}
-use Rattle.std.specs.Option.{option_and_then}
+use Rattle.std.specs.Prelude.{ℕ, nat_lt, bytes_eq, if◌then◌else◌, codes, List, [], ◌∷◌, Option, Some, None, option_and_then}
 use Rattle.line_words.specs.Number.{number_of}
-use Rattle.pi_base.specs.declared.phase.Phase.{Phase}
-use Rattle.pi_base.specs.declared.phase.Phase.TheVariants.{Pei, Dxe}
+use Rattle.pi_base.specs.{declared.phase.Phase.Phase, declared.phase.Phase.TheVariants.Pei, declared.phase.Phase.TheVariants.Dxe}
 use Rattle.fv_volume.specs.declared.file_type.TheConstants.{RAW, FREEFORM, PEIM, DRIVER, COMBINED_PEIM_DRIVER, VOLUME_IMAGE, COMBINED_MM_DXE}
 use Rattle.volume_text.specs.declared.keyword.Keyword.{Keyword}
 use Rattle.volume_text.specs.declared.keyword.Keyword.TheVariants as keyword

@@ -3,23 +3,16 @@ use Rattle.std.specs.Prelude.{◌≡◌, ◌⊎◌, ℕ, ◌<◌, ◌≤◌, Lis
 use Rattle.pi_base.specs.declared.phase.Phase.{Phase}
 use Rattle.depex_code.specs.declared.depex.Depex.{Depex}
 use Rattle.depex_code.specs.Expression.{IsOfPhase, instructions, bytes_of as opcode_bytes}
-use Rattle.source_words.specs.declared.depex.fault.ExpressionFault.{ExpressionFault}
+use Rattle.source_words.specs.{declared.depex.fault.ExpressionFault.ExpressionFault, Tokens.token_of, Cause.expression_cause}
 use Rattle.source_words.specs.declared.depex.fault.ExpressionFault.TheVariants as expression_fault
-use Rattle.source_words.specs.Tokens.{token_of}
-use Rattle.source_words.specs.Cause.{expression_cause}
-use Rattle.source_words.specs.Expression.{AreOf}
+use Rattle.source_words.specs.{Expression.AreOf, Words.words}
 use Rattle.fv_volume.specs.declared.sections.section_type.TheConstants.{RAW}
-use Rattle.source_words.specs.Words.{words}
-use Rattle.volume_text.specs.declared.fault.Cause.{Cause}
+use Rattle.volume_text.specs.{declared.fault.Cause.Cause, declared.keyword.Keyword.Keyword, declared.statement.Statement.Statement}
 use Rattle.volume_text.specs.declared.fault.Cause.TheVariants as cause
-use Rattle.volume_text.specs.declared.keyword.Keyword.{Keyword}
 use Rattle.volume_text.specs.declared.keyword.Keyword.TheVariants as keyword
-use Rattle.volume_text.specs.declared.statement.Statement.{Statement}
 use Rattle.volume_text.specs.declared.statement.Statement.TheVariants as statement
-use Rattle.volume_text.specs.Keywords.{keyword_of}
-use Rattle.volume_text.specs.Reading.{◌>>=◌}
+use Rattle.volume_text.specs.{Keywords.keyword_of, Reading.◌>>=◌, Bytes.bytes_of, Bytes.guids_of}
 use Rattle.volume_text.specs.Words.{none_left, guid_at, phase_at, length_at, pad_length_at, system_at, header_at, attributes_at, place_at, size_at, chosen_at, file_type_at, section_type_at}
-use Rattle.volume_text.specs.Bytes.{bytes_of, guids_of}
 
 -- each of these is of the words behind the first
 unfoldable pub volume_at : List (List ℕ) → Result Statement Cause

@@ -1,31 +1,21 @@
 -- What is open behind some lines of a text (own): a volume with its files so far, of which the last may get sections.
 use Rattle.std.specs.Prelude.{◌≡◌, ℕ, ◌^◌, Bool, false, ◌&&◌, ◌==◌, not, nat_lt, replicate, take, bytes_eq, if◌then◌else◌, List, [], ◌∷◌, ◌++◌, length, Option, Some, None, Result, Ok, Err}
-use Rattle.std.specs.List.{list_any}
-use Rattle.std.specs.Borrow.{Bor}
-use Rattle.pi_base.specs.declared.guid.Guid.{Guid}
-use Rattle.pi_base.specs.declared.phase.Phase.{Phase}
+use Rattle.std.specs.{List.list_any, Borrow.Bor}
+use Rattle.pi_base.specs.{declared.guid.Guid.Guid, declared.phase.Phase.Phase}
 use Rattle.pi_base.specs.declared.phase.Phase.TheVariants.{Pei, Dxe}
 use Rattle.fv_volume.specs.declared.file_type.TheConstants.{PEIM, DRIVER, COMBINED_MM_DXE, PAD}
 use Rattle.fv_volume.specs.declared.sections.section_type.TheConstants.{RAW, PEI_DEPEX, DXE_DEPEX}
-use Rattle.fv_volume.specs.declared.build.new_file.NewFile.{NewFile}
-use Rattle.fv_volume.specs.declared.build.new_file.NewSection.{NewSection}
+use Rattle.fv_volume.specs.{declared.build.new_file.NewFile.NewFile, declared.build.new_file.NewSection.NewSection}
 use Rattle.fv_volume.specs.declared.build.new_file.Body.{Body}
 use Rattle.fv_volume.specs.declared.build.new_file.Body.TheVariants.{Sections, Bytes}
-use Rattle.fv_volume.specs.declared.build.attributes.FileAttributes.{FileAttributes}
-use Rattle.fv_volume.specs.Attributes.{plain_attributes}
-use Rattle.fv_volume.specs.declared.build.fault.BuildFault.{BuildFault}
+use Rattle.fv_volume.specs.{declared.build.attributes.FileAttributes.FileAttributes, Attributes.plain_attributes}
+use Rattle.fv_volume.specs.{declared.build.fault.BuildFault.BuildFault, declared.build.volume_name.VolumeName.VolumeName, Front.is_placed}
 use Rattle.fv_volume.specs.declared.build.fault.BuildFault.TheVariants as build_fault
-use Rattle.fv_volume.specs.declared.build.volume_name.VolumeName.{VolumeName}
-use Rattle.fv_volume.specs.Front.{is_placed}
 use Rattle.fv_volume.specs.Building.{volume_bytes, volume_fault}
-use Rattle.volume_text.specs.declared.volume.TheConstants.{ERASED}
-use Rattle.volume_text.specs.declared.fault.Cause.{Cause}
+use Rattle.volume_text.specs.{declared.volume.TheConstants.ERASED, declared.fault.Cause.Cause, declared.fault.Stop.Stop}
 use Rattle.volume_text.specs.declared.fault.Cause.TheVariants as cause
-use Rattle.volume_text.specs.declared.fault.Stop.{Stop}
 use Rattle.volume_text.specs.declared.fault.Stop.TheVariants as stop
-use Rattle.volume_text.specs.declared.volume.OpenVolume.{OpenVolume}
-use Rattle.volume_text.specs.Reading.{◌>>=◌, only_if}
-use Rattle.volume_text.specs.Words.{is_length, is_header}
+use Rattle.volume_text.specs.{declared.volume.OpenVolume.OpenVolume, Reading.◌>>=◌, Reading.only_if, Words.is_length, Words.is_header}
 
 abbrev pub with_first : {A : Type 0} → A → Option (List A × A) → Option (List A × A)
 with_first first None = Some ([], first)

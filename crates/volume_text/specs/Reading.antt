@@ -1,8 +1,6 @@
 -- What a call answers beside what a definition says: the value, or what is wrong, unless memory ran out.
 use Rattle.std.specs.Prelude.{◌≡◌, ℕ, ⊤, Bool, if◌then◌else◌, Option, Some, None, Result, Ok, Err}
-use Rattle.volume_text.specs.declared.fault.Cause.{Cause}
-use Rattle.volume_text.specs.declared.fault.Fault.{Fault}
-use Rattle.volume_text.specs.declared.fault.Stop.{Stop}
+use Rattle.volume_text.specs.{declared.fault.Cause.Cause, declared.fault.Fault.Fault, declared.fault.Stop.Stop}
 use Rattle.volume_text.specs.declared.fault.Stop.TheVariants as stop
 use Rattle.volume_text.specs.declared.fault.TextFault.{TextFault}
 use Rattle.volume_text.specs.declared.fault.TextFault.TheVariants as text_fault

@@ -1,19 +1,12 @@
 -- A script of which some lines are read, and the bytes that it has at its `end` (own).
 use Rattle.std.specs.Prelude.{◌≡◌, ℕ, List, [], ◌∷◌, ◌++◌, slice_get, Option, Some, None, Result, Ok, Err}
 use Rattle.pi_base.specs.declared.phase.Phase.{Phase}
-use Rattle.act_code.specs.declared.action.Action.{Action}
-use Rattle.act_code.specs.declared.script.Script.{Script}
-use Rattle.source_words.specs.declared.script.fault.LineFault.{LineFault}
-use Rattle.source_words.specs.declared.script.script.ScriptCause.TheVariants.{NoBlock}
-use Rattle.source_words.specs.declared.script.script.ScriptFault.{ScriptFault}
+use Rattle.act_code.specs.{declared.action.Action.Action, declared.script.Script.Script}
+use Rattle.source_words.specs.{declared.script.fault.LineFault.LineFault, declared.script.script.ScriptCause.TheVariants.NoBlock}
+use Rattle.source_words.specs.{declared.script.script.ScriptFault.ScriptFault, Action.action_of, Script.IsUnfit, Script.IsWhole}
 use Rattle.source_words.specs.declared.script.script.ScriptFault.TheVariants.{Bad, TooLong, Memory}
-use Rattle.source_words.specs.Action.{action_of}
-use Rattle.source_words.specs.Script.{IsUnfit, IsWhole}
-use Rattle.volume_text.specs.declared.fault.Cause.{Cause}
+use Rattle.volume_text.specs.{declared.fault.Cause.Cause, declared.fault.Fault.Fault, Reading.◌>>=◌, Open.last_of}
 use Rattle.volume_text.specs.declared.fault.Cause.TheVariants as cause
-use Rattle.volume_text.specs.declared.fault.Fault.{Fault}
-use Rattle.volume_text.specs.Reading.{◌>>=◌}
-use Rattle.volume_text.specs.Open.{last_of}
 
 abbrev pub last_block : List (List Action) → Option (List (List Action) × List Action)
 last_block blocks = last_of blocks

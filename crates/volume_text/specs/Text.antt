@@ -2,16 +2,11 @@
 use Rattle.std.specs.Prelude.{◌≡◌, ◌⊎◌, ℕ, ◌+◌, ⊤, Bool, true, false, ◌==◌, if◌then◌else◌, List, [], ◌∷◌, ◌++◌, length, map, Result, Ok, Err}
 use Rattle.line_words.specs.Line.{lines}
 use Rattle.source_words.specs.Words.{words}
-use Rattle.volume_text.specs.declared.fault.Cause.{Cause}
-use Rattle.volume_text.specs.declared.fault.Cause.TheVariants.{NoVolume, NoEnd}
-use Rattle.volume_text.specs.declared.fault.Fault.{Fault}
-use Rattle.volume_text.specs.declared.fault.TextFault.{TextFault}
+use Rattle.volume_text.specs.{declared.fault.Cause.Cause, declared.fault.Cause.TheVariants.NoVolume, declared.fault.Cause.TheVariants.NoEnd}
+use Rattle.volume_text.specs.{declared.fault.Fault.Fault, declared.fault.TextFault.TextFault, declared.step.State.State}
 use Rattle.volume_text.specs.declared.fault.TextFault.TheVariants as text_fault
-use Rattle.volume_text.specs.declared.step.State.{State}
-use Rattle.volume_text.specs.declared.step.State.TheVariants.{Begin, Done}
-use Rattle.volume_text.specs.Step.{Steps}
-use Rattle.volume_text.specs.declared.volume.OpenVolume.{OpenVolume}
-use Rattle.volume_text.specs.Volume.{SaysOpen, SaysVolume}
+use Rattle.volume_text.specs.{declared.step.State.TheVariants.Begin, declared.step.State.TheVariants.Done, Step.Steps}
+use Rattle.volume_text.specs.{declared.volume.OpenVolume.OpenVolume, Volume.SaysOpen, Volume.SaysVolume}
 
 abbrev pub is_comment : List ℕ → Bool
 is_comment [] = true

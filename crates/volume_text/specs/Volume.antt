@@ -1,21 +1,14 @@
 -- What lines say, as whole lists (own): the blocks of a script, the files of a volume, and a volume.
 use Rattle.std.specs.Prelude.{◌≡◌, ℕ, true, false, List, [], ◌∷◌, ◌++◌, Option, Some, None, Ok}
-use Rattle.pi_base.specs.declared.guid.Guid.{Guid}
-use Rattle.fv_volume.specs.declared.build.volume_name.VolumeName.{VolumeName}
-use Rattle.fv_volume.specs.Front.{is_placed}
-use Rattle.pi_base.specs.declared.phase.Phase.{Phase}
+use Rattle.pi_base.specs.{declared.guid.Guid.Guid, declared.phase.Phase.Phase}
+use Rattle.fv_volume.specs.{declared.build.volume_name.VolumeName.VolumeName, Front.is_placed}
 use Rattle.fv_volume.specs.declared.sections.section_type.TheConstants.{RAW, VOLUME_IMAGE}
-use Rattle.fv_volume.specs.declared.build.new_file.NewFile.{NewFile}
-use Rattle.fv_volume.specs.declared.build.attributes.FileAttributes.{FileAttributes}
-use Rattle.act_code.specs.declared.action.Action.{Action}
-use Rattle.act_code.specs.Script.{IsScript}
-use Rattle.volume_text.specs.declared.statement.Statement.{Statement}
+use Rattle.fv_volume.specs.{declared.build.new_file.NewFile.NewFile, declared.build.attributes.FileAttributes.FileAttributes}
+use Rattle.act_code.specs.{declared.action.Action.Action, Script.IsScript}
+use Rattle.volume_text.specs.{declared.statement.Statement.Statement, declared.volume.OpenVolume.OpenVolume, Line.Reads}
 use Rattle.volume_text.specs.declared.statement.Statement.TheVariants.{Volume, Name, File, Pad, Body, Section, Depex, Script, Block, End, Action as ActionLine}
-use Rattle.volume_text.specs.declared.volume.OpenVolume.{OpenVolume}
-use Rattle.volume_text.specs.Line.{Reads}
 use Rattle.volume_text.specs.Open.{holding, with_bytes, new_file, pad_file, depex_type, has_part, has_script, built_of}
-use Rattle.volume_text.specs.Script.{action_at, script_of}
-use Rattle.volume_text.specs.Step.{section_of}
+use Rattle.volume_text.specs.{Script.action_at, Script.script_of, Step.section_of}
 
 -- the line says this
 abbrev pub SaysLine : List ℕ → Statement → Type 0

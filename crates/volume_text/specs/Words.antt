@@ -1,23 +1,16 @@
 -- The words of a line, each as the value that it shows, and the words behind it (own).
 use Rattle.std.specs.Prelude.{ℕ, ◌^◌, Bool, true, false, nat_le, nat_lt, bytes_eq, codes, if◌then◌else◌, ◌&&◌, List, [], ◌∷◌, Result, Ok, Err}
-use Rattle.pi_base.specs.declared.guid.Guid.{Guid}
-use Rattle.pi_base.specs.declared.phase.Phase.{Phase}
-use Rattle.fv_volume.specs.declared.build.attributes.Alignment.{Alignment}
-use Rattle.fv_volume.specs.declared.build.attributes.Alignment.TheVariants.{Byte}
-use Rattle.fv_volume.specs.declared.build.attributes.FileAttributes.{FileAttributes}
-use Rattle.fv_volume.specs.Attributes.{alignment_of}
-use Rattle.fv_volume.specs.declared.volume_header.TheConstants.{LEAST_HEADER_LEN}
-use Rattle.fv_volume.specs.declared.build.volume_header.TheConstants.{HEADER_LEN}
+use Rattle.pi_base.specs.{declared.guid.Guid.Guid, declared.phase.Phase.Phase}
+use Rattle.fv_volume.specs.{declared.build.attributes.Alignment.Alignment, declared.build.attributes.Alignment.TheVariants.Byte}
+use Rattle.fv_volume.specs.{declared.build.attributes.FileAttributes.FileAttributes, Attributes.alignment_of}
+use Rattle.fv_volume.specs.{declared.volume_header.TheConstants.LEAST_HEADER_LEN, declared.build.volume_header.TheConstants.HEADER_LEN}
 use Rattle.fv_volume.specs.declared.build.volume_name.TheConstants.{EXT_AT, EXT_HEADER_LEN}
-use Rattle.fv_volume.specs.declared.build.volume.TheConstants.{MOST_LEN}
-use Rattle.fv_volume.specs.Header.{is_header_length}
+use Rattle.fv_volume.specs.{declared.build.volume.TheConstants.MOST_LEN, Header.is_header_length}
 use Rattle.line_words.specs.Number.{number_of}
 use Rattle.source_words.specs.GuidWord.{guid_of}
-use Rattle.volume_text.specs.declared.word.TheConstants.{MOST_PAD}
-use Rattle.volume_text.specs.declared.fault.Cause.{Cause}
+use Rattle.volume_text.specs.{declared.word.TheConstants.MOST_PAD, declared.fault.Cause.Cause}
 use Rattle.volume_text.specs.declared.fault.Cause.TheVariants as cause
-use Rattle.fv_volume.specs.declared.build.file_system.FileSystem.{FileSystem}
-use Rattle.fv_volume.specs.declared.build.file_system.FileSystem.TheVariants.{Ffs2}
+use Rattle.fv_volume.specs.{declared.build.file_system.FileSystem.FileSystem, declared.build.file_system.FileSystem.TheVariants.Ffs2}
 use Rattle.volume_text.specs.Keywords.{phase_of, system_of, file_type_of, byte_of}
 use Rattle.volume_text.specs.Reading.{◌>>=◌, only_if, there}
 

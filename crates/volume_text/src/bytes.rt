@@ -1,9 +1,7 @@
 // Bytes that words spell to the end of a line.
-ghost use Rattle.std.specs.Prelude.{◌≡◌, IfOk};
-ghost use Rattle.std.specs.List.{flat_map};
+ghost use Rattle.std.specs.Prelude.{◌≡◌, IfOk, flat_map};
 ghost use Rattle.source_words.specs.Words.{words};
-ghost use Rattle.volume_text.specs.Reading.{Gives};
-ghost use Rattle.volume_text.specs.Bytes.{bytes_of, guids_of};
+ghost use Rattle.volume_text.specs.{Reading.Gives, Bytes.bytes_of, Bytes.guids_of};
 
 use crate::fault::{Cause, Stop};
 use hex::FromHexError;

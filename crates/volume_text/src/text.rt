@@ -2,8 +2,7 @@
 ghost use Rattle.std.specs.Prelude.{◌≡◌, ◌+◌, ◌<◌, ◌^◌, length, IfOk, IfErr};
 ghost use Rattle.line_words.specs.Line.{lines};
 ghost use Rattle.volume_text.specs.Text.{is_passed_over, numbered, Says, Leads, Goes, Moves, IsRefused};
-ghost use Rattle.volume_text.specs.Reading.{Answers};
-ghost use Rattle.volume_text.specs.Step.{IsSaidState};
+ghost use Rattle.volume_text.specs.{Reading.Answers, Step.IsSaidState};
 
 use crate::fault::{Cause, Fault, TextFault};
 use crate::step::{State, step};

@@ -1,17 +1,11 @@
 -- A part comes behind the others: there is room, and it has a place of its own.
-use Rattle.std.proofs.Common.{◌≡◌, ℕ, zero, suc, ◌+◌, ◌≤◌, ◌<◌, Bool, true, false, ◌||◌, List, [], ◌∷◌, ◌++◌, length, Some, None, arith, ap, refl, sym, subst, ◌∙◌, inl, inr, length-append}
-use Rattle.std.specs.Prelude.{slice_get, ◌⊎◌, ◌==◌}
-use Rattle.std.specs.Bool.{nat_eq}
+use Rattle.std.proofs.Common.{◌≡◌, ℕ, zero, suc, ◌+◌, ◌≤◌, ◌<◌, Bool, true, false, ◌||◌, List, [], ◌∷◌, ◌++◌, length, Some, None, arith, ap, refl, sym, subst, ◌∙◌, inl, inr, length-append, slice_get, ◌⊎◌, ◌==◌, nat_eq}
 use Rattle.std.specs.List.{IsDistinct, AllByRecursion, list_any}
-use Rattle.std.proofs.lemmas.Bool.Decides.{eqb_tells, Decides-eqb}
-use Rattle.std.proofs.lemmas.Option.{slice_get_within}
+use Rattle.std.proofs.{lemmas.Bool.Decides.eqb_tells, lemmas.Bool.Decides.Decides-eqb, lemmas.Option.slice_get_within}
 use Rattle.std.proofs.lemmas.Map.Steps.{length-le_from_distinct_below}
-use Rattle.wait_index.specs.PlaceFlags.{flag}
+use Rattle.wait_index.specs.{PlaceFlags.flag, declared.verdict.Verdict.Verdict, declared.places.Places.Places, Discovery.new_standing}
 use Rattle.boot_model.specs.Licence.{AllDiffer}
 use Rattle.mod_catalog.specs.Parts.{has_number}
-use Rattle.wait_index.specs.declared.verdict.Verdict.{Verdict}
-use Rattle.wait_index.specs.declared.places.Places.{Places}
-use Rattle.wait_index.specs.Discovery.{new_standing}
 use Rattle.wait_index.specs.Places.{order_of, standing_of, IsInOrder, AreJudged}
 use Rattle.wait_index.specs.Standing.{is_ready, is_later}
 use Rattle.wait_index.proofs.Standings.{is_within}

@@ -1,18 +1,12 @@
 -- The parts that wait and push a GUID, in the index and in the machine.
-use Rattle.std.proofs.Common.{◌≡◌, ℕ, Bool, true, false, not, ◌&&◌, ◌||◌, cond, List, [], ◌∷◌, length, ap, refl, ◌∙◌}
-use Rattle.std.specs.Prelude.{filter, ◌==◌}
+use Rattle.std.proofs.Common.{◌≡◌, ℕ, Bool, true, false, not, ◌&&◌, ◌||◌, cond, List, [], ◌∷◌, length, ap, refl, ◌∙◌, filter, ◌==◌}
 use Rattle.std.proofs.lemmas.Bool.Decides.{Decides-eqb}
-use Rattle.pi_base.specs.declared.guid.Guid.{Guid}
-use Rattle.pi_base.specs.declared.phase.Phase.{Phase}
+use Rattle.pi_base.specs.{declared.guid.Guid.Guid, declared.phase.Phase.Phase}
 use Rattle.pi_base.specs.declared.phase.Phase.TheVariants.{Pei, Dxe}
-use Rattle.mod_catalog.specs.declared.catalogue.Catalog.{Catalog}
-use Rattle.boot_model.specs.DxeChoice.{is_waiting, discovered_order}
-use Rattle.boot_model.specs.DxeMachine.{DxeMachine}
+use Rattle.mod_catalog.specs.{declared.catalogue.Catalog.Catalog, Parts.has_number}
+use Rattle.boot_model.specs.{DxeChoice.is_waiting, DxeChoice.discovered_order, DxeMachine.DxeMachine, PeiMachine.PeiMachine}
 use Rattle.boot_model.specs.EvaluationBound.{part_pushes, pei_asked, dxe_asked}
-use Rattle.mod_catalog.specs.Parts.{has_number}
-use Rattle.boot_model.specs.PeiMachine.{PeiMachine}
-use Rattle.wait_index.specs.declared.index.WaitIndex.{WaitIndex}
-use Rattle.wait_index.specs.Dispatch.{StandsForPei, StandsForDxe}
+use Rattle.wait_index.specs.{declared.index.WaitIndex.WaitIndex, Dispatch.StandsForPei, Dispatch.StandsForDxe}
 use Rattle.wait_index.specs.Index.{order_in, waits_in, asked}
 
 here_first : (x : ℕ) (xs : List ℕ) → has_number (x ∷ xs) x ≡ true

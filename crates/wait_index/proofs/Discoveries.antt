@@ -1,20 +1,13 @@
 -- Parts come one after the other.
-use Rattle.std.proofs.Common.{◌≡◌, ℕ, zero, suc, ◌+◌, ◌≤◌, ◌<◌, Bool, true, false, ◌||◌, List, [], ◌∷◌, ◌++◌, length, take, drop, get_or, arith, ap, refl, sym, subst, ◌∙◌, inl, inr, append_assoc}
-use Rattle.std.specs.Prelude.{◌==◌}
+use Rattle.std.proofs.Common.{◌≡◌, ℕ, zero, suc, ◌+◌, ◌≤◌, ◌<◌, Bool, true, false, ◌||◌, List, [], ◌∷◌, ◌++◌, length, take, drop, get_or, arith, ap, refl, sym, subst, ◌∙◌, inl, inr, append_assoc, ◌==◌}
 use Rattle.std.proofs.lemmas.Bool.Decides.{eqb_tells}
-use Rattle.pi_base.specs.declared.phase.Phase.{Phase}
-use Rattle.mod_catalog.specs.declared.catalogue.Catalog.{Catalog}
+use Rattle.pi_base.specs.{declared.phase.Phase.Phase, Lists.Each}
+use Rattle.mod_catalog.specs.{declared.catalogue.Catalog.Catalog, Parts.has_number, Parts.part_at}
 use Rattle.boot_model.specs.Licence.{AllDiffer}
-use Rattle.pi_base.specs.Lists.{Each}
-use Rattle.mod_catalog.specs.Parts.{has_number, part_at}
-use Rattle.wait_index.specs.declared.installed.Installed.{Installed}
-use Rattle.wait_index.specs.declared.places.Places.{Places}
-use Rattle.wait_index.specs.declared.index.WaitIndex.{WaitIndex}
+use Rattle.wait_index.specs.{declared.installed.Installed.Installed, declared.places.Places.Places, declared.index.WaitIndex.WaitIndex}
 use Rattle.wait_index.specs.Discovery.{new_standing, opens, IsNew, HaveCome}
-use Rattle.wait_index.specs.Index.{AreWatched, IsIndex}
-use Rattle.wait_index.specs.Installed.{is_there}
+use Rattle.wait_index.specs.{Index.AreWatched, Index.IsIndex, Installed.is_there, Verdict.verdict_of}
 use Rattle.wait_index.specs.Places.{order_of, standing_of, AreJudged}
-use Rattle.wait_index.specs.Verdict.{verdict_of}
 use Rattle.wait_index.proofs.Arrivals.{differs_from}
 
 split_at : (xs : List ℕ) (i : ℕ) → i < length xs → xs ≡ take i xs ++ get_or xs i 0 ∷ drop (i + 1) xs

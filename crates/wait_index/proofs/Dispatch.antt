@@ -1,30 +1,18 @@
 -- What is eligible in an index that stands for a machine is what is eligible in the machine.
-use Rattle.std.proofs.Common.{◌≡◌, ℕ, zero, suc, Bool, true, false, not, ◌&&◌, ◌||◌, cond, List, [], ◌∷◌, ◌++◌, take, drop, Option, Some, None, ap, refl, ◌∙◌, inl, inr}
-use Rattle.std.proofs.lemmas.List.{append-nil}
+use Rattle.std.proofs.Common.{◌≡◌, ℕ, zero, suc, Bool, true, false, not, ◌&&◌, ◌||◌, cond, List, [], ◌∷◌, ◌++◌, take, drop, Option, Some, None, ap, refl, ◌∙◌, inl, inr, append-nil, find, filter, is_some, ◌⊎◌, ◌==◌}
 use Rattle.std.proofs.lemmas.Bool.Decides.{Decides-eqb}
-use Rattle.std.specs.Prelude.{find, filter, is_some, ◌⊎◌, ◌==◌}
 use Rattle.std.specs.List.{list_all}
-use Rattle.pi_base.specs.declared.guid.Guid.{Guid}
-use Rattle.pi_base.specs.declared.phase.Phase.{Phase}
-use Rattle.pi_base.specs.declared.phase.Phase.TheVariants.{Pei, Dxe}
-use Rattle.pi_base.specs.GuidMap.{value_of}
-use Rattle.boot_model.specs.declared.known_guid.TheConstants.{ARCHITECTURAL}
-use Rattle.mod_catalog.specs.declared.catalogue.Catalog.{Catalog}
-use Rattle.mod_catalog.specs.declared.catalogue.Part.{Part}
-use Rattle.mod_catalog.specs.declared.catalogue.PartExpr.{PartExpr}
+use Rattle.pi_base.specs.{declared.guid.Guid.Guid, declared.phase.Phase.Phase}
+use Rattle.pi_base.specs.{declared.phase.Phase.TheVariants.Pei, declared.phase.Phase.TheVariants.Dxe, GuidMap.value_of, Lists.EachPair}
+use Rattle.boot_model.specs.{declared.known_guid.TheConstants.ARCHITECTURAL, DxeMachine.DxeMachine, PeiChoice.rotated, PeiChoice.next_peim}
+use Rattle.mod_catalog.specs.{declared.catalogue.Catalog.Catalog, declared.catalogue.Part.Part, declared.catalogue.PartExpr.PartExpr}
 use Rattle.mod_catalog.specs.declared.catalogue.PartExpr.TheVariants as E
 use Rattle.boot_model.specs.DxeChoice.{is_waiting, is_unrequested, is_eligible_driver, first_eligible, driver_may_start, lets_driver_start}
-use Rattle.boot_model.specs.DxeMachine.{DxeMachine}
 use Rattle.boot_model.specs.Eligible.{depex_holds, lets_start, may_start, may_start_again, is_eligible}
-use Rattle.store_model.specs.HandleState.{HandleState, has_protocol}
-use Rattle.pi_base.specs.Lists.{EachPair}
+use Rattle.store_model.specs.{HandleState.HandleState, HandleState.has_protocol, Service.Install.has_ppi, StoreState.StoreState}
 use Rattle.mod_catalog.specs.Parts.{has_number, part_at}
-use Rattle.boot_model.specs.PeiChoice.{rotated, next_peim}
 use Rattle.boot_model.specs.PeiMachine.{PeiMachine}
-use Rattle.store_model.specs.Service.Install.{has_ppi}
-use Rattle.store_model.specs.StoreState.{StoreState}
-use Rattle.wait_index.specs.declared.verdict.Verdict.TheVariants.{Yes}
-use Rattle.wait_index.specs.declared.index.WaitIndex.{WaitIndex}
+use Rattle.wait_index.specs.{declared.verdict.Verdict.TheVariants.Yes, declared.index.WaitIndex.WaitIndex}
 use Rattle.wait_index.specs.Dispatch.{StandsForPei, StandsForDxe}
 use Rattle.wait_index.specs.Index.{IsIndex, order_in, waits_in, is_open_in, again_in, has_in, is_eligible_in}
 use Rattle.wait_index.specs.Verdict.{verdict_by, expression_verdict, verdict_in, verdict_of, lets, has_all, holds_by}

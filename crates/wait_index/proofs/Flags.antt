@@ -1,7 +1,5 @@
 -- Flags that are set and taken back, and blocks that are passed over.
-use Rattle.std.proofs.Common.{◌≡◌, ℕ, zero, suc, ◌+◌, ◌*◌, ◌/◌, ◌≤◌, ◌<◌, Bool, true, false, ◌||◌, ◌&&◌, List, [], ◌∷◌, length, arith, ap, refl, subst, ◌∙◌, Option, Some, None}
-use Rattle.std.proofs.Common.{inl, inr}
-use Rattle.std.specs.Prelude.{slice_set, replicate, IfNone}
+use Rattle.std.proofs.Common.{◌≡◌, ℕ, zero, suc, ◌+◌, ◌*◌, ◌/◌, ◌≤◌, ◌<◌, Bool, true, false, ◌||◌, ◌&&◌, List, [], ◌∷◌, length, arith, ap, refl, subst, ◌∙◌, Option, Some, None, inl, inr, slice_set, replicate, IfNone}
 use Rattle.std.proofs.lemmas.Bool.Decides.{leb_tells}
 use Rattle.wait_index.specs.PlaceFlags.{flag, count, either, AreMarked, IsFirst}
 

@@ -1,28 +1,14 @@
 -- The index as it is made: no part has a place, nothing is installed, and each GUID that is pushed is watched.
-use Rattle.std.proofs.Common.{◌≡◌, ℕ, zero, suc, ◌+◌, ◌<◌, Bool, true, false, ◌||◌, List, [], ◌∷◌, ◌++◌, length, take, get_or, Option, Some, None, arith, ap, refl, sym, subst, ◌∙◌}
-use Rattle.std.specs.Prelude.{slice_get, unwrap_or, option_map, replicate}
-use Rattle.std.specs.Option.{option_and_then}
-use Rattle.pi_base.specs.declared.guid.Guid.{Guid}
-use Rattle.pi_base.specs.declared.phase.Phase.{Phase}
-use Rattle.pi_base.specs.declared.phase.Phase.TheVariants.{Dxe}
-use Rattle.pi_base.specs.GuidMap.{value_of}
-use Rattle.wait_index.specs.PlaceFlags.{flag}
-use Rattle.wait_index.proofs.Flags.{none_set}
-use Rattle.boot_model.specs.declared.known_guid.TheConstants.{ARCHITECTURAL}
-use Rattle.mod_catalog.specs.declared.catalogue.Catalog.{Catalog}
-use Rattle.mod_catalog.specs.declared.catalogue.Module.{Module}
-use Rattle.boot_model.specs.EvaluationBound.{expression_pushes, part_pushes}
-use Rattle.pi_base.specs.Guids.{same_guid}
-use Rattle.pi_base.specs.Lists.{EachPair}
-use Rattle.mod_catalog.specs.WellFormed.{part_of}
-use Rattle.wait_index.specs.declared.installed.Installed.{Installed}
-use Rattle.wait_index.specs.declared.places.Places.{Places}
-use Rattle.wait_index.specs.declared.watch.Watch.{Watch}
-use Rattle.wait_index.specs.Index.{AreWatched, watchers_at}
-use Rattle.wait_index.specs.Installed.{is_there, slot_says}
+use Rattle.std.proofs.Common.{◌≡◌, ℕ, zero, suc, ◌+◌, ◌<◌, Bool, true, false, ◌||◌, List, [], ◌∷◌, ◌++◌, length, take, get_or, Option, Some, None, arith, ap, refl, sym, subst, ◌∙◌, slice_get, unwrap_or, option_map, replicate, option_and_then}
+use Rattle.pi_base.specs.{declared.guid.Guid.Guid, declared.phase.Phase.Phase, declared.phase.Phase.TheVariants.Dxe, GuidMap.value_of}
+use Rattle.wait_index.specs.{PlaceFlags.flag, declared.installed.Installed.Installed, declared.places.Places.Places}
+use Rattle.wait_index.proofs.{Flags.none_set, Noting.module_pushes, Noting.noted_watchers}
+use Rattle.boot_model.specs.{declared.known_guid.TheConstants.ARCHITECTURAL, EvaluationBound.expression_pushes, EvaluationBound.part_pushes}
+use Rattle.mod_catalog.specs.{declared.catalogue.Catalog.Catalog, declared.catalogue.Module.Module, WellFormed.part_of}
+use Rattle.pi_base.specs.{Guids.same_guid, Lists.EachPair}
+use Rattle.wait_index.specs.{declared.watch.Watch.Watch, Index.AreWatched, Index.watchers_at, Installed.is_there, Installed.slot_says}
 use Rattle.wait_index.specs.Places.{order_of, standing_of, unknown, IsInOrder}
 use Rattle.wait_index.specs.Watching.{IsNumbering, Covers, AreNoted, module_code, code_pushes, modules_push, noted_from}
-use Rattle.wait_index.proofs.Noting.{module_pushes, noted_watchers}
 
 all_unknown : (n number : ℕ) → unwrap_or (slice_get (replicate n unknown) number) unknown ≡ unknown
 all_unknown zero number = refl

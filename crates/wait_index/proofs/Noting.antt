@@ -1,30 +1,18 @@
 -- The watchers of GUIDs, as their lists grow.
-use Rattle.std.proofs.Common.{◌≡◌, ℕ, zero, suc, ◌+◌, ◌-◌, ◌≤◌, ◌<◌, Bool, true, false, ◌||◌, cond, List, [], ◌∷◌, ◌++◌, length, get_or, Option, Some, None, arith, ap, refl, sym, ◌∙◌, inl, inr, length-append, append_assoc}
-use Rattle.std.proofs.lemmas.List.{append-nil}
-use Rattle.std.specs.Prelude.{◌==◌, slice_get, slice_set, unwrap_or, option_map, filter, Result, Ok, Err, OnOk}
-use Rattle.std.specs.Option.{option_and_then}
+use Rattle.std.proofs.Common.{◌≡◌, ℕ, zero, suc, ◌+◌, ◌-◌, ◌≤◌, ◌<◌, Bool, true, false, ◌||◌, cond, List, [], ◌∷◌, ◌++◌, length, get_or, Option, Some, None, arith, ap, refl, sym, ◌∙◌, inl, inr, length-append, append_assoc, append-nil, ◌==◌, slice_get, slice_set, unwrap_or, option_map, filter, Result, Ok, Err, OnOk, option_and_then}
 use Rattle.std.proofs.lemmas.Bool.Decides.{eqb_tells}
-use Rattle.pi_base.specs.declared.guid.Guid.{Guid}
-use Rattle.pi_base.specs.declared.phase.Phase.{Phase}
+use Rattle.pi_base.specs.{declared.guid.Guid.Guid, declared.phase.Phase.Phase, GuidMap.value_of, Guids.same_guid, Lists.numbers}
 use Rattle.depex_code.specs.declared.opcode.Opcode.{Opcode}
 use Rattle.depex_code.specs.declared.opcode.Opcode.TheVariants as O
 use Rattle.depex_code.specs.declared.depex.Depex.TheVariants as D
 use Rattle.depex_code.specs.Tree.{DepexTree, True, False, Push, Not, And, Or, postfix}
-use Rattle.pi_base.specs.GuidMap.{value_of}
-use Rattle.mod_catalog.specs.declared.catalogue.Catalog.{Catalog}
-use Rattle.mod_catalog.specs.declared.catalogue.Module.{Module}
-use Rattle.mod_catalog.specs.declared.catalogue.Part.{Part}
-use Rattle.mod_catalog.specs.declared.catalogue.PartExpr.{PartExpr}
+use Rattle.mod_catalog.specs.{declared.catalogue.Catalog.Catalog, declared.catalogue.Module.Module, declared.catalogue.Part.Part}
+use Rattle.mod_catalog.specs.{declared.catalogue.PartExpr.PartExpr, Parts.has_number, WellFormed.part_of}
 use Rattle.mod_catalog.specs.declared.catalogue.PartExpr.TheVariants as E
 use Rattle.boot_model.specs.EvaluationBound.{tree_pushes, expression_pushes, part_pushes}
-use Rattle.pi_base.specs.Guids.{same_guid}
-use Rattle.pi_base.specs.Lists.{numbers}
-use Rattle.mod_catalog.specs.Parts.{has_number}
-use Rattle.mod_catalog.specs.WellFormed.{part_of}
 use Rattle.wait_index.specs.Index.{watchers_at, watchers_of}
 use Rattle.wait_index.specs.Watching.{opcode_pushes, code_pushes, code_in, part_code, module_code, is_one, ends_with, noted, noted_by, noted_from, AreApart, AreNoted}
-use Rattle.wait_index.proofs.Truth.{one_guid}
-use Rattle.wait_index.proofs.Arrivals.{has_at, last_one}
+use Rattle.wait_index.proofs.{Truth.one_guid, Arrivals.has_at, Arrivals.last_one}
 
 pub on_ok : {A E : Type 0} (r : Result A E) (P Q : Type 0) → (P → Q) → OnOk r P → OnOk r Q
 on_ok (Ok a) P Q f p = f p

@@ -1,12 +1,7 @@
 -- A GUID has a new slot, which nobody watches yet.
-use Rattle.std.proofs.Common.{◌≡◌, ℕ, zero, suc, ◌+◌, Bool, true, false, cond, List, [], ◌∷◌, ◌++◌, length, Some, arith, ap, refl, sym, subst, ◌∙◌, inl, inr, length-append}
-use Rattle.std.specs.Prelude.{◌⊎◌}
-use Rattle.pi_base.specs.declared.guid.Guid.{Guid}
-use Rattle.pi_base.specs.GuidMap.{value_of, IsPut}
-use Rattle.pi_base.specs.Guids.{same_guid}
-use Rattle.wait_index.specs.declared.watch.Watch.{Watch}
-use Rattle.wait_index.specs.Index.{watchers_at}
-use Rattle.wait_index.specs.Watching.{IsNumbering}
+use Rattle.std.proofs.Common.{◌≡◌, ℕ, zero, suc, ◌+◌, Bool, true, false, cond, List, [], ◌∷◌, ◌++◌, length, Some, arith, ap, refl, sym, subst, ◌∙◌, inl, inr, length-append, ◌⊎◌}
+use Rattle.pi_base.specs.{declared.guid.Guid.Guid, GuidMap.value_of, GuidMap.IsPut, Guids.same_guid}
+use Rattle.wait_index.specs.{declared.watch.Watch.Watch, Index.watchers_at, Watching.IsNumbering}
 use Rattle.wait_index.proofs.Truth.{one_guid, same_self}
 
 either_way : (b : Bool) → (b ≡ true) ⊎ (b ≡ false)

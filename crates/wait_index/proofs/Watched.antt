@@ -1,33 +1,18 @@
 -- A GUID came or went: what that changes, and how much has to be evaluated for it.
-use Rattle.std.proofs.Common.{◌≡◌, ℕ, zero, suc, ◌+◌, ◌≤◌, ◌<◌, Bool, true, false, ◌&&◌, ◌||◌, cond, List, [], ◌∷◌, length, Option, Some, None, arith, ap, refl, sym, subst, ◌∙◌, inl, inr}
-use Rattle.std.specs.Prelude.{slice_get, slice_set, filter, is_some, unwrap_or, ◌⊎◌, ◌==◌}
-use Rattle.std.specs.Bool.{nat_eq}
-use Rattle.std.specs.List.{IsDistinct, AllByRecursion}
-use Rattle.std.specs.Set.{is_member}
-use Rattle.std.proofs.lemmas.Bool.Decides.{eqb_tells, Decides-eqb}
-use Rattle.std.proofs.lemmas.Cmp.{nat_eq_equiv}
+use Rattle.std.proofs.Common.{◌≡◌, ℕ, zero, suc, ◌+◌, ◌≤◌, ◌<◌, Bool, true, false, ◌&&◌, ◌||◌, cond, List, [], ◌∷◌, length, Option, Some, None, arith, ap, refl, sym, subst, ◌∙◌, inl, inr, slice_get, slice_set, filter, is_some, unwrap_or, ◌⊎◌, ◌==◌, nat_eq}
+use Rattle.std.specs.{List.IsDistinct, List.AllByRecursion, Set.is_member}
+use Rattle.std.proofs.{lemmas.Bool.Decides.eqb_tells, lemmas.Bool.Decides.Decides-eqb, lemmas.Cmp.nat_eq_equiv}
 use Rattle.std.proofs.lemmas.Map.Made.{length-le_from_is_member, is_member-filter}
-use Rattle.pi_base.specs.declared.guid.Guid.{Guid}
-use Rattle.pi_base.specs.declared.phase.Phase.{Phase}
-use Rattle.pi_base.specs.GuidMap.{value_of}
-use Rattle.wait_index.specs.PlaceFlags.{flag}
-use Rattle.wait_index.proofs.Flags.{flag_here, flag_other}
-use Rattle.mod_catalog.specs.declared.catalogue.Catalog.{Catalog}
-use Rattle.boot_model.specs.EvaluationBound.{part_pushes}
-use Rattle.pi_base.specs.Guids.{same_guid}
-use Rattle.boot_model.specs.declared.known_guid.TheConstants.{ARCHITECTURAL}
+use Rattle.pi_base.specs.{declared.guid.Guid.Guid, declared.phase.Phase.Phase, GuidMap.value_of, Guids.same_guid}
+use Rattle.wait_index.specs.{PlaceFlags.flag, declared.installed.Installed.Installed, declared.places.Places.Places}
+use Rattle.wait_index.proofs.{Flags.flag_here, Flags.flag_other, Standings.is_within, Truth.one_guid, Truth.verdict_same}
+use Rattle.mod_catalog.specs.{declared.catalogue.Catalog.Catalog, Parts.has_number}
+use Rattle.boot_model.specs.{EvaluationBound.part_pushes, declared.known_guid.TheConstants.ARCHITECTURAL}
 use Rattle.pi_base.specs.Lists.{EachPair, numbers}
-use Rattle.mod_catalog.specs.Parts.{has_number}
-use Rattle.wait_index.specs.declared.installed.Installed.{Installed}
-use Rattle.wait_index.specs.declared.places.Places.{Places}
-use Rattle.wait_index.specs.declared.index.WaitIndex.{WaitIndex}
+use Rattle.wait_index.specs.{declared.index.WaitIndex.WaitIndex, Installed.is_there, Installed.slot_says, Rouse.IsRoused, Rouse.is_asked}
 use Rattle.wait_index.specs.Index.{AreWatched, IsIndex, asked, order_in, waits_in, watchers_of, watchers_at}
-use Rattle.wait_index.specs.Installed.{is_there, slot_says}
 use Rattle.wait_index.specs.Places.{order_of, standing_of, unknown, AreJudged}
-use Rattle.wait_index.specs.Rouse.{IsRoused, is_asked}
 use Rattle.wait_index.specs.Verdict.{verdict_of}
-use Rattle.wait_index.proofs.Standings.{is_within}
-use Rattle.wait_index.proofs.Truth.{one_guid, verdict_same}
 
 either_way : (b : Bool) → (b ≡ true) ⊎ (b ≡ false)
 either_way true = inl refl

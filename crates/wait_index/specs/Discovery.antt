@@ -1,14 +1,9 @@
 -- The parts of a volume come: each waits, and a driver with SOR is closed until it is requested.
 use Rattle.std.specs.Prelude.{◌≡◌, ℕ, Bool, true, false, not, List, ◌++◌, length, Option, Some}
-use Rattle.pi_base.specs.declared.phase.Phase.{Phase}
-use Rattle.pi_base.specs.declared.phase.Phase.TheVariants.{Pei, Dxe}
-use Rattle.mod_catalog.specs.declared.catalogue.Catalog.{Catalog}
-use Rattle.mod_catalog.specs.declared.catalogue.Part.{Part}
+use Rattle.pi_base.specs.{declared.phase.Phase.Phase, declared.phase.Phase.TheVariants.Pei, declared.phase.Phase.TheVariants.Dxe}
+use Rattle.mod_catalog.specs.{declared.catalogue.Catalog.Catalog, declared.catalogue.Part.Part, Parts.has_number, Parts.part_at}
 use Rattle.boot_model.specs.DxeChoice.{asks_for_request}
-use Rattle.mod_catalog.specs.Parts.{has_number, part_at}
-use Rattle.wait_index.specs.declared.verdict.Verdict.TheVariants.{No}
-use Rattle.wait_index.specs.declared.standing.Standing.{Standing}
-use Rattle.wait_index.specs.declared.places.Places.{Places}
+use Rattle.wait_index.specs.{declared.verdict.Verdict.TheVariants.No, declared.standing.Standing.Standing, declared.places.Places.Places}
 use Rattle.wait_index.specs.Places.{order_of, standing_of}
 
 abbrev pub new_standing : ℕ → Bool → Standing

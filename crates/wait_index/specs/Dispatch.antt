@@ -1,17 +1,11 @@
 -- The index stands for the machine of its phase: its order is that of the known volumes, its parts stand as the machine's lists say, and of each GUID that has a slot it knows whether it is installed.
 use Rattle.std.specs.Prelude.{◌≡◌, ℕ, true, false, not, ◌&&◌, Some}
-use Rattle.pi_base.specs.declared.guid.Guid.{Guid}
-use Rattle.pi_base.specs.declared.phase.Phase.TheVariants.{Pei, Dxe}
+use Rattle.pi_base.specs.{declared.guid.Guid.Guid, declared.phase.Phase.TheVariants.Pei, declared.phase.Phase.TheVariants.Dxe}
 use Rattle.pi_base.specs.GuidMap.{value_of}
-use Rattle.mod_catalog.specs.declared.catalogue.Catalog.{Catalog}
+use Rattle.mod_catalog.specs.{declared.catalogue.Catalog.Catalog, Parts.has_number}
 use Rattle.boot_model.specs.DxeChoice.{discovered_order, is_waiting, is_unrequested}
-use Rattle.boot_model.specs.DxeMachine.{DxeMachine}
-use Rattle.boot_model.specs.Eligible.{may_start_again}
-use Rattle.store_model.specs.HandleState.{has_protocol}
-use Rattle.mod_catalog.specs.Parts.{has_number}
-use Rattle.boot_model.specs.PeiChoice.{pei_order}
-use Rattle.boot_model.specs.PeiMachine.{PeiMachine}
-use Rattle.store_model.specs.Service.Install.{has_ppi}
+use Rattle.boot_model.specs.{DxeMachine.DxeMachine, Eligible.may_start_again, PeiChoice.pei_order, PeiMachine.PeiMachine}
+use Rattle.store_model.specs.{HandleState.has_protocol, Service.Install.has_ppi}
 use Rattle.wait_index.specs.declared.index.WaitIndex.{WaitIndex}
 use Rattle.wait_index.specs.Index.{order_in, waits_in, is_open_in, again_in, has_in}
 

@@ -1,22 +1,11 @@
 -- What the index of a phase's waiting parts stands for: the parts by place, how each stands, and which of the GUIDs that they ask for are installed.
 use Rattle.std.specs.Prelude.{◌≡◌, ℕ, ◌<◌, Bool, true, ◌&&◌, ◌||◌, List, [], length, filter, Option, Some, unwrap_or, slice_get, if◌then◌else◌}
-use Rattle.pi_base.specs.declared.guid.Guid.{Guid}
-use Rattle.pi_base.specs.declared.phase.Phase.{Phase}
-use Rattle.pi_base.specs.declared.phase.Phase.TheVariants.{Dxe}
-use Rattle.pi_base.specs.GuidMap.{value_of}
-use Rattle.wait_index.specs.PlaceFlags.{flag, count}
-use Rattle.boot_model.specs.declared.known_guid.TheConstants.{ARCHITECTURAL}
-use Rattle.mod_catalog.specs.declared.catalogue.Catalog.{Catalog}
-use Rattle.mod_catalog.specs.declared.catalogue.Part.{Part}
-use Rattle.boot_model.specs.EvaluationBound.{part_pushes}
-use Rattle.pi_base.specs.Guids.{same_guid}
-use Rattle.pi_base.specs.Lists.{EachPair, numbers}
-use Rattle.mod_catalog.specs.Parts.{part_at}
-use Rattle.wait_index.specs.declared.installed.Installed.{Installed}
-use Rattle.wait_index.specs.declared.standing.Standing.{Standing}
-use Rattle.wait_index.specs.declared.index.WaitIndex.{WaitIndex}
-use Rattle.wait_index.specs.Change.{IsChanged}
-use Rattle.wait_index.specs.Installed.{is_there}
+use Rattle.pi_base.specs.{declared.guid.Guid.Guid, declared.phase.Phase.Phase, declared.phase.Phase.TheVariants.Dxe, GuidMap.value_of}
+use Rattle.wait_index.specs.{PlaceFlags.flag, PlaceFlags.count, declared.installed.Installed.Installed, declared.standing.Standing.Standing}
+use Rattle.boot_model.specs.{declared.known_guid.TheConstants.ARCHITECTURAL, EvaluationBound.part_pushes}
+use Rattle.mod_catalog.specs.{declared.catalogue.Catalog.Catalog, declared.catalogue.Part.Part, Parts.part_at}
+use Rattle.pi_base.specs.{Guids.same_guid, Lists.EachPair, Lists.numbers}
+use Rattle.wait_index.specs.{declared.index.WaitIndex.WaitIndex, Change.IsChanged, Installed.is_there}
 use Rattle.wait_index.specs.Places.{order_of, standing_of, IsKept, AreJudged}
 use Rattle.wait_index.specs.Verdict.{verdict_in, verdict_of, lets, holds_by}
 

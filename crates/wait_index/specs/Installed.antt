@@ -1,9 +1,7 @@
 -- Whether a GUID is installed, by the slot that it has; a GUID without a slot is asked for by no expression.
 use Rattle.std.specs.Prelude.{◌≡◌, ◌<◌, ℕ, Bool, false, List, length, Option, Some, None}
-use Rattle.pi_base.specs.declared.guid.Guid.{Guid}
-use Rattle.pi_base.specs.GuidMap.{value_of}
-use Rattle.wait_index.specs.PlaceFlags.{flag}
-use Rattle.wait_index.specs.declared.installed.Installed.{Installed}
+use Rattle.pi_base.specs.{declared.guid.Guid.Guid, GuidMap.value_of}
+use Rattle.wait_index.specs.{PlaceFlags.flag, declared.installed.Installed.Installed}
 
 abbrev pub slot_says : List Bool → Option ℕ → Bool
 slot_says there None = false

@@ -1,12 +1,8 @@
 -- The parts of the known volumes by place: how each stands, and the sets of places that follow from it.
 use Rattle.std.specs.Prelude.{◌≡◌, ℕ, ◌≤◌, Bool, true, false, ◌&&◌, ◌||◌, List, length, Some, None, unwrap_or, slice_get}
-use Rattle.wait_index.specs.PlaceFlags.{flag}
+use Rattle.wait_index.specs.{PlaceFlags.flag, declared.verdict.Verdict.Verdict, declared.verdict.Verdict.TheVariants.No}
 use Rattle.mod_catalog.specs.declared.limits.TheConstants.{MOST_MODULES}
-use Rattle.wait_index.specs.declared.verdict.Verdict.{Verdict}
-use Rattle.wait_index.specs.declared.verdict.Verdict.TheVariants.{No}
-use Rattle.wait_index.specs.declared.standing.Standing.{Standing}
-use Rattle.wait_index.specs.declared.places.Places.{Places}
-use Rattle.wait_index.specs.Standing.{is_ready, is_later}
+use Rattle.wait_index.specs.{declared.standing.Standing.Standing, declared.places.Places.Places, Standing.is_ready, Standing.is_later}
 use Rattle.wait_index.specs.Verdict.{lets}
 
 -- the modules of the parts, by place

@@ -1,9 +1,7 @@
 -- The expressions of modules become stale.
 use Rattle.std.specs.Prelude.{◌≡◌, ℕ, ◌+◌, ◌≤◌, Bool, true, false, ◌&&◌, List, length, filter, Some, is_some}
-use Rattle.wait_index.specs.PlaceFlags.{flag, count}
+use Rattle.wait_index.specs.{PlaceFlags.flag, PlaceFlags.count, declared.places.Places.Places, Places.standing_of}
 use Rattle.mod_catalog.specs.Parts.{has_number}
-use Rattle.wait_index.specs.declared.places.Places.{Places}
-use Rattle.wait_index.specs.Places.{standing_of}
 
 -- whether the part of a module has a place and waits
 abbrev pub is_asked : Places → ℕ → Bool

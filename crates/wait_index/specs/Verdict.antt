@@ -1,15 +1,11 @@
 -- Whether a part may start, as far as its rank and its expression go.
 use Rattle.std.specs.Prelude.{ℕ, Bool, true, false, if◌then◌else◌, Option, Some, None, is_some}
 use Rattle.std.specs.List.{list_all}
-use Rattle.pi_base.specs.declared.guid.Guid.{Guid}
-use Rattle.pi_base.specs.declared.phase.Phase.{Phase}
+use Rattle.pi_base.specs.{declared.guid.Guid.Guid, declared.phase.Phase.Phase}
 use Rattle.pi_base.specs.declared.phase.Phase.TheVariants.{Pei, Dxe}
-use Rattle.boot_model.specs.declared.known_guid.TheConstants.{ARCHITECTURAL}
-use Rattle.mod_catalog.specs.declared.catalogue.Catalog.{Catalog}
-use Rattle.mod_catalog.specs.declared.catalogue.Part.{Part}
-use Rattle.mod_catalog.specs.declared.catalogue.PartExpr.{PartExpr}
+use Rattle.boot_model.specs.{declared.known_guid.TheConstants.ARCHITECTURAL, Eligible.depex_holds}
+use Rattle.mod_catalog.specs.{declared.catalogue.Catalog.Catalog, declared.catalogue.Part.Part, declared.catalogue.PartExpr.PartExpr}
 use Rattle.mod_catalog.specs.declared.catalogue.PartExpr.TheVariants as E
-use Rattle.boot_model.specs.Eligible.{depex_holds}
 use Rattle.mod_catalog.specs.Parts.{part_at}
 use Rattle.wait_index.specs.declared.verdict.Verdict.{Verdict}
 use Rattle.wait_index.specs.declared.verdict.Verdict.TheVariants.{No, Yes, WithAll}

@@ -1,20 +1,13 @@
 -- The slots of the GUIDs that expressions push, and the modules that watch each, while they are made.
 use Rattle.std.specs.Prelude.{◌≡◌, ℕ, ◌<◌, ◌+◌, ◌-◌, Bool, true, false, ◌||◌, ◌==◌, List, [], ◌∷◌, ◌++◌, length, Option, Some, None, slice_get, if◌then◌else◌}
-use Rattle.pi_base.specs.declared.guid.Guid.{Guid}
-use Rattle.pi_base.specs.declared.phase.Phase.{Phase}
-use Rattle.depex_code.specs.declared.opcode.Opcode.{Opcode}
+use Rattle.pi_base.specs.{declared.guid.Guid.Guid, declared.phase.Phase.Phase, GuidMap.value_of, Guids.same_guid}
+use Rattle.depex_code.specs.{declared.opcode.Opcode.Opcode, Tree.postfix}
 use Rattle.depex_code.specs.declared.opcode.Opcode.TheVariants as O
 use Rattle.depex_code.specs.declared.depex.Depex.TheVariants as D
-use Rattle.depex_code.specs.Tree.{postfix}
-use Rattle.pi_base.specs.GuidMap.{value_of}
-use Rattle.mod_catalog.specs.declared.catalogue.Module.{Module}
-use Rattle.mod_catalog.specs.declared.catalogue.Part.{Part}
-use Rattle.mod_catalog.specs.declared.catalogue.PartExpr.{PartExpr}
+use Rattle.mod_catalog.specs.{declared.catalogue.Module.Module, declared.catalogue.Part.Part, declared.catalogue.PartExpr.PartExpr}
 use Rattle.mod_catalog.specs.declared.catalogue.PartExpr.TheVariants as E
-use Rattle.pi_base.specs.Guids.{same_guid}
 use Rattle.mod_catalog.specs.WellFormed.{part_of}
-use Rattle.wait_index.specs.declared.watch.Watch.{Watch}
-use Rattle.wait_index.specs.Index.{watchers_at}
+use Rattle.wait_index.specs.{declared.watch.Watch.Watch, Index.watchers_at}
 
 -- whether opcodes push a GUID
 abbrev pub opcode_pushes : Guid → Opcode → Bool

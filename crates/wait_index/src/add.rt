@@ -1,11 +1,8 @@
 // A part comes.
 ghost use Rattle.std.specs.Prelude.{◌≡◌, ◌≤◌, ◌<◌, ◌+◌, ◌++◌, ◌∷◌, [], ℕ, false, length};
-ghost use Rattle.wait_index.specs.PlaceFlags.{count};
-ghost use Rattle.mod_catalog.specs.declared.limits.TheConstants.{MOST_MODULES};
-ghost use Rattle.mod_catalog.specs.Parts.{has_number};
-ghost use Rattle.wait_index.specs.declared.verdict.Verdict.{Verdict as OfVerdict};
+ghost use Rattle.wait_index.specs.{PlaceFlags.count, declared.verdict.Verdict.Verdict as OfVerdict, Discovery.new_standing};
+ghost use Rattle.mod_catalog.specs.{declared.limits.TheConstants.MOST_MODULES, Parts.has_number};
 ghost use Rattle.wait_index.specs.Places.{order_of, standing_of, IsInOrder, AreJudged};
-ghost use Rattle.wait_index.specs.Discovery.{new_standing};
 
 use crate::places::Places;
 use crate::standing::Standing;

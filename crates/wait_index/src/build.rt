@@ -1,11 +1,8 @@
 // The index of a catalogue is made. Behind this nothing takes memory.
 ghost use Rattle.std.specs.Prelude.{◌≡◌, ◌≤◌, [], false, length, replicate, IfOk, OnOk};
-ghost use Rattle.pi_base.specs.declared.guid.Guid.{Guid};
+ghost use Rattle.pi_base.specs.{declared.guid.Guid.Guid, Lists.EachPair, GuidMap.value_of};
 ghost use Rattle.boot_model.specs.declared.known_guid.TheConstants.{ARCHITECTURAL};
-ghost use Rattle.mod_catalog.specs.WellFormed.{IsWellFormed};
-ghost use Rattle.mod_catalog.specs.declared.limits.TheConstants.{MOST_MODULES};
-ghost use Rattle.pi_base.specs.Lists.{EachPair};
-ghost use Rattle.pi_base.specs.GuidMap.{value_of};
+ghost use Rattle.mod_catalog.specs.{WellFormed.IsWellFormed, declared.limits.TheConstants.MOST_MODULES};
 ghost use Rattle.wait_index.specs.Index.{IsIndex, AreWatched, order_in, owed, has_in};
 ghost use Rattle.wait_index.specs.Installed.{is_there};
 ghost use Rattle.wait_index.specs.Watching.{IsNumbering, Covers, modules_push};

@@ -1,7 +1,6 @@
 // A part starts, may start again, or is opened or closed.
 ghost use Rattle.std.specs.Prelude.{◌≡◌, ◌≤◌, ◌<◌, ℕ, true, false, length};
-ghost use Rattle.wait_index.specs.PlaceFlags.{count, flag};
-ghost use Rattle.wait_index.specs.declared.verdict.Verdict.{Verdict as OfVerdict};
+ghost use Rattle.wait_index.specs.{PlaceFlags.count, PlaceFlags.flag, declared.verdict.Verdict.Verdict as OfVerdict};
 ghost use Rattle.wait_index.specs.Places.{order_of, IsInOrder, AreJudged};
 ghost use Rattle.wait_index.specs.Change.{IsChanged, started, again, gated};
 

@@ -1,9 +1,8 @@
 // The parts of a volume come.
 ghost use Rattle.std.specs.Prelude.{◌≡◌, ◌≤◌, ◌<◌, ◌+◌, ◌++◌, length};
-ghost use Rattle.mod_catalog.specs.WellFormed.{IsWellFormed};
+ghost use Rattle.mod_catalog.specs.{WellFormed.IsWellFormed, Parts.part_at};
 ghost use Rattle.boot_model.specs.Licence.{AllDiffer};
 ghost use Rattle.pi_base.specs.Lists.{Each};
-ghost use Rattle.mod_catalog.specs.Parts.{part_at};
 ghost use Rattle.wait_index.specs.Discovery.{HaveCome, opens};
 ghost use Rattle.wait_index.specs.Index.{IsIndex, order_in, owed};
 

@@ -1,7 +1,6 @@
 // The index of the parts that wait.
 ghost use Rattle.std.proofs.Props.{props};
-ghost use Rattle.wait_index.specs.Installed.{HasRoom};
-ghost use Rattle.wait_index.specs.Places.{IsInOrder};
+ghost use Rattle.wait_index.specs.{Installed.HasRoom, Places.IsInOrder};
 
 use crate::installed::Installed;
 use crate::places::Places;

@@ -4,13 +4,10 @@ ghost use Rattle.pi_base.specs.declared.guid.Guid.{Guid};
 ghost use Rattle.depex_code.specs.Tree.{DepexTree, truth};
 ghost use Rattle.mod_catalog.specs.declared.catalogue.Catalog.{Catalog};
 ghost use Rattle.boot_model.specs.EvaluationBound.{tree_pushes, pei_asked, dxe_asked};
-ghost use Rattle.boot_model.specs.PeiMachine.{PeiMachine};
-ghost use Rattle.boot_model.specs.PeiChoice.{rotated, next_peim};
-ghost use Rattle.boot_model.specs.DxeMachine.{DxeMachine};
+ghost use Rattle.boot_model.specs.{PeiMachine.PeiMachine, PeiChoice.rotated, PeiChoice.next_peim, DxeMachine.DxeMachine};
 ghost use Rattle.boot_model.specs.DxeChoice.{first_eligible};
-ghost use Rattle.wait_index.specs.declared.index.WaitIndex.{WaitIndex as Index};
+ghost use Rattle.wait_index.specs.{declared.index.WaitIndex.WaitIndex as Index, Dispatch.StandsForPei, Dispatch.StandsForDxe};
 ghost use Rattle.wait_index.specs.Index.{IsIndex, order_in, is_eligible_in, asked};
-ghost use Rattle.wait_index.specs.Dispatch.{StandsForPei, StandsForDxe};
 
 /// Whether a tree holds depends on the GUIDs alone that it pushes.
 pub fn truth_asks_what_is_pushed()

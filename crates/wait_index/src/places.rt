@@ -1,7 +1,6 @@
 // The parts of the known volumes, each with its place.
 ghost use Rattle.std.specs.Prelude.{◌≡◌, ◌<◌, ◌+◌, [], ℕ, Some, IfOk, true, false, length, slice_get};
-ghost use Rattle.wait_index.specs.PlaceFlags.{flag, count};
-ghost use Rattle.wait_index.specs.declared.verdict.Verdict.{Verdict as OfVerdict};
+ghost use Rattle.wait_index.specs.{PlaceFlags.flag, PlaceFlags.count, declared.verdict.Verdict.Verdict as OfVerdict};
 ghost use Rattle.wait_index.specs.Places.{order_of, standing_of, IsInOrder, IsKept, AreJudged};
 
 use crate::PlaceSet;

@@ -1,8 +1,6 @@
 // A GUID came or went: the expressions that ask for it are stale.
 ghost use Rattle.std.specs.Prelude.{[], ◌∷◌};
-ghost use Rattle.wait_index.specs.Index.{watchers_at};
-ghost use Rattle.wait_index.specs.Places.{IsInOrder};
-ghost use Rattle.wait_index.specs.Rouse.{IsRoused};
+ghost use Rattle.wait_index.specs.{Index.watchers_at, Places.IsInOrder, Rouse.IsRoused};
 
 use crate::places::Places;
 use pi_base::Seq;

@@ -1,10 +1,8 @@
 // Expressions are evaluated where they may say something new.
 ghost use Rattle.std.specs.Prelude.{◌≡◌, ◌≤◌, ◌+◌, length};
-ghost use Rattle.wait_index.specs.PlaceFlags.{count};
-ghost use Rattle.wait_index.specs.Installed.{is_there};
+ghost use Rattle.wait_index.specs.{PlaceFlags.count, Installed.is_there, Verdict.verdict_of};
 ghost use Rattle.wait_index.specs.Places.{IsInOrder, IsKept, AreJudged};
 ghost use Rattle.mod_catalog.specs.WellFormed.{AreShort};
-ghost use Rattle.wait_index.specs.Verdict.{verdict_of};
 
 use crate::installed::Installed;
 use crate::places::Places;

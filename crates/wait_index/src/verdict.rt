@@ -1,8 +1,7 @@
 // What the expression of a part says over the GUIDs that are installed.
 ghost use Rattle.std.specs.Prelude.{◌≡◌, ◌≤◌, ◌+◌};
 ghost use Rattle.boot_model.specs.Eligible.{depex_holds};
-ghost use Rattle.wait_index.specs.Verdict.{expression_verdict, verdict_of};
-ghost use Rattle.wait_index.specs.Installed.{is_there};
+ghost use Rattle.wait_index.specs.{Verdict.expression_verdict, Verdict.verdict_of, Installed.is_there};
 ghost use Rattle.mod_catalog.specs.WellFormed.{IsShortExpression, AreShort};
 
 use crate::installed::Installed;

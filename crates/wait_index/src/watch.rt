@@ -1,9 +1,7 @@
 // The GUIDs that expressions push: first each has its slot, then each slot has the modules that push its GUID.
 ghost use Rattle.std.specs.Prelude.{◌≡◌, ◌≤◌, ◌<◌, [], false, Some, length, slice_set, if◌then◌else◌, IfOk, OnOk};
-ghost use Rattle.pi_base.specs.GuidMap.{value_of};
+ghost use Rattle.pi_base.specs.{GuidMap.value_of, Guids.same_guid, Lists.EachPair};
 ghost use Rattle.mod_catalog.specs.declared.limits.TheConstants.{MOST_MODULES};
-ghost use Rattle.pi_base.specs.Guids.{same_guid};
-ghost use Rattle.pi_base.specs.Lists.{EachPair};
 ghost use Rattle.wait_index.specs.Index.{watchers_at};
 ghost use Rattle.wait_index.specs.Watching.{IsNumbering, Covers, code_in, module_code, code_pushes, opcode_pushes, modules_push, ends_with, noted, noted_by, noted_from, IsBelow, AreApart, AreNoted};
 

@@ -3,12 +3,8 @@ ghost use Rattle.std.specs.Prelude.{◌≡◌, ◌<◌, ◌^◌, length};
 ghost use Rattle.boot_io.specs.Halted.{HaltsAfter};
 ghost use Rattle.boot_model.specs.declared.phase_end.PeiEnd.TheVariants.{Handoff};
 ghost use Rattle.mod_catalog.specs.WellFormed.{IsWellFormed};
-ghost use Rattle.store_model.specs.HandleState.{no_handles};
-ghost use Rattle.store_model.specs.Service.{Present, OfEach};
-ghost use Rattle.store_model.specs.StoreCall.{Anything};
-ghost use Rattle.boot_core.specs.declared.whole.behind.Behind.TheVariants.{Closed};
-ghost use Rattle.boot_core.specs.Behind.{BootsBehind};
-ghost use Rattle.boot_core.specs.Closing.{closing_text};
+ghost use Rattle.store_model.specs.{HandleState.no_handles, Service.Present, Service.OfEach, StoreCall.Anything};
+ghost use Rattle.boot_core.specs.{declared.whole.behind.Behind.TheVariants.Closed, Behind.BootsBehind, Closing.closing_text};
 ghost use Rattle.boot_core.specs.FirstBoot.{Tells};
 
 use crate::whole::closing::{put_closing, result_of};

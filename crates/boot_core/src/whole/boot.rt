@@ -2,11 +2,8 @@
 ghost use Rattle.std.specs.Prelude.{◌≤◌, IfOk, length};
 ghost use Rattle.boot_io.specs.Halted.{HaltsAfter};
 ghost use Rattle.mod_catalog.specs.WellFormed.{IsWellFormed};
-ghost use Rattle.store_model.specs.Service.{Present};
-ghost use Rattle.store_model.specs.StoreCall.{Anything};
-ghost use Rattle.store_model.specs.StoreState.{Board, empty_store};
-ghost use Rattle.boot_core.specs.ByChoice.{BootsByChoice, GoesOn};
-ghost use Rattle.boot_core.specs.FreeWay.{GoesFreely};
+ghost use Rattle.store_model.specs.{Service.Present, StoreCall.Anything, StoreState.Board, StoreState.empty_store};
+ghost use Rattle.boot_core.specs.{ByChoice.BootsByChoice, ByChoice.GoesOn, FreeWay.GoesFreely};
 
 use crate::whole::behind::{Behind, boot_behind};
 use crate::whole::free::choices_are_free;

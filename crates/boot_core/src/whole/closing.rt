@@ -1,8 +1,7 @@
 // The last lines of a boot: the lists of its last store, the handles, and the result.
 ghost use Rattle.std.specs.Prelude.{◌≡◌, ◌<◌, ◌^◌, flat_map, length};
 ghost use Rattle.boot_io.specs.Sink.{Puts, SinkFaultsAfter};
-ghost use Rattle.store_model.specs.Service.{Present, OfEach};
-ghost use Rattle.store_model.specs.StoreCall.{Anything};
+ghost use Rattle.store_model.specs.{Service.Present, Service.OfEach, StoreCall.Anything};
 ghost use Rattle.boot_model.specs.BootRun.{dxe_result};
 ghost use Rattle.boot_core.specs.Closing.{interface_text, result_text, closing_text};
 

@@ -1,6 +1,5 @@
 //! Boots by choices are free ones.
-ghost use Rattle.boot_core.specs.Choices.{choices_of};
-ghost use Rattle.boot_core.specs.FreeWay.{AreFree};
+ghost use Rattle.boot_core.specs.{Choices.choices_of, FreeWay.AreFree};
 
 use boot_io::Sink;
 use boot_laws::{

@@ -1,7 +1,6 @@
 // The GUIDs that a script may install.
-ghost use Rattle.std.specs.Prelude.{◌≡◌, ◌++◌, ◌∷◌, [], List, IfOk, OnOk};
+ghost use Rattle.std.specs.Prelude.{◌≡◌, ◌++◌, ◌∷◌, [], List, IfOk, OnOk, option_to_list};
 ghost use Rattle.std.specs.List.{list_any};
-ghost use Rattle.std.specs.Option.{option_to_list};
 ghost use Rattle.pi_base.specs.declared.guid.Guid.{Guid as Name};
 ghost use Rattle.explain_text.specs.Gives.{AreMet, given_in, gives_any, named_by, named_in_all, named_in_block, reads_guid};
 

@@ -2,12 +2,9 @@
 ghost use Rattle.std.specs.Prelude.{◌≡◌, ℕ, List};
 ghost use Rattle.std.specs.List.{list_any};
 ghost use Rattle.act_code.specs.declared.script.Script.{Script};
-ghost use Rattle.mod_catalog.specs.declared.catalogue.Module.{Module};
-ghost use Rattle.mod_catalog.specs.declared.catalogue.VolumeEntry.{VolumeEntry};
-ghost use Rattle.pi_base.specs.Guids.{same_guid};
-ghost use Rattle.pi_base.specs.declared.guid.Guid.{Guid};
-ghost use Rattle.explain_text.specs.Gives.{given_in, names};
-ghost use Rattle.explain_text.specs.Lines.{IsCatalogText};
+ghost use Rattle.mod_catalog.specs.{declared.catalogue.Module.Module, declared.catalogue.VolumeEntry.VolumeEntry};
+ghost use Rattle.pi_base.specs.{Guids.same_guid, declared.guid.Guid.Guid};
+ghost use Rattle.explain_text.specs.{Gives.given_in, Gives.names, Lines.IsCatalogText};
 
 /// A GUID is among those that a script may install exactly where an action of one of its blocks names it.
 pub fn given_are_named()

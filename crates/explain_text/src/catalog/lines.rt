@@ -1,12 +1,10 @@
 // The lines of a catalogue.
 ghost use Rattle.std.specs.Prelude.{◌≡◌, ◌≤◌, ◌++◌, ◌∷◌, [], Option, flat_map, length, option_map, OnOk};
 ghost use Rattle.hex.specs.Hex.{encode_lower};
-ghost use Rattle.pi_base.specs.WordText.{guid_text};
-ghost use Rattle.pi_base.specs.Field.{words_of};
+ghost use Rattle.pi_base.specs.{WordText.guid_text, Field.words_of};
 ghost use Rattle.mod_catalog.specs.declared.limits.TheConstants.{MOST_MODULES};
 ghost use Rattle.explain_text.specs.Lines.{expr_line, gives_line, gives_lines, module_line, part_lines, phase_text};
-ghost use Rattle.explain_text.specs.Putting.{AddsCatalog, AddsModule};
-ghost use Rattle.explain_text.specs.Words.{word_of};
+ghost use Rattle.explain_text.specs.{Putting.AddsCatalog, Putting.AddsModule, Words.word_of};
 ghost use Rattle.explain_text.specs.declared.keyword.Keyword.TheVariants as K;
 
 use crate::catalog::expression::expr_text;

@@ -1,7 +1,6 @@
 // What follows from the definitions alone.
 ghost use Rattle.std.specs.Prelude.{◌≡◌, ℕ, List, Option};
-ghost use Rattle.mod_catalog.specs.declared.catalogue.Module.{Module};
-ghost use Rattle.mod_catalog.specs.declared.catalogue.VolumeEntry.{VolumeEntry};
+ghost use Rattle.mod_catalog.specs.{declared.catalogue.Module.Module, declared.catalogue.VolumeEntry.VolumeEntry};
 ghost use Rattle.explain_text.specs.Title.{IsTitle};
 
 /// A module has one name, or none.

@@ -1,8 +1,6 @@
 //! Volumes built from files.
 ghost use Rattle.std.specs.Prelude.{◌≡◌, ◌≤◌, ◌<◌, ◌^◌, None, Some, IfOk, IfErr, OnOk, true};
-ghost use Rattle.fv_volume.specs.FileSystems.{Ffs2, Ffs3};
-ghost use Rattle.fv_volume.specs.Header.{is_header_length, plain};
-ghost use Rattle.fv_volume.specs.Front.{is_placed};
+ghost use Rattle.fv_volume.specs.{FileSystems.Ffs2, FileSystems.Ffs3, Header.is_header_length, Header.plain, Front.is_placed};
 ghost use Rattle.fv_volume.specs.Building.{volume_bytes, built, built_as, fault_from, volume_fault, IsRefusal};
 ghost use Rattle.fv_volume.specs.Reading.{IsWhole, IsReadAs, IsReadBack};
 

@@ -1,8 +1,7 @@
 //! What follows from the definitions alone.
 ghost use Rattle.std.specs.Prelude.{◌≡◌, ◌⊎◌, List, ℕ};
 ghost use Rattle.fv_volume.specs.Stream.{AreSections, AreInOrder, AreInside, IsFirstFault};
-ghost use Rattle.fv_volume.specs.declared.sections.section.Section.{Section};
-ghost use Rattle.fv_volume.specs.declared.sections.fault.SecFault.{SecFault};
+ghost use Rattle.fv_volume.specs.{declared.sections.section.Section.Section, declared.sections.fault.SecFault.SecFault};
 
 /// All bytes are sections or have a first fault, never both, and one list of sections or one fault.
 pub fn one_reading()

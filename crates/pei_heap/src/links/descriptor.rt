@@ -1,13 +1,10 @@
 // Descriptors. PI 1.8, volume 1, `EFI_PEI_PPI_DESCRIPTOR` and `EFI_PEI_NOTIFY_DESCRIPTOR`.
 ghost use Rattle.std.specs.Prelude.{◌≡◌};
-ghost use Rattle.store_model.specs.StoreState.{StoreState};
-ghost use Rattle.store_model.specs.StateFacts.{IsDesc};
-ghost use Rattle.store_model.specs.HeapImage.{heap_image, kind_flags};
+ghost use Rattle.store_model.specs.{StoreState.StoreState, StateFacts.IsDesc, HeapImage.heap_image, HeapImage.kind_flags};
 ghost use Rattle.store_model.specs.declared.store_handle.DescKind.{DescKind as OfKind};
 ghost use Rattle.store_model.specs.Service.Descriptor.{guid_at, kind_at, number_at};
 ghost use Rattle.store_laws.specs.Descriptors.{guid_read};
-ghost use Rattle.pei_heap.specs.HeapMemory.{IsHeapOf};
-ghost use Rattle.pei_heap.specs.DescRead.{HasGuidAt, IsReadAt};
+ghost use Rattle.pei_heap.specs.{HeapMemory.IsHeapOf, DescRead.HasGuidAt, DescRead.IsReadAt};
 
 use crate::{Heap, guid_in, word_in};
 use phys_mem::PhysMem;

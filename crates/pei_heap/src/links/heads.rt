@@ -1,8 +1,7 @@
 // The ends of the lists.
 ghost use Rattle.std.specs.Prelude.{◌≡◌, ◌<◌, ◌+◌, ◌^◌};
 ghost use Rattle.store_model.specs.StoreState.{StoreState};
-ghost use Rattle.store_laws.specs.Heads.{last_address};
-ghost use Rattle.store_laws.specs.Items.{first_address, items};
+ghost use Rattle.store_laws.specs.{Heads.last_address, Items.first_address, Items.items};
 ghost use Rattle.pei_heap.specs.NewEntry as N;
 
 use store_model::EntryList;

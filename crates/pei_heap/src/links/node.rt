@@ -1,9 +1,7 @@
 // The nodes of a list, one after another.
 ghost use Rattle.std.specs.Prelude.{◌≡◌, ◌+◌, ℕ, option_map, slice_get, Some};
-ghost use Rattle.store_model.specs.StoreState.{StoreState};
-ghost use Rattle.store_model.specs.declared.store_handle.EntryList.{EntryList};
-ghost use Rattle.store_laws.specs.Chain.{IsHeaded};
-ghost use Rattle.store_laws.specs.Items.{Item, items};
+ghost use Rattle.store_model.specs.{StoreState.StoreState, declared.store_handle.EntryList.EntryList};
+ghost use Rattle.store_laws.specs.{Chain.IsHeaded, Items.Item, Items.items};
 ghost use Rattle.pei_heap.specs.Node.{node_of};
 
 use crate::word_in;

@@ -1,16 +1,12 @@
 // The pairs of PPIs and dispatch notifications that a call queues.
 ghost use Rattle.std.specs.Prelude.{◌≡◌, ◌≤◌, ◌∷◌, [], ◌&&◌, not, true, if◌then◌else◌, length};
 ghost use Rattle.pi_base.specs.Guids as G;
-ghost use Rattle.store_model.specs.StoreState.{StoreState};
-ghost use Rattle.store_model.specs.StateFacts.{IsDesc};
-ghost use Rattle.store_model.specs.StoreCall.{AreDescs};
+ghost use Rattle.store_model.specs.{StoreState.StoreState, StateFacts.IsDesc, StoreCall.AreDescs};
 ghost use Rattle.store_model.specs.declared.store_handle.EntryList.TheVariants.{Pendings};
 ghost use Rattle.store_model.specs.Service.Descriptor.{descriptors, guid_at, is_callback, kind_at};
 ghost use Rattle.store_model.specs.Service.Install.{install_pairs, row_of};
 ghost use Rattle.store_model.specs.Service.Notify.{new_dispatches, notify_pairs};
-ghost use Rattle.pei_heap.specs.HeapMemory.{IsHeapOf};
-ghost use Rattle.pei_heap.specs.Linked.{IsLinked};
-ghost use Rattle.pei_heap.specs.NewEntry.{IsReady};
+ghost use Rattle.pei_heap.specs.{HeapMemory.IsHeapOf, Linked.IsLinked, NewEntry.IsReady};
 ghost use Rattle.pei_heap.specs.Pairs.{CanQueueAll, CanQueueNew, CanQueueNewRow, CanQueueRow, PairsStay, queued};
 
 use crate::Heap;

@@ -1,10 +1,8 @@
 // The first queued pair leaves the queue.
 ghost use Rattle.std.specs.Prelude.{◌≡◌, ◌∷◌, List};
-ghost use Rattle.store_model.specs.declared.state.Pending.{Pending};
-ghost use Rattle.store_model.specs.StoreState.{StoreState};
+ghost use Rattle.store_model.specs.{declared.state.Pending.Pending, StoreState.StoreState};
 ghost use Rattle.store_laws.specs.Changes.{without_first};
-ghost use Rattle.pei_heap.specs.Linked.{IsLinked};
-ghost use Rattle.pei_heap.specs.Popped.{IsPopped};
+ghost use Rattle.pei_heap.specs.{Linked.IsLinked, Popped.IsPopped};
 
 use crate::links::descriptor::{number_of, read_descriptor};
 use crate::links::heads::Heads;

@@ -1,11 +1,8 @@
 // An entry is made behind the others of its list.
 ghost use Rattle.std.specs.Prelude.{◌≢◌, ◌≤◌, ◌+◌, ℕ, List};
 ghost use Rattle.store_model.specs.StoreState.{StoreState};
-ghost use Rattle.store_laws.specs.Heads.{named_at};
-ghost use Rattle.store_laws.specs.Mapped.{Layout};
-ghost use Rattle.pei_heap.specs.HeapMemory.{Holds};
-ghost use Rattle.pei_heap.specs.Linked.{IsLinked};
-ghost use Rattle.pei_heap.specs.NewEntry.{IsReady, with_entry};
+ghost use Rattle.store_laws.specs.{Heads.named_at, Mapped.Layout};
+ghost use Rattle.pei_heap.specs.{HeapMemory.Holds, Linked.IsLinked, NewEntry.IsReady, NewEntry.with_entry};
 
 use crate::Heap;
 use crate::links::entry::{NewEntry, node_text};

@@ -1,17 +1,13 @@
 // What the lists tell.
 ghost use Rattle.std.specs.Prelude.{◌≡◌, ℕ, option_map, slice_get};
 ghost use Rattle.pi_base.specs.Guids as G;
-ghost use Rattle.store_model.specs.StoreState.{StoreState};
-ghost use Rattle.store_model.specs.StateFacts.{IsDesc};
-ghost use Rattle.store_model.specs.StoreCall.{IsNodeIn};
-ghost use Rattle.store_model.specs.declared.store_handle.DescKind.{DescKind as OfKind};
-ghost use Rattle.store_model.specs.declared.store_handle.EntryList.{EntryList as OfList};
+ghost use Rattle.store_model.specs.{StoreState.StoreState, StateFacts.IsDesc, StoreCall.IsNodeIn};
+ghost use Rattle.store_model.specs.{declared.store_handle.DescKind.DescKind as OfKind, declared.store_handle.EntryList.EntryList as OfList};
 ghost use Rattle.store_model.specs.declared.store_handle.EntryList.TheVariants as L;
 ghost use Rattle.store_model.specs.Service.Descriptor.{guid_at};
 ghost use Rattle.store_model.specs.Service.Install as I;
 ghost use Rattle.store_model.specs.Service.Reading as R;
-ghost use Rattle.pei_heap.specs.HeapMemory.{IsHeapOf};
-ghost use Rattle.pei_heap.specs.Linked.{IsLinked};
+ghost use Rattle.pei_heap.specs.{HeapMemory.IsHeapOf, Linked.IsLinked};
 ghost use Rattle.pei_heap.specs.Walk.{IsBehind, IsNoteHead, StandsAt, address_from, entries_in};
 
 use crate::links::descriptor::{guid_of, number_of, read_descriptor};

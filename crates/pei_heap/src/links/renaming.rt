@@ -1,7 +1,5 @@
 // A PPI that names another descriptor.
-ghost use Rattle.store_model.specs.StoreState.{StoreState};
-ghost use Rattle.store_model.specs.StateFacts.{IsDescOf};
-ghost use Rattle.store_model.specs.declared.store_handle.Desc.{Desc as OfDesc};
+ghost use Rattle.store_model.specs.{StoreState.StoreState, StateFacts.IsDescOf, declared.store_handle.Desc.Desc as OfDesc};
 ghost use Rattle.store_model.specs.declared.store_handle.DescKind.TheVariants.{Ppi};
 ghost use Rattle.pei_heap.specs.Linked.{IsLinked};
 ghost use Rattle.pei_heap.specs.Replaced.{IsFirstNamed, IsFound, IsReplaced, with_renamed};

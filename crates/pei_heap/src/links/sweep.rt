@@ -1,15 +1,10 @@
 // The pairs that a sweep has still to visit.
 ghost use Rattle.std.specs.Prelude.{◌≡◌, ℕ, [], true};
-ghost use Rattle.store_model.specs.StoreState.{StoreState};
-ghost use Rattle.store_model.specs.StateFacts.{IsSweepOf};
-ghost use Rattle.store_model.specs.StoreCall.{IsMatch};
+ghost use Rattle.store_model.specs.{StoreState.StoreState, StateFacts.IsSweepOf, StoreCall.IsMatch};
 ghost use Rattle.store_model.specs.Service.Sweep as W;
-ghost use Rattle.store_model.specs.declared.store_handle.EntryList.TheVariants.{Ppis};
-ghost use Rattle.store_model.specs.declared.store_handle.Sweep.{Sweep as OfSweep};
-ghost use Rattle.pei_heap.specs.HeapMemory.{IsHeapOf};
-ghost use Rattle.pei_heap.specs.Linked.{IsLinked};
+ghost use Rattle.store_model.specs.{declared.store_handle.EntryList.TheVariants.Ppis, declared.store_handle.Sweep.Sweep as OfSweep};
+ghost use Rattle.pei_heap.specs.{HeapMemory.IsHeapOf, Linked.IsLinked, Walk.address_from};
 ghost use Rattle.pei_heap.specs.Matching.{AreCallbacks, IsFirstMatch, IsNextPair, IsRow};
-ghost use Rattle.pei_heap.specs.Walk.{address_from};
 
 use crate::Heap;
 use crate::links::descriptor::{guid_of, number_of};

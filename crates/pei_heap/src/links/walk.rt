@@ -1,7 +1,6 @@
 // Entries met one after another, by their nodes.
 ghost use Rattle.std.specs.Prelude.{◌≡◌, ℕ};
-ghost use Rattle.store_model.specs.StoreState.{StoreState};
-ghost use Rattle.store_model.specs.declared.store_handle.EntryList.{EntryList};
+ghost use Rattle.store_model.specs.{StoreState.StoreState, declared.store_handle.EntryList.EntryList};
 ghost use Rattle.pei_heap.specs.HeapMemory.{IsHeapOf};
 ghost use Rattle.pei_heap.specs.Walk.{IsMet, StandsAt, address_from};
 

@@ -1,10 +1,7 @@
 //! What stands against a start that an order asks for.
 ghost use Rattle.std.specs.Prelude.{◌≡◌, IfOk, length, option_copied};
-ghost use Rattle.store_model.specs.Service.{Present, OfEach};
-ghost use Rattle.store_model.specs.StoreCall.{Anything};
-ghost use Rattle.recorded_boot.specs.Named.{AreNames};
-ghost use Rattle.recorded_boot.specs.Against.{StandsAgainst};
-ghost use Rattle.recorded_boot.specs.ByOrder.{starts_of};
+ghost use Rattle.store_model.specs.{Service.Present, Service.OfEach, StoreCall.Anything};
+ghost use Rattle.recorded_boot.specs.{Named.AreNames, Against.StandsAgainst, ByOrder.starts_of};
 ghost use Rattle.recorded_boot.specs.Finding.{FindsPart, is_among_asked, same_start};
 
 use crate::follow::lacking::{Installed, lacking};

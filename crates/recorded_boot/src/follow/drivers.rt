@@ -4,12 +4,10 @@ ghost use Rattle.boot_io.specs.Halted.{HaltsAfter};
 ghost use Rattle.boot_model.specs.BootRun.{dxe_result};
 ghost use Rattle.mod_catalog.specs.WellFormed.{IsWellFormed};
 ghost use Rattle.pi_base.specs.declared.phase.Phase.TheVariants.{Dxe as InDxe};
-ghost use Rattle.store_model.specs.Service.{Present, OfEach};
-ghost use Rattle.store_model.specs.StoreCall.{Anything};
+ghost use Rattle.store_model.specs.{Service.Present, Service.OfEach, StoreCall.Anything};
 ghost use Rattle.dxe_dispatch.specs.Queue.{IsNewQueue, IsQueueFor, Queue};
 ghost use Rattle.dxe_core.specs.Standing.{IsFor};
-ghost use Rattle.dxe_dispatch.specs.Choices.{RunsByChoice};
-ghost use Rattle.dxe_dispatch.specs.Ends.{IsAtOpening};
+ghost use Rattle.dxe_dispatch.specs.{Choices.RunsByChoice, Ends.IsAtOpening};
 ghost use Rattle.recorded_boot.specs.ByOrder.{NamesBy, lets_by};
 ghost use Rattle.recorded_boot.specs.Drivers.{IsCounted, OnFew, RunsDrivers, leaves};
 

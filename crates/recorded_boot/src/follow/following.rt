@@ -1,16 +1,11 @@
 //! A boot along an order.
 ghost use Rattle.std.specs.Prelude.{◌≡◌, ◌≤◌, ◌<◌, ◌-◌, ◌^◌, None, IfOk, length};
-ghost use Rattle.boot_io.specs.Halted.{HaltsAfter};
-ghost use Rattle.boot_io.specs.Sink.{Puts, SinkFaultsAfter};
+ghost use Rattle.boot_io.specs.{Halted.HaltsAfter, Sink.Puts, Sink.SinkFaultsAfter};
 ghost use Rattle.boot_model.specs.declared.phase_end.PeiEnd.TheVariants.{Handoff};
 ghost use Rattle.mod_catalog.specs.WellFormed.{IsWellFormed};
-ghost use Rattle.recorded_boot.specs.Named.{AreNames, HasNoTwins};
-ghost use Rattle.store_model.specs.Service.{Present, OfEach};
-ghost use Rattle.store_model.specs.StoreCall.{Anything};
-ghost use Rattle.store_model.specs.HandleState.{no_handles};
+ghost use Rattle.recorded_boot.specs.{Named.AreNames, Named.HasNoTwins, Answer.FollowsTo, Leaving.ComesTo};
+ghost use Rattle.store_model.specs.{Service.Present, Service.OfEach, StoreCall.Anything, HandleState.no_handles};
 ghost use Rattle.store_model.specs.StoreState.{Board, empty_store};
-ghost use Rattle.recorded_boot.specs.Answer.{FollowsTo};
-ghost use Rattle.recorded_boot.specs.Leaving.{ComesTo};
 ghost use Rattle.recorded_boot.specs.Behind.{FinishesTo, FollowsBehind, last_text, pei_result};
 
 use crate::follow::against::{Against, cause_against};

@@ -5,9 +5,8 @@ ghost use Rattle.boot_model.specs.PlanBoard.{board_of};
 ghost use Rattle.boot_plan.specs.Range.{IsPlanInRange};
 ghost use Rattle.mod_catalog.specs.WellFormed.{IsWellFormed};
 ghost use Rattle.store_model.specs.StateFacts.{IsBoard};
-ghost use Rattle.recorded_boot.specs.Named.{AreNames, HasNoTwins};
+ghost use Rattle.recorded_boot.specs.{Named.AreNames, Named.HasNoTwins, Answer.FollowsTo};
 ghost use Rattle.recorded_boot.specs.Follow.{FaultsAfter, Follows, FollowsCatalog, IsFaultTold};
-ghost use Rattle.recorded_boot.specs.Answer.{FollowsTo};
 
 use crate::follow::by_order::ByOrder;
 use crate::follow::following::{Followed, follow_boot};

@@ -1,7 +1,6 @@
 // The GUIDs that a dependency expression pushes and that are not installed.
 ghost use Rattle.std.specs.Prelude.{◌≡◌, [], IfOk, OnOk};
-ghost use Rattle.store_model.specs.Service.{Present, OfEach};
-ghost use Rattle.store_model.specs.StoreCall.{Anything};
+ghost use Rattle.store_model.specs.{Service.Present, Service.OfEach, StoreCall.Anything};
 ghost use Rattle.boot_laws.specs.ChangedGuids.{is_among};
 ghost use Rattle.recorded_boot.specs.Against.{is_installed, lacking, pushed_in};
 ghost use Rattle.recorded_boot.specs.Code.{code_in, lacking_from, more_lacking, once_more};

@@ -1,7 +1,6 @@
 // A text of an order stands for one thing.
 ghost use Rattle.std.specs.Prelude.{◌≡◌, ◌≤◌, ◌+◌, ℕ, List, length};
-ghost use Rattle.recorded_boot.specs.declared.order.lines.StartOrder.{StartOrder};
-ghost use Rattle.recorded_boot.specs.OrderText.{IsFirstBad, IsOrder};
+ghost use Rattle.recorded_boot.specs.{declared.order.lines.StartOrder.StartOrder, OrderText.IsFirstBad, OrderText.IsOrder};
 
 /// A text stands for one order at most, or has one first bad line, and never both; and an order has no more starts than its text has bytes, and one.
 pub fn one_reading()

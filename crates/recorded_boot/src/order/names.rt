@@ -1,7 +1,6 @@
 //! The table of names.
 ghost use Rattle.std.specs.Prelude.{◌≡◌, ◌<◌, ◌+◌, ◌↔◌, ℕ, IfOk, Some, None, length};
-ghost use Rattle.mod_catalog.specs.WellFormed.{IsWellFormed};
-ghost use Rattle.mod_catalog.specs.declared.catalogue.Catalog.{Catalog as OfCatalog};
+ghost use Rattle.mod_catalog.specs.{WellFormed.IsWellFormed, declared.catalogue.Catalog.Catalog as OfCatalog};
 ghost use Rattle.recorded_boot.specs.Named.{AreNames, HasNoTwins, IsFirstWithTwins, IsNamed, number_in};
 ghost use Rattle.recorded_boot.specs.Taking.{Fails, Keeps, NoneIsKept};
 

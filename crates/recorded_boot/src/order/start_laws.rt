@@ -1,8 +1,6 @@
 //! Laws of the starts of free boots, each on a function without a body.
-ghost use Rattle.recorded_boot.specs.Counted.{DxeStartsCount, PeiStartsCount};
-ghost use Rattle.recorded_boot.specs.OneStep.{OneDxeStep, OnePeiStep};
-ghost use Rattle.recorded_boot.specs.Order.{OrderIsOfStarts};
-ghost use Rattle.recorded_boot.specs.Leading.{DxeStartsLead, PeiStartsLead};
+ghost use Rattle.recorded_boot.specs.{Counted.DxeStartsCount, Counted.PeiStartsCount, OneStep.OneDxeStep, OneStep.OnePeiStep};
+ghost use Rattle.recorded_boot.specs.{Order.OrderIsOfStarts, Leading.DxeStartsLead, Leading.PeiStartsLead};
 
 /// From a machine of PEI the starts of a boot tell which of the free steps it takes.
 pub fn one_pei_step()

@@ -1,14 +1,11 @@
 //! The check of a text.
 ghost use Rattle.std.specs.Prelude.{◌≡◌, ◌≤◌, [], IfOk, length};
-ghost use Rattle.boot_model.specs.FreeRun.{AreFreeLines};
-ghost use Rattle.boot_model.specs.PlanBoard.{board_of};
+ghost use Rattle.boot_model.specs.{FreeRun.AreFreeLines, PlanBoard.board_of};
 ghost use Rattle.boot_plan.specs.Range.{IsPlanInRange};
 ghost use Rattle.mod_catalog.specs.WellFormed.{IsWellFormed};
-ghost use Rattle.store_model.specs.StateFacts.{IsBoard};
-ghost use Rattle.store_model.specs.StoreState.{Board, empty_store};
-ghost use Rattle.recorded_boot.specs.Named.{AreNames, HasNoTwins};
+ghost use Rattle.store_model.specs.{StateFacts.IsBoard, StoreState.Board, StoreState.empty_store};
+ghost use Rattle.recorded_boot.specs.{Named.AreNames, Named.HasNoTwins, Verdict.IsVerdict};
 ghost use Rattle.recorded_boot.specs.Checking.{Checks, ChecksCatalog, IsFaultTold};
-ghost use Rattle.recorded_boot.specs.Verdict.{IsVerdict};
 
 use crate::order::{Names, NamesFault};
 use crate::trace::Spelled;

@@ -2,8 +2,7 @@
 ghost use Rattle.std.specs.Prelude.{◌≡◌, ◌≤◌, [], length};
 ghost use Rattle.mod_catalog.specs.WellFormed.{IsWellFormed};
 ghost use Rattle.store_model.specs.StoreState.{Board, empty_store};
-ghost use Rattle.recorded_boot.specs.Spelled.{IsRight, met};
-ghost use Rattle.recorded_boot.specs.Named.{AreNames, HasNoTwins};
+ghost use Rattle.recorded_boot.specs.{Spelled.IsRight, Spelled.met, Named.AreNames, Named.HasNoTwins};
 ghost use Rattle.recorded_boot.specs.FollowingText.{FollowsBoot, IsFollowed};
 
 use crate::order::{Names, names_are_guids};

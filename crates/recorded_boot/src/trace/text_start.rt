@@ -1,12 +1,10 @@
 // The start with which a text goes on.
 ghost use Rattle.std.specs.Prelude.{◌≡◌, ℕ, Some};
 ghost use Rattle.boot_io.specs.Faults.{IsPrefix};
-ghost use Rattle.boot_model.specs.declared.licence.Licence.{Licence};
-ghost use Rattle.boot_model.specs.Text.{line_text};
+ghost use Rattle.boot_model.specs.{declared.licence.Licence.Licence, Text.line_text};
 ghost use Rattle.pi_base.specs.declared.guid.Guid.{Guid as OfGuid};
 ghost use Rattle.trace_reader.specs.Readable.{IsLineOf, IsReadable};
-ghost use Rattle.recorded_boot.specs.Spelled.{IsRight, left};
-ghost use Rattle.recorded_boot.specs.StartLine.{phase_start};
+ghost use Rattle.recorded_boot.specs.{Spelled.IsRight, Spelled.left, StartLine.phase_start};
 
 use crate::order::start_of;
 use crate::trace::Spelled;

@@ -3,8 +3,7 @@ ghost use Rattle.std.specs.Prelude.{ℕ, List, IfOk};
 ghost use Rattle.boot_model.specs.FreeRun.{AreFreeLines};
 ghost use Rattle.mod_catalog.specs.declared.catalogue.Catalog.{Catalog as OfCatalog};
 ghost use Rattle.store_model.specs.StoreState.{Board};
-ghost use Rattle.recorded_boot.specs.FollowingText.{Follows, IsShort};
-ghost use Rattle.recorded_boot.specs.Verdict.{IsVerdict};
+ghost use Rattle.recorded_boot.specs.{FollowingText.Follows, FollowingText.IsShort, Verdict.IsVerdict};
 
 use crate::trace::{Parted, Spelled};
 use pi_base::OutOfMemory;

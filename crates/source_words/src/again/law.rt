@@ -1,9 +1,7 @@
 // The laws of printed words.
 ghost use Rattle.std.specs.Prelude.{◌≡◌, ◌<◌, ◌^◌, ℕ, decimal, Some};
-ghost use Rattle.line_words.specs.Number.{number_of};
-ghost use Rattle.pi_base.specs.declared.guid.Guid.{Guid};
-ghost use Rattle.pi_base.specs.WordText.{guid_text, hexadecimal};
-ghost use Rattle.line_words.specs.PrintedWords.{IsGuid};
+ghost use Rattle.line_words.specs.{Number.number_of, PrintedWords.IsGuid};
+ghost use Rattle.pi_base.specs.{declared.guid.Guid.Guid, WordText.guid_text, WordText.hexadecimal};
 ghost use Rattle.source_words.specs.GuidWord.{guid_of};
 
 /// What is printed of a number or a GUID is read as it.

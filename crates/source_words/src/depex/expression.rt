@@ -1,11 +1,8 @@
 // Expressions.
-ghost use Rattle.std.specs.Prelude.{◌≡◌, ◌≤◌, ◌∷◌, length, IfOk, IfErr, IfSome, IfNone};
+ghost use Rattle.std.specs.Prelude.{◌≡◌, ◌≤◌, ◌∷◌, length, IfOk, IfErr, IfSome, IfNone, zero};
 ghost use Rattle.pi_base.specs.declared.phase.Phase.{Phase};
-ghost use Rattle.depex_code.specs.declared.depex.Depex.{Depex};
-ghost use Rattle.depex_code.specs.Expression.{instructions};
-ghost use Rattle.source_words.specs.Tokens.{tokens};
-ghost use Rattle.std.specs.Prelude.{zero};
-ghost use Rattle.source_words.specs.declared.depex.walk.Stage.TheVariants.{Due};
+ghost use Rattle.depex_code.specs.{declared.depex.Depex.Depex, Expression.instructions};
+ghost use Rattle.source_words.specs.{Tokens.tokens, declared.depex.walk.Stage.TheVariants.Due};
 ghost use Rattle.source_words.specs.Cause.{expression_cause, first_cause, tree_cause};
 ghost use Rattle.source_words.specs.Expression.{FindsEnd, FindsGuid, FindsDepex, Says, GivesBack, IsRefused};
 

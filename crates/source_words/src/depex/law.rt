@@ -2,11 +2,8 @@
 ghost use Rattle.std.specs.Prelude.{◌≡◌, ℕ, List, None};
 ghost use Rattle.pi_base.specs.declared.phase.Phase.{Phase};
 ghost use Rattle.depex_code.specs.declared.depex.Depex.{Depex};
-ghost use Rattle.source_words.specs.Tokens.{tokens};
-ghost use Rattle.source_words.specs.Cause.{expression_cause};
-ghost use Rattle.asm_text.specs.ExpressionText.{expression_text};
-ghost use Rattle.asm_text.specs.ReadTree.{IsExpression};
-ghost use Rattle.source_words.specs.Expression.{AreOf, Says};
+ghost use Rattle.source_words.specs.{Tokens.tokens, Cause.expression_cause, Expression.AreOf, Expression.Says};
+ghost use Rattle.asm_text.specs.{ExpressionText.expression_text, ReadTree.IsExpression};
 
 /// A text says one expression.
 pub fn one_expression()

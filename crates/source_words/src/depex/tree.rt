@@ -1,6 +1,5 @@
 // The tree of a text's words.
-ghost use Rattle.source_words.specs.Tokens.{tokens};
-ghost use Rattle.source_words.specs.Expression.{FindsCode, FindsTree};
+ghost use Rattle.source_words.specs.{Tokens.tokens, Expression.FindsCode, Expression.FindsTree};
 
 use crate::depex::fault::ExpressionFault;
 use crate::depex::token::next_token;

@@ -1,9 +1,6 @@
 // The line of an action.
 ghost use Rattle.std.specs.Prelude.{◌≡◌, IfOk};
-ghost use Rattle.source_words.specs.Words.{words};
-ghost use Rattle.source_words.specs.Reading.{Gives};
-ghost use Rattle.source_words.specs.Operands.{operands_at};
-ghost use Rattle.source_words.specs.Script.{IsSaid};
+ghost use Rattle.source_words.specs.{Words.words, Reading.Gives, Operands.operands_at, Script.IsSaid};
 ghost use Rattle.source_words.specs.Action.{other_phase, is_logged, code_of_name, log_of, logged, action_of};
 
 use crate::script::fault::{LineFault, Stop};

@@ -2,9 +2,7 @@
 ghost use Rattle.std.specs.Prelude.{◌≡◌, true, Ok};
 ghost use Rattle.hex.specs.Hex.{IsBytes};
 ghost use Rattle.pi_base.specs.declared.phase.Phase.{Phase};
-ghost use Rattle.act_code.specs.declared.action.Action.{Action};
-ghost use Rattle.act_code.specs.Index.{is_indexed};
-ghost use Rattle.act_code.specs.Script.{IsAction, operand_bytes};
+ghost use Rattle.act_code.specs.{declared.action.Action.Action, Index.is_indexed, Script.IsAction, Script.operand_bytes};
 ghost use Rattle.asm_text.specs.ActionText.{action_text};
 ghost use Rattle.source_words.specs.Action.{action_of};
 

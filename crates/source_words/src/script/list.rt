@@ -1,9 +1,7 @@
 // The lists among operands, and HOBs. A reader gives a value and the words behind it.
 ghost use Rattle.std.specs.Prelude.{◌≡◌};
 ghost use Rattle.act_code.specs.Format.{is_within};
-ghost use Rattle.source_words.specs.Words.{words};
-ghost use Rattle.source_words.specs.Reading.{Gives};
-ghost use Rattle.source_words.specs.Operands.{registers_within};
+ghost use Rattle.source_words.specs.{Words.words, Reading.Gives, Operands.registers_within};
 
 use crate::next_word;
 use crate::script::fault::{LineFault, Stop};

@@ -1,8 +1,7 @@
 // The operands of actions. A reader gives a value and the words behind it.
 ghost use Rattle.std.specs.Prelude.{◌≡◌, ◌==◌, length};
 ghost use Rattle.act_code.specs.Format.{is_within};
-ghost use Rattle.source_words.specs.Words.{words};
-ghost use Rattle.source_words.specs.Reading.{Gives, only_if};
+ghost use Rattle.source_words.specs.{Words.words, Reading.Gives, Reading.only_if};
 ghost use Rattle.source_words.specs.declared.script.fault.LineFault.TheVariants as fault;
 ghost use Rattle.source_words.specs.Operands.{register_at, within_at, choice_at, guid_at, block_at, guid_arg_at, last_at, small_at};
 

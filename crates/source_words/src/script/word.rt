@@ -1,8 +1,6 @@
 // The words of a line, each as the value that it shows.
-ghost use Rattle.std.specs.Prelude.{◌≡◌, IfOk};
-ghost use Rattle.std.specs.List.{flat_map};
-ghost use Rattle.source_words.specs.Words.{words};
-ghost use Rattle.source_words.specs.Reading.{Gives};
+ghost use Rattle.std.specs.Prelude.{◌≡◌, IfOk, flat_map};
+ghost use Rattle.source_words.specs.{Words.words, Reading.Gives};
 ghost use Rattle.source_words.specs.Word.{word_at, register_of, choice_of, kind_of, status_of, bytes_at};
 
 use crate::script::fault::{LineFault, Stop};

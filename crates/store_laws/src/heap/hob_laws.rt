@@ -1,6 +1,5 @@
 //! HOBs that are added.
-ghost use Rattle.store_laws.specs.Front.{FirstImages};
-ghost use Rattle.store_laws.specs.Growing.{HobsAreAdded, NodesAreTexts};
+ghost use Rattle.store_laws.specs.{Front.FirstImages, Growing.HobsAreAdded, Growing.NodesAreTexts};
 ghost use Rattle.store_laws.specs.Padding.{TailsAreZero, WritesAreJoined};
 
 /// The first image, and that of a state with a HOB more.

@@ -1,7 +1,5 @@
 //! The heap in memory.
-ghost use Rattle.store_laws.specs.Descriptors.{VolumesAreApart};
-ghost use Rattle.store_laws.specs.Mapped.{FirstMemories, HeapsAreRead};
-ghost use Rattle.store_laws.specs.Peeking.{MemoryIsRead};
+ghost use Rattle.store_laws.specs.{Descriptors.VolumesAreApart, Mapped.FirstMemories, Mapped.HeapsAreRead, Peeking.MemoryIsRead};
 
 /// What memory reads where its heap is known.
 pub fn memory_read()

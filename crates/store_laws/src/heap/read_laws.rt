@@ -2,9 +2,7 @@
 ghost use Rattle.store_laws.specs.Chain.{DescriptorIsRead, ListsAreShort, NextIsRead, NodesAreInside, NumberIsRead, SecondIsRead};
 ghost use Rattle.store_laws.specs.Descriptors.{AddressesAreRead, FlagsAreRead, GuidsAreRead, NumbersAreRead};
 ghost use Rattle.store_laws.specs.Front.{BootModesAreRead, EndsAreRead, FreeBottomsAreRead, FreeIsRead, FreeTopsAreRead};
-ghost use Rattle.store_laws.specs.Hobs.{HobPlacesAreInside, HobsAreTold};
-ghost use Rattle.store_laws.specs.Volumes.{VolumesAreTold};
-ghost use Rattle.store_laws.specs.Walk.{ChainsAreLists};
+ghost use Rattle.store_laws.specs.{Hobs.HobPlacesAreInside, Hobs.HobsAreTold, Volumes.VolumesAreTold, Walk.ChainsAreLists};
 
 use pi_base::little_endian;
 

@@ -4,15 +4,12 @@
 use Rattle.std.specs.Prelude.{ℕ, ◌+◌, Bool, true, false, ◌==◌, ◌||◌, List, [], ◌++◌, map, Option, Some, None, option_map, unwrap_or, Ok, Err}
 use Rattle.std.specs.List.{list_any}
 use Rattle.pi_base.specs.declared.guid.Guid.{Guid}
-use Rattle.store_model.specs.declared.store_handle.DescKind.{DescKind}
+use Rattle.store_model.specs.{declared.store_handle.DescKind.DescKind, declared.store_handle.Desc.Desc}
 use Rattle.store_model.specs.declared.store_handle.DescKind.TheVariants.{Ppi, Callback, Dispatch}
-use Rattle.store_model.specs.declared.store_handle.Desc.{Desc}
 use Rattle.store_model.specs.declared.store_handle.GuidFrom.{GuidFrom}
 use Rattle.store_model.specs.declared.store_handle.GuidFrom.TheVariants.{Inline, At}
-use Rattle.store_model.specs.declared.store_handle.StoreFault.TheVariants.{Bad}
+use Rattle.store_model.specs.{declared.store_handle.StoreFault.TheVariants.Bad, MemoryReading.rom_bytes, Service.Service, Service.in_room}
 use Rattle.store_model.specs.StoreState.{Entry, DescriptorBody, Body, Bytes, Descriptor, Node, Allocation, StoreState, next_body, header_len, body_at, appended, pool_of, descriptor_len}
-use Rattle.store_model.specs.MemoryReading.{rom_bytes}
-use Rattle.store_model.specs.Service.{Service, in_room}
 
 -- the GUID, and its address where it stands in a volume; none where an address has no 16 bytes in one volume
 abbrev pub guid_from : StoreState → GuidFrom → Option (Guid × Option ℕ)

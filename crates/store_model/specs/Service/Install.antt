@@ -3,15 +3,11 @@
 -- PI 1.8, volume 1, `InstallPpi()`, `ReInstallPpi()` and `EFI_PEI_PERMANENT_MEMORY_INSTALLED_PPI_GUID`.
 use Rattle.std.specs.Prelude.{ℕ, ◌+◌, ◌*◌, Bool, ◌==◌, not, if◌then◌else◌, List, [], ◌∷◌, ◌++◌, length, map, Ok, Err, flat_map, filter, fold}
 use Rattle.std.specs.List.{list_any, list_all}
-use Rattle.pi_base.specs.declared.guid.Guid.{Guid}
-use Rattle.store_model.specs.declared.state.TheConstants.{CORE}
-use Rattle.pi_base.specs.declared.known_guid.TheConstants.{MEMORY_PPI}
-use Rattle.store_model.specs.declared.store_handle.DescKind.TheVariants.{Ppi}
-use Rattle.store_model.specs.declared.store_handle.Desc.{Desc}
-use Rattle.store_model.specs.declared.store_handle.Sweep.{Sweep}
+use Rattle.pi_base.specs.{declared.guid.Guid.Guid, declared.known_guid.TheConstants.MEMORY_PPI, Guids.same_guid}
+use Rattle.store_model.specs.{declared.state.TheConstants.CORE, declared.store_handle.DescKind.TheVariants.Ppi}
+use Rattle.store_model.specs.{declared.store_handle.Desc.Desc, declared.store_handle.Sweep.Sweep}
 use Rattle.store_model.specs.declared.store_handle.GuidFrom.TheVariants.{Inline}
 use Rattle.store_model.specs.declared.store_handle.StoreFault.TheVariants.{Full, Missing}
-use Rattle.pi_base.specs.Guids.{same_guid}
 use Rattle.store_model.specs.StoreState.{Entry, Node, StoreState, next_body, appended, pool_of, header_len, node_len}
 use Rattle.store_model.specs.Service.{Service, in_room, unless_bad}
 use Rattle.store_model.specs.Service.Descriptor.{desc, kind_at, guid_at, is_ppi, descriptors, offsets}

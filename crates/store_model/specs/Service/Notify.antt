@@ -2,10 +2,8 @@
 -- PI 1.8, volume 1, `NotifyPpi()`.
 use Rattle.std.specs.Prelude.{ℕ, ◌+◌, not, List, [], ◌∷◌, ◌++◌, length, Ok, filter, fold}
 use Rattle.std.specs.List.{list_any}
-use Rattle.store_model.specs.declared.store_handle.DescKind.{DescKind}
+use Rattle.store_model.specs.{declared.store_handle.DescKind.DescKind, declared.store_handle.Desc.Desc, declared.store_handle.Sweep.Sweep}
 use Rattle.store_model.specs.declared.store_handle.DescKind.TheVariants.{Ppi, Callback, Dispatch}
-use Rattle.store_model.specs.declared.store_handle.Desc.{Desc}
-use Rattle.store_model.specs.declared.store_handle.Sweep.{Sweep}
 use Rattle.store_model.specs.StoreState.{StoreState, Entry, next_body}
 use Rattle.store_model.specs.Service.{Service, in_room, unless_bad}
 use Rattle.store_model.specs.Service.Descriptor.{kind_at, is_ppi, is_callback, descriptors, offsets}

@@ -1,8 +1,7 @@
 -- Pools: a pool of zeros is made, and bytes are written into one.
 -- A pool's HOB has at most 65,528 bytes. PI 1.8, volume 1, `AllocatePool()`; volume 3, `EFI_HOB_MEMORY_POOL`.
 use Rattle.std.specs.Prelude.{ℕ, ◌+◌, if◌then◌else◌, nat_lt, List, ◌++◌, length, replicate, take, drop, Option, Some, None, Ok, Err}
-use Rattle.store_model.specs.declared.store_handle.Pool.{Pool}
-use Rattle.store_model.specs.declared.store_handle.StoreFault.TheVariants.{Full}
+use Rattle.store_model.specs.{declared.store_handle.Pool.Pool, declared.store_handle.StoreFault.TheVariants.Full}
 use Rattle.store_model.specs.StoreState.{Body, Bytes, Descriptor, Node, Allocation, StoreState, next_body, header_len, handoff_len, with_body, appended, pool_of, rounded}
 use Rattle.store_model.specs.Service.{Service, in_room}
 

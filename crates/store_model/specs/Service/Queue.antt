@@ -1,9 +1,8 @@
 -- The queue of dispatch notifications, first in, first out: the first pair leaves, and its node becomes zeros.
 -- PI 1.8, volume 1, `EFI_PEI_PPI_DESCRIPTOR_NOTIFY_DISPATCH`.
 use Rattle.std.specs.Prelude.{List, [], ◌∷◌, replicate, Option, Some, None}
-use Rattle.store_model.specs.declared.store_handle.Firing.{Firing}
+use Rattle.store_model.specs.{declared.store_handle.Firing.Firing, Service.Sweep.firing_of}
 use Rattle.store_model.specs.StoreState.{StoreState, Pending, Body, Bytes, with_body, handoff_len, node_len}
-use Rattle.store_model.specs.Service.Sweep.{firing_of}
 
 -- what a node becomes whose pair has left the queue
 abbrev pub zeroed : Body → Body

@@ -1,19 +1,14 @@
 -- What a store tells of its lists and of its HOBs, without a change. Places count from 0.
 -- PI 1.8, volume 1, `LocatePpi()`; the other readings are own.
 use Rattle.std.specs.Prelude.{ℕ, ◌+◌, Bool, ◌==◌, ◌&&◌, if◌then◌else◌, not, List, [], ◌∷◌, map, Option, Some, None, option_map, filter, slice_get, is_some}
-use Rattle.pi_base.specs.declared.guid.Guid.{Guid}
-use Rattle.pi_base.specs.Field.{little_number}
+use Rattle.pi_base.specs.{declared.guid.Guid.Guid, Field.little_number, Guids.same_guid}
 use Rattle.hob_codec.specs.declared.kind.TheConstants.{HANDOFF, VOLUME}
-use Rattle.store_model.specs.declared.store_handle.DescKind.{DescKind}
+use Rattle.store_model.specs.{declared.store_handle.DescKind.DescKind, declared.store_handle.Desc.Desc}
 use Rattle.store_model.specs.declared.store_handle.DescKind.TheVariants.{Ppi, Callback, Dispatch}
-use Rattle.store_model.specs.declared.store_handle.Desc.{Desc}
-use Rattle.store_model.specs.declared.store_handle.EntryList.{EntryList}
+use Rattle.store_model.specs.{declared.store_handle.EntryList.EntryList, declared.store_handle.EntryTold.EntryTold}
 use Rattle.store_model.specs.declared.store_handle.EntryList.TheVariants.{Ppis, Callbacks, Dispatches, Pendings}
-use Rattle.store_model.specs.declared.store_handle.EntryTold.{EntryTold}
-use Rattle.store_model.specs.declared.store_handle.HobSpan.{HobSpan}
-use Rattle.pi_base.specs.Guids.{same_guid}
+use Rattle.store_model.specs.{declared.store_handle.HobSpan.HobSpan, HeapImage.body_bytes}
 use Rattle.store_model.specs.StoreState.{Entry, Pending, HobEntry, StoreState, hob_len, handoff_len}
-use Rattle.store_model.specs.HeapImage.{body_bytes}
 use Rattle.store_model.specs.Service.Descriptor.{guid_at, number_at}
 
 -- the PPIs of a GUID, in order

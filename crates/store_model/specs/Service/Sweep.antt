@@ -1,12 +1,8 @@
 -- The pairs that a sweep has still to visit, and the first that fires: the GUID of the descriptor that now stands in the PPI's place is the callback's.
 -- PI 1.8, volume 1, `NotifyPpi()`; the order, PPI by PPI and then by registration, is own.
-use Rattle.std.specs.Prelude.{ℕ, ◌+◌, ◌-◌, Bool, false, if◌then◌else◌, nat_le, List, [], ◌∷◌, ◌++◌, map, Option, Some, None, option_map, flat_map, slice_get}
-use Rattle.std.specs.Option.{option_and_then}
-use Rattle.store_model.specs.declared.store_handle.Sweep.{Sweep}
-use Rattle.store_model.specs.declared.store_handle.Firing.{Firing}
-use Rattle.pi_base.specs.Guids.{same_guid}
-use Rattle.pi_base.specs.Lists.{numbers}
-use Rattle.store_model.specs.StoreState.{StoreState}
+use Rattle.std.specs.Prelude.{ℕ, ◌+◌, ◌-◌, Bool, false, if◌then◌else◌, nat_le, List, [], ◌∷◌, ◌++◌, map, Option, Some, None, option_map, flat_map, slice_get, option_and_then}
+use Rattle.store_model.specs.{declared.store_handle.Sweep.Sweep, declared.store_handle.Firing.Firing, StoreState.StoreState}
+use Rattle.pi_base.specs.{Guids.same_guid, Lists.numbers}
 use Rattle.store_model.specs.Service.Descriptor.{guid_at, number_at}
 
 -- what a notification is told, by the places of the two descriptors

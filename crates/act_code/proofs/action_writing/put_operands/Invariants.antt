@@ -1,7 +1,5 @@
-use Rattle.std.proofs.Common.{◌≡◌, ◌++◌, take}
-use Rattle.std.specs.List.{flat_map}
-use Rattle.act_code.specs.Format.{spelled}
-use Rattle.act_code.specs.Operands.{told}
+use Rattle.std.proofs.Common.{◌≡◌, ◌++◌, take, flat_map}
+use Rattle.act_code.specs.{Format.spelled, Operands.told}
 use Rattle.act_code.proofs.action_writing.put_operands.Given as goal
 
 abbrev pub invariant-loop-operand : goal.invariant-loop-operand

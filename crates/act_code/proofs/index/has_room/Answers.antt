@@ -1,5 +1,4 @@
-use Rattle.std.proofs.Common.{ap, sym, ◌∙◌, ◌+◌}
-use Rattle.std.specs.Prelude.{nat_le}
+use Rattle.std.proofs.Common.{ap, sym, ◌∙◌, ◌+◌, nat_le}
 use Rattle.act_code.specs.Index.{has_room}
 use Rattle.act_code.proofs.index.has_room.Goals as goal
 

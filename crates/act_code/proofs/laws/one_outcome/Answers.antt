@@ -1,9 +1,6 @@
-use Rattle.std.proofs.Common.{◌≡◌, ℕ, List, Result, Ok, Err, refl, sym, ◌∙◌, inl, inr}
-use Rattle.std.specs.Prelude.{◌⊎◌}
+use Rattle.std.proofs.Common.{◌≡◌, ℕ, List, Result, Ok, Err, refl, sym, ◌∙◌, inl, inr, ◌⊎◌}
 use Rattle.pi_base.specs.Field.{AreBytes}
-use Rattle.act_code.specs.declared.script.Script.{Script}
-use Rattle.act_code.specs.declared.fault.ActFault.{ActFault}
-use Rattle.act_code.specs.ScriptReading.{script_at}
+use Rattle.act_code.specs.{declared.script.Script.Script, declared.fault.ActFault.ActFault, ScriptReading.script_at}
 use Rattle.act_code.specs.Script.{IsScript, IsFault}
 use Rattle.act_code.proofs.Lists.{ok_is, err_is}
 use Rattle.act_code.proofs.Scripts.{script_takes, script_again, script_fails, script_fails_again}

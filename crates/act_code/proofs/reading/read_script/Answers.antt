@@ -1,6 +1,5 @@
 use Rattle.std.proofs.Common.{◌≡◌, Result, Ok, Err, sym, ◌∙◌, arith}
-use Rattle.act_code.specs.declared.script.Script.{Script}
-use Rattle.act_code.specs.declared.fault.ActFault.{ActFault}
+use Rattle.act_code.specs.{declared.script.Script.Script, declared.fault.ActFault.ActFault}
 use Rattle.act_code.proofs.Lists.{ok_is}
 use Rattle.act_code.proofs.Scripts.{script_takes, script_again, script_fails}
 use Rattle.act_code.proofs.reading.read_script.Goals as goal

@@ -1,5 +1,4 @@
-use Rattle.std.proofs.Common.{◌≡◌, ◌++◌, length, take}
-use Rattle.std.specs.List.{flat_map}
+use Rattle.std.proofs.Common.{◌≡◌, ◌++◌, length, take, flat_map}
 use Rattle.pi_base.specs.Field.{little_bytes}
 use Rattle.act_code.specs.Script.{action_bytes}
 use Rattle.act_code.proofs.writing.put_block.Given as goal

@@ -1,6 +1,5 @@
 use Rattle.std.proofs.Common.{sym, subst, All, List}
-use Rattle.act_code.specs.declared.action.Action.{Action}
-use Rattle.act_code.specs.Script.{IsWritableBlock}
+use Rattle.act_code.specs.{declared.action.Action.Action, Script.IsWritableBlock}
 use Rattle.act_code.proofs.Writable.{script_writable}
 use Rattle.act_code.proofs.writing.put_script.Goals as goal
 

@@ -1,9 +1,6 @@
-use Rattle.std.proofs.Common.{◌≡◌, ◌++◌, refl, subst, flat_map}
-use Rattle.std.specs.Prelude.{OnOk}
+use Rattle.std.proofs.Common.{◌≡◌, ◌++◌, refl, subst, flat_map, OnOk}
 use Rattle.std.proofs.lemmas.Grind.{flat_map-append}
-use Rattle.act_code.specs.declared.code.Code.{Code}
-use Rattle.act_code.specs.Operands.{told, IsInTurn}
-use Rattle.act_code.specs.Table.{code_of_action}
+use Rattle.act_code.specs.{declared.code.Code.Code, Operands.told, Operands.IsInTurn, Table.code_of_action}
 use Rattle.asm_text.specs.ActionText.{small_number, words_of, spaced, operand_text}
 use Rattle.asm_text.proofs.action_text.put_operands_of.Goals as goal
 

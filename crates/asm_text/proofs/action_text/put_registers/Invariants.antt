@@ -1,6 +1,5 @@
 use Rattle.std.proofs.Common.{◌≡◌, ◌++◌, take, map, flat_map}
-use Rattle.asm_text.specs.ActionText.{spaced}
-use Rattle.asm_text.specs.Numerals.{register}
+use Rattle.asm_text.specs.{ActionText.spaced, Numerals.register}
 use Rattle.asm_text.proofs.action_text.put_registers.Given as goal
 
 abbrev pub invariant-loop-register : goal.invariant-loop-register

@@ -1,5 +1,4 @@
-use Rattle.std.proofs.Common.{sym, refl}
-use Rattle.std.specs.Prelude.{codes}
+use Rattle.std.proofs.Common.{sym, refl, codes}
 use Rattle.asm_text.specs.Front.{guid_word}
 use Rattle.asm_text.proofs.Fronts.{behind_is}
 use Rattle.asm_text.proofs.Expressions.{found_before, found_after, sor_ok}

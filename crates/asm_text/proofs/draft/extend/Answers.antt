@@ -1,9 +1,6 @@
 use Rattle.std.proofs.Common.{◌≡◌, ℕ, ◌++◌, ◌∷◌, [], List, Option, Some, sym, ap, ◌∙◌, subst}
-use Rattle.act_code.specs.declared.action.Action.{Action}
-use Rattle.act_code.specs.declared.script.Script.{Script}
-use Rattle.act_code.specs.Reading.{◌>>=◌, Fails}
-use Rattle.asm_text.specs.Drafts.{with_action, extended}
-use Rattle.asm_text.specs.Walk.{split_last}
+use Rattle.act_code.specs.{declared.action.Action.Action, declared.script.Script.Script, Reading.◌>>=◌, Reading.Fails}
+use Rattle.asm_text.specs.{Drafts.with_action, Drafts.extended, Walk.split_last}
 use Rattle.asm_text.proofs.Paths.{split_push}
 use Rattle.asm_text.proofs.draft.extend.Goals as goal
 

@@ -1,5 +1,4 @@
-use Rattle.std.proofs.Common.{◌∙◌, [], arith, length, ◌∷◌, ◌<◌, ◌-◌}
-use Rattle.std.proofs.lemmas.List.{length-append}
+use Rattle.std.proofs.Common.{◌∙◌, [], arith, length, ◌∷◌, ◌<◌, ◌-◌, length-append}
 use Rattle.asm_text.proofs.TreeEnds.{empty_is, not_empty}
 use Rattle.asm_text.proofs.RegisterLists.{first_step, fails_too, too_many, all_read}
 use Rattle.asm_text.proofs.list_reading.few_registers.Goals as goal

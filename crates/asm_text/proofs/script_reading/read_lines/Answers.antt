@@ -1,5 +1,4 @@
-use Rattle.std.proofs.Common.{◌≡◌, ◌++◌, ◌∷◌, [], None, arith, sym}
-use Rattle.std.proofs.lemmas.List.{length-append}
+use Rattle.std.proofs.Common.{◌≡◌, ◌++◌, ◌∷◌, [], None, arith, sym, length-append}
 use Rattle.asm_text.specs.Drafts.{with_line}
 use Rattle.asm_text.proofs.TreeEnds.{empty_is, not_empty}
 use Rattle.asm_text.proofs.BadScripts.{bad_line, bad_end, bad_short, script_there, reached_more, text_more, few_reached}

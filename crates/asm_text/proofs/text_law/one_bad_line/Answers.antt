@@ -1,5 +1,4 @@
-use Rattle.asm_text.specs.ReadDepex.{IsDepexText}
-use Rattle.asm_text.specs.ReadScript.{IsScriptText}
+use Rattle.asm_text.specs.{ReadDepex.IsDepexText, ReadScript.IsScriptText}
 use Rattle.asm_text.proofs.OneBadLine.{one_bad_line}
 use Rattle.asm_text.proofs.text_law.one_bad_line.Goals as goal
 

@@ -1,6 +1,5 @@
 use Rattle.std.proofs.Common.{◌≡◌, ℕ, List, Option, Some, None, sym, ap, ◌∙◌, option_map}
-use Rattle.asm_text.specs.declared.token.Token.{Token}
-use Rattle.asm_text.specs.declared.token.Token.TheVariants.{Waits, Is}
+use Rattle.asm_text.specs.{declared.token.Token.Token, declared.token.Token.TheVariants.Waits, declared.token.Token.TheVariants.Is}
 use Rattle.asm_text.specs.declared.token.Waiting.TheVariants.{Negation, First}
 use Rattle.depex_code.specs.declared.opcode.Opcode.TheVariants as opcode
 use Rattle.asm_text.specs.Walk.{with_token, token_at}

@@ -1,5 +1,4 @@
-use Rattle.std.proofs.Common.{subst}
-use Rattle.std.specs.Prelude.{IfOk}
+use Rattle.std.proofs.Common.{subst, IfOk}
 use Rattle.asm_text.specs.Walk.{Goes, closed}
 use Rattle.asm_text.proofs.tree_reading.close.Goals as goal
 

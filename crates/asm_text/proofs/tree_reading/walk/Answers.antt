@@ -1,7 +1,6 @@
 use Rattle.std.proofs.Common.{◌≡◌, [], ◌∷◌, ◌++◌, Some, false, sym, ap, ◌∙◌, rules}
 use Rattle.asm_text.specs.Walk.{step}
-use Rattle.asm_text.proofs.Paths.{at, path_more}
-use Rattle.asm_text.proofs.TreeEnds.{walked_out, walked_to}
+use Rattle.asm_text.proofs.{Paths.at, Paths.path_more, TreeEnds.walked_out, TreeEnds.walked_to}
 use Rattle.asm_text.proofs.tree_reading.walk.Goals as goal
 
 pub walk-init : goal.walk-init

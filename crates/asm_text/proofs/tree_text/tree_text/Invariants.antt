@@ -1,6 +1,5 @@
 use Rattle.std.proofs.Common.{◌≡◌, [], List, Some, take}
-use Rattle.depex_code.specs.Tree.{DepexTree}
-use Rattle.depex_code.specs.TreeCode.{stack_after}
+use Rattle.depex_code.specs.{Tree.DepexTree, TreeCode.stack_after}
 use Rattle.asm_text.specs.Texts.{texts_of}
 use Rattle.asm_text.proofs.tree_text.tree_text.Given as goal
 

@@ -1,7 +1,6 @@
 use Rattle.std.proofs.Common.{◌+◌, drop, ap, ◌∙◌, arith}
 use Rattle.boot_core.specs.AuditText.{members_text, text_in}
-use Rattle.boot_core.proofs.Rest.{leaves_less, leaves_part}
-use Rattle.boot_core.proofs.AuditLines.{next_item}
+use Rattle.boot_core.proofs.{Rest.leaves_less, Rest.leaves_part, AuditLines.next_item}
 use Rattle.boot_io.proofs.PutsLaws.{puts_err}
 use Rattle.boot_core.proofs.audit_print.put_members.Goals as goal
 

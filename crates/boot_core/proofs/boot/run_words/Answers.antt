@@ -3,9 +3,7 @@ use Rattle.boot_core.specs.CommandLine.{AskForBoot}
 use Rattle.boot_io.specs.Words.{words_of}
 use Rattle.boot_core.specs.Deciding.{IsBoot, IsRefused, Names}
 use Rattle.boot_core.specs.Outcome.{AskedOutcome, Outcome, asked_done, kind_of}
-use Rattle.boot_core.proofs.Asking.{boots_of, due_of_words}
-use Rattle.boot_core.proofs.Ending.{ends_up, refused_ends}
-use Rattle.boot_core.proofs.Causes.{memory_kept}
+use Rattle.boot_core.proofs.{Asking.boots_of, Asking.due_of_words, Ending.ends_up, Ending.refused_ends, Causes.memory_kept}
 use Rattle.boot_core.proofs.WantOfMemory.{wanted_of}
 use Rattle.boot_core.proofs.boot.run_words.Goals as goal
 

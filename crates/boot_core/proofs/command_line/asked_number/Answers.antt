@@ -1,5 +1,4 @@
-use Rattle.std.proofs.Common.{◌≡◌, ℕ, List, [], ◌∷◌, Option, Some, None, sym, ap, ◌∙◌, subst}
-use Rattle.std.specs.Prelude.{IfNone, IfSome, codes}
+use Rattle.std.proofs.Common.{◌≡◌, ℕ, List, [], ◌∷◌, Option, Some, None, sym, ap, ◌∙◌, subst, IfNone, IfSome, codes}
 use Rattle.boot_core.specs.CommandLine.{AskForGenerated, IsCount}
 use Rattle.boot_io.specs.Words.{words_of}
 use Rattle.boot_core.proofs.OneStatus.{second}

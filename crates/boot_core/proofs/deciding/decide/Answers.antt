@@ -1,7 +1,6 @@
 use Rattle.std.proofs.Common.{ap, refl, sym, subst}
 use Rattle.std.proofs.lemmas.Result.{err_from_is_err_and}
-use Rattle.boot_core.specs.Job.{IsNamed, IsRefusal}
-use Rattle.boot_core.specs.Reading.{FilesTrail, Lacks}
+use Rattle.boot_core.specs.{Job.IsNamed, Job.IsRefusal, Reading.FilesTrail, Reading.Lacks}
 use Rattle.boot_io.specs.Words.{words_of}
 use Rattle.boot_core.specs.Deciding.{IsRefused, asked_of, Names, job_asked, job_refused, number_asked}
 use Rattle.boot_core.proofs.Asking.{lacks_up}

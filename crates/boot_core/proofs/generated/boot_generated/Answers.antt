@@ -1,10 +1,7 @@
 use Rattle.std.proofs.Common.{◌∙◌, ap, refl}
-use Rattle.boot_core.specs.BootEnd.{status_of}
-use Rattle.boot_core.specs.GeneratedOutcome.{GeneratedOutcome, summary_text}
-use Rattle.boot_core.specs.Refusing.{status_after}
+use Rattle.boot_core.specs.{BootEnd.status_of, GeneratedOutcome.GeneratedOutcome, GeneratedOutcome.summary_text, Refusing.status_after}
 use Rattle.boot_core.specs.Summing.{IsGeneratedRefusal}
-use Rattle.boot_core.proofs.Ending.{answer_ends, refused_ends}
-use Rattle.boot_core.proofs.RunEnds.{answer_of}
+use Rattle.boot_core.proofs.{Ending.answer_ends, Ending.refused_ends, RunEnds.answer_of}
 use Rattle.boot_core.proofs.Summed.{due_of_generated, lacks_of_summed, outcome_of}
 use Rattle.boot_core.proofs.generated.boot_generated.Goals as goal
 

@@ -1,8 +1,7 @@
 use Rattle.std.proofs.Common.{IfOk, List, ℕ, subst}
 use Rattle.boot_plan.specs.declared.plan.Plan.{Plan}
 use Rattle.boot_model.specs.PlanBoard.{board_of}
-use Rattle.boot_core.specs.GeneratedOutcome.{generated_images}
-use Rattle.boot_core.specs.Summing.{IsSummaryBy}
+use Rattle.boot_core.specs.{GeneratedOutcome.generated_images, Summing.IsSummaryBy}
 use Rattle.boot_core.proofs.generated.sum_up.Goals as goal
 
 pub returns : goal.returns

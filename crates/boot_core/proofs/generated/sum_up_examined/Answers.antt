@@ -2,9 +2,7 @@ use Rattle.std.proofs.Common.{Err, List, ℕ, sym, subst}
 use Rattle.std.proofs.lemmas.Result.{err_from_is_err_and}
 use Rattle.boot_plan.specs.declared.plan.Plan.{Plan}
 use Rattle.mod_catalog.specs.Catalogue.{IsCatalogue}
-use Rattle.boot_core.specs.Examining.{AreRefused, IsJob}
-use Rattle.boot_core.specs.GeneratedOutcome.{generated_images}
-use Rattle.boot_core.specs.Summing.{SumsUp}
+use Rattle.boot_core.specs.{Examining.AreRefused, Examining.IsJob, GeneratedOutcome.generated_images, Summing.SumsUp}
 use Rattle.boot_core.proofs.Summed.{refused_up}
 use Rattle.boot_core.proofs.generated.sum_up_examined.Goals as goal
 

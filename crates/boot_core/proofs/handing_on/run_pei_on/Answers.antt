@@ -1,9 +1,7 @@
 use Rattle.std.proofs.Common.{◌≡◌, IfOk, Result, Ok, Err, Some}
-use Rattle.boot_model.specs.PeiMachine.{PeiMachine}
-use Rattle.boot_model.specs.PeiRun.{pei_end}
+use Rattle.boot_model.specs.{PeiMachine.PeiMachine, PeiRun.pei_end}
 use Rattle.pi_base.specs.declared.memory.OutOfMemory.{OutOfMemory}
-use Rattle.boot_core.specs.declared.handing_on.HandOff.{HandOff}
-use Rattle.boot_core.specs.HandOff.{HandsOn}
+use Rattle.boot_core.specs.{declared.handing_on.HandOff.HandOff, HandOff.HandsOn}
 use Rattle.boot_core.proofs.handing_on.run_pei_on.Goals as goal
 
 -- what is handed on, where there is something, by two facts of the machine

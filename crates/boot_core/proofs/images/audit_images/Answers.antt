@@ -1,10 +1,7 @@
 use Rattle.std.proofs.Common.{refl}
-use Rattle.boot_core.specs.declared.command_line.Command.TheVariants.{Audit}
-use Rattle.boot_core.specs.declared.status.Status.TheVariants.{Done}
-use Rattle.boot_core.specs.AuditText.{audit_text}
+use Rattle.boot_core.specs.{declared.command_line.Command.TheVariants.Audit, declared.status.Status.TheVariants.Done, AuditText.audit_text}
 use Rattle.boot_core.specs.Outcome.{CommandOutcome, ImagesOutcome, images_sound}
-use Rattle.boot_core.proofs.Ending.{answer_ends}
-use Rattle.boot_core.proofs.Examined.{image_refused_ends}
+use Rattle.boot_core.proofs.{Ending.answer_ends, Examined.image_refused_ends}
 use Rattle.boot_core.proofs.images.audit_images.Goals as goal
 
 pub returns-in-Ok : goal.returns-in-Ok

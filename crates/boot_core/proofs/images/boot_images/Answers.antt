@@ -2,13 +2,11 @@ use Rattle.std.proofs.Common.{refl, subst}
 use Rattle.std.specs.Prelude.{⊤}
 use Rattle.mod_catalog.specs.declared.catalogue.Catalog.{Catalog}
 use Rattle.boot_model.specs.PlanBoard.{board_of}
-use Rattle.boot_core.specs.declared.command_line.Command.TheVariants.{Boot}
-use Rattle.boot_core.specs.Examining.{AreRefused, IsExamined}
+use Rattle.boot_core.specs.{declared.command_line.Command.TheVariants.Boot, Examining.AreRefused, Examining.IsExamined}
 use Rattle.boot_core.specs.Outcome.{BootOutcome, CommandOutcome, ImagesOutcome, images_sound, kind_of}
 use Rattle.boot_core.specs.Wanting.{IsWantedOutsidePei}
-use Rattle.boot_core.proofs.Ending.{ends_up}
+use Rattle.boot_core.proofs.{Ending.ends_up, Wanted.refused_outside}
 use Rattle.boot_core.proofs.Examined.{image_refused_ends, none_ran, of_catalogue}
-use Rattle.boot_core.proofs.Wanted.{refused_outside}
 use Rattle.boot_core.proofs.images.boot_images.Goals as goal
 
 pub returns-in-Ok-clause-ends : goal.returns-in-Ok-clause-ends

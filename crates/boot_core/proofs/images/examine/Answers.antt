@@ -1,5 +1,4 @@
-use Rattle.boot_core.proofs.Examined.{refused_by}
-use Rattle.boot_core.proofs.SomeVolume.{some_volume}
+use Rattle.boot_core.proofs.{Examined.refused_by, SomeVolume.some_volume}
 use Rattle.boot_core.proofs.images.examine.Goals as goal
 
 pub returns-in-Ok-clause-found : goal.returns-in-Ok-clause-found

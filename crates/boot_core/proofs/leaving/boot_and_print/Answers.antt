@@ -1,12 +1,8 @@
 use Rattle.std.proofs.Common.{ℕ, List, Option, subst}
 use Rattle.std.specs.Io.Buffered.{writer_contents}
 use Rattle.boot_io.specs.Words.{words_of}
-use Rattle.boot_core.specs.CommandLine.{AskForBoot}
-use Rattle.boot_core.specs.Deciding.{Names}
-use Rattle.boot_core.specs.Outcome.{Ends, Outcome}
-use Rattle.boot_core.specs.WantOfMemory.{IsWantedOutside}
-use Rattle.boot_core.proofs.LeftBy.{handed_comes, stopped_comes}
-use Rattle.boot_core.proofs.OneStatus.{Laws, comes_exactly}
+use Rattle.boot_core.specs.{CommandLine.AskForBoot, Deciding.Names, Outcome.Ends, Outcome.Outcome, WantOfMemory.IsWantedOutside}
+use Rattle.boot_core.proofs.{LeftBy.handed_comes, LeftBy.stopped_comes, OneStatus.Laws, OneStatus.comes_exactly}
 use Rattle.boot_core.proofs.leaving.boot_and_print.Goals as goal
 
 pub returns-clause-left : goal.returns-clause-left

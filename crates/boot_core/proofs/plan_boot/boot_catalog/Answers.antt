@@ -1,5 +1,4 @@
-use Rattle.boot_core.proofs.RunEnds.{hands_back, run_ends}
-use Rattle.boot_core.proofs.Wanted.{answered_outside}
+use Rattle.boot_core.proofs.{RunEnds.hands_back, RunEnds.run_ends, Wanted.answered_outside}
 use Rattle.boot_core.proofs.plan_boot.boot_catalog.Goals as goal
 
 pub returns : goal.returns

@@ -1,5 +1,4 @@
-use Rattle.std.proofs.Common.{flat_map}
-use Rattle.std.proofs.lemmas.List.{get_or_default}
+use Rattle.std.proofs.{Common.flat_map, lemmas.List.get_or_default}
 use Rattle.boot_io.proofs.PutsLaws.{part_of_lines, puts_err}
 use Rattle.boot_core.specs.GeneratedOutcome.{summary_line_text}
 use Rattle.boot_core.proofs.summary.put_summary.Goals as goal

@@ -1,6 +1,5 @@
 use Rattle.std.proofs.Common.{◌≡◌, ◌++◌, List, ℕ, ◌+◌, sym, ap, ◌∙◌, Ok, append_assoc, get_or, take, drop, subst}
-use Rattle.boot_io.specs.Line.{spaced}
-use Rattle.boot_io.specs.Sink.{AppendsPart}
+use Rattle.boot_io.specs.{Line.spaced, Sink.AppendsPart}
 use Rattle.boot_io.proofs.PutsLaws.{gathers_then, part_then, gathers_fails, gathers_err}
 use Rattle.boot_io.proofs.LineLemmas.{words_text, words_more, words_split}
 use Rattle.boot_io.proofs.line.gather_words.Goals as goal

@@ -1,5 +1,4 @@
-use Rattle.std.proofs.Common.{◌++◌, drop, sym, ap, ◌∙◌}
-use Rattle.std.proofs.lemmas.List.{take-append-drop}
+use Rattle.std.proofs.Common.{◌++◌, drop, sym, ap, ◌∙◌, take-append-drop}
 use Rattle.boot_io.proofs.memory_sink.front_of.Goals as goal
 
 pub returns-clause-begins : goal.returns-clause-begins

@@ -1,5 +1,4 @@
-use Rattle.std.specs.Io.Buffered.{writer_contents}
-use Rattle.std.specs.Io.KnownBytes.{Keeps}
+use Rattle.std.specs.{Io.Buffered.writer_contents, Io.KnownBytes.Keeps}
 use Rattle.boot_io.proofs.output.flush_buffer.Given as goal
 
 -- nothing was written meanwhile

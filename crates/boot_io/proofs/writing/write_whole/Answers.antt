@@ -1,5 +1,4 @@
-use Rattle.std.proofs.Common.{◌++◌, take, ap, ◌∙◌, append_assoc}
-use Rattle.std.proofs.lemmas.List.{take-append-drop}
+use Rattle.std.proofs.Common.{◌++◌, take, ap, ◌∙◌, append_assoc, take-append-drop}
 use Rattle.boot_io.proofs.PutsLaws.{appends_then}
 use Rattle.boot_io.proofs.writing.write_whole.Goals as goal
 

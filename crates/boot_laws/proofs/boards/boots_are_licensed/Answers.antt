@@ -1,6 +1,5 @@
 use Rattle.boot_model.specs.PlanBoard.{board_of}
-use Rattle.boot_laws.proofs.PlanBoards.{boards_are_sound}
-use Rattle.boot_laws.proofs.PeiLicences.{licensed_run}
+use Rattle.boot_laws.proofs.{PlanBoards.boards_are_sound, PeiLicences.licensed_run}
 use Rattle.boot_laws.proofs.boards.boots_are_licensed.Goals as goal
 
 pub returns : goal.returns

@@ -1,6 +1,5 @@
 use Rattle.boot_model.specs.PlanBoard.{board_of}
-use Rattle.boot_laws.proofs.PlanBoards.{boards_are_sound}
-use Rattle.boot_laws.proofs.RunFacts.{run_has_facts}
+use Rattle.boot_laws.proofs.{PlanBoards.boards_are_sound, RunFacts.run_has_facts}
 use Rattle.boot_laws.proofs.boards.boots_have_facts.Goals as goal
 
 pub returns : goal.returns

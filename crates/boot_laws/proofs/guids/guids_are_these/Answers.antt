@@ -1,6 +1,5 @@
 use Rattle.std.proofs.Common.{ap}
-use Rattle.boot_model.specs.EvaluationBound.{each_once}
-use Rattle.boot_model.specs.PeiStep.{case_of}
+use Rattle.boot_model.specs.{EvaluationBound.each_once, PeiStep.case_of}
 use Rattle.boot_laws.proofs.EventGuids.{case_is}
 use Rattle.boot_laws.proofs.guids.guids_are_these.Goals as goal
 

@@ -1,8 +1,6 @@
 use Rattle.std.proofs.Common.{◌∙◌, sym, refl}
-use Rattle.boot_model.specs.EvaluationBound.{case_guids}
-use Rattle.boot_model.specs.PeiStep.{case_of}
-use Rattle.boot_laws.proofs.GuidLists.{among_firsts}
-use Rattle.boot_laws.proofs.StepGuids.{step_puts}
+use Rattle.boot_model.specs.{EvaluationBound.case_guids, PeiStep.case_of}
+use Rattle.boot_laws.proofs.{GuidLists.among_firsts, StepGuids.step_puts}
 use Rattle.boot_laws.proofs.guids.guids_change.Goals as goal
 
 pub returns : goal.returns

@@ -1,5 +1,4 @@
-use Rattle.std.proofs.Common.{refl, rules}
-use Rattle.std.proofs.lemmas.Bool.{false≢true}
+use Rattle.std.proofs.{Common.refl, Common.rules, lemmas.Bool.false≢true}
 use Rattle.boot_plan.proofs.Finishing.{finished, ranged}
 use Rattle.boot_plan.proofs.finish.finish.Goals as goal
 

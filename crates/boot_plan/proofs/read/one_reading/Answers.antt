@@ -1,7 +1,6 @@
 use Rattle.line_words.specs.Line.{lines}
 use Rattle.boot_plan.specs.Said.{said}
-use Rattle.boot_plan.proofs.OneReading.{one_plan, one_fault}
-use Rattle.boot_plan.proofs.SomeReading.{some_reading}
+use Rattle.boot_plan.proofs.{OneReading.one_plan, OneReading.one_fault, SomeReading.some_reading}
 use Rattle.std.proofs.Common.{length}
 use Rattle.boot_plan.proofs.read.one_reading.Goals as goal
 

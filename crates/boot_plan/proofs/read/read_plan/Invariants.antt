@@ -1,8 +1,6 @@
 use Rattle.std.proofs.Common.{◌≡◌, ℕ, ◌+◌, ◌<◌, ◌≤◌, length, take, drop, None}
 use Rattle.line_words.specs.Line.{lines}
-use Rattle.boot_plan.specs.Said.{said}
-use Rattle.boot_plan.specs.Draft.{Keeps, IsInRange}
-use Rattle.boot_plan.specs.PlanText.{cause_at}
+use Rattle.boot_plan.specs.{Said.said, Draft.Keeps, Draft.IsInRange, PlanText.cause_at}
 use Rattle.boot_plan.proofs.read.read_plan.Given as goal
 
 -- the lines so far are sound, the draft has what they say, and the rest is what is left

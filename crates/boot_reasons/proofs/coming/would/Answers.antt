@@ -1,8 +1,6 @@
 use Rattle.std.proofs.Common.{[], not, filter, Some, sym, ap, ◌∙◌}
 use Rattle.pi_base.specs.declared.guid.Guid.{Guid}
-use Rattle.boot_reasons.specs.Asked.{asked_without}
-use Rattle.boot_reasons.specs.NotedOnce.{noted_all}
-use Rattle.boot_reasons.specs.Would.{would}
+use Rattle.boot_reasons.specs.{Asked.asked_without, NotedOnce.noted_all, Would.would}
 use Rattle.boot_reasons.proofs.OnceEach.{noted_once}
 use Rattle.boot_reasons.proofs.coming.would.Goals as goal
 

@@ -1,12 +1,7 @@
-use Rattle.std.proofs.Common.{◌≡◌, Bool, if◌then◌else◌, List, [], Option, Some, None, Result, Ok, Err, sym, ap, ◌∙◌}
-use Rattle.std.specs.Prelude.{IfOk, IsOkAnd}
-use Rattle.pi_base.specs.declared.guid.Guid.{Guid}
-use Rattle.pi_base.specs.declared.memory.OutOfMemory.{OutOfMemory}
+use Rattle.std.proofs.Common.{◌≡◌, Bool, if◌then◌else◌, List, [], Option, Some, None, Result, Ok, Err, sym, ap, ◌∙◌, IfOk, IsOkAnd}
+use Rattle.pi_base.specs.{declared.guid.Guid.Guid, declared.memory.OutOfMemory.OutOfMemory, Guids.same_guid, Lists.firsts}
 use Rattle.depex_code.specs.Tree.{DepexTree, truth}
-use Rattle.pi_base.specs.Guids.{same_guid}
-use Rattle.pi_base.specs.Lists.{firsts}
-use Rattle.boot_reasons.specs.declared.side.Side.{Side}
-use Rattle.boot_reasons.specs.NotedOnce.{noted_all}
+use Rattle.boot_reasons.specs.{declared.side.Side.Side, NotedOnce.noted_all}
 use Rattle.boot_reasons.specs.Would.{lacks, where_holds, with_these, would_make}
 use Rattle.boot_reasons.proofs.OnceEach.{noted_once, truth_once}
 use Rattle.boot_reasons.proofs.coming.would_make.Goals as goal

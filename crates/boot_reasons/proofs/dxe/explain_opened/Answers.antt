@@ -1,8 +1,7 @@
 use Rattle.std.proofs.Common.{◌∙◌, ap, sym, subst}
 use Rattle.boot_model.specs.DxeRun.{dxe_opening}
 use Rattle.dxe_core.specs.Order.{Drivers, IsOrderOf}
-use Rattle.dxe_dispatch.specs.Queue.{Discovers}
-use Rattle.dxe_dispatch.specs.Choices.{came}
+use Rattle.dxe_dispatch.specs.{Queue.Discovers, Choices.came}
 use Rattle.dxe_dispatch.proofs.ChosenWays.{opening_drivers}
 use Rattle.boot_reasons.proofs.DxeSteps.{at_opening}
 use Rattle.boot_reasons.proofs.dxe.explain_opened.Goals as goal

@@ -2,9 +2,7 @@ use Rattle.std.proofs.Common.{◌≡◌, None, arith, refl, ap, ◌∙◌}
 use Rattle.boot_model.specs.DxeRun.{dxe_bound, dxe_opening}
 use Rattle.dxe_dispatch.specs.Choices.{LetsDrivers, NamesDrivers, came}
 use Rattle.dxe_dispatch.proofs.Chosen.{StepLaws}
-use Rattle.boot_reasons.specs.DxeTelling.{NamesUnseenAfter}
-use Rattle.boot_reasons.specs.Givers.{actor_by}
-use Rattle.boot_reasons.specs.Unseen.{nowhere}
+use Rattle.boot_reasons.specs.{DxeTelling.NamesUnseenAfter, Givers.actor_by, Unseen.nowhere}
 use Rattle.boot_reasons.proofs.DxeSteps.{comes_first, flawless, told_further, told_to, turn_to_come, unseen, untold}
 use Rattle.boot_reasons.proofs.dxe.run_to_end.Goals as goal
 

@@ -1,11 +1,9 @@
 use Rattle.std.proofs.Common.{ℕ}
 use Rattle.store_model.specs.StoreState.{StoreState}
 use Rattle.boot_model.specs.DxeRun.{dxe_opening}
-use Rattle.dxe_dispatch.specs.Queue.{IsQueueFor}
+use Rattle.dxe_dispatch.specs.{Queue.IsQueueFor, Choices.LetsDrivers, Choices.NamesDrivers}
 use Rattle.dxe_core.specs.Standing.{IsFor}
-use Rattle.dxe_dispatch.specs.Choices.{LetsDrivers, NamesDrivers}
-use Rattle.boot_reasons.specs.DxeTelling.{IsAtOpening}
-use Rattle.boot_reasons.specs.Unseen.{nowhere}
+use Rattle.boot_reasons.specs.{DxeTelling.IsAtOpening, Unseen.nowhere}
 use Rattle.boot_reasons.proofs.DxeSteps.{IsComing, flawless, untold}
 use Rattle.boot_reasons.proofs.dxe.run_to_end.Given as goal
 

@@ -1,10 +1,8 @@
 use Rattle.std.proofs.Common.{◌≡◌, ◌++◌, filter, flat_map, length}
-use Rattle.boot_model.specs.DxeChoice.{is_waiting}
-use Rattle.boot_model.specs.DxeMachine.{DxeMachine}
+use Rattle.boot_model.specs.{DxeChoice.is_waiting, DxeMachine.DxeMachine}
 use Rattle.dxe_dispatch.specs.Queue.{IsQueueOf}
 use Rattle.dxe_core.specs.Standing.{IsCoreOf}
-use Rattle.boot_reasons.specs.DxeReasons.{dxe_held, dxe_held_at}
-use Rattle.boot_reasons.specs.Noting.{giver_in}
+use Rattle.boot_reasons.specs.{DxeReasons.dxe_held, DxeReasons.dxe_held_at, Noting.giver_in}
 use Rattle.boot_reasons.proofs.dxe_held.held_drivers.Given as goal
 
 -- those so far, and those of the drivers that are left, are all

@@ -1,10 +1,9 @@
 use Rattle.std.proofs.Common.{◌≡◌, true, sym, ap, ◌∙◌}
 use Rattle.boot_model.specs.DxeChoice.{is_waiting}
-use Rattle.boot_reasons.specs.Would.{would}
+use Rattle.boot_reasons.specs.{Would.would, Noting.giver_in}
 use Rattle.dxe_core.specs.Services.{flag_at}
 use Rattle.pi_base.specs.declared.phase.Phase.TheVariants.{Dxe}
 use Rattle.store_model.specs.HandleState.{has_protocol}
-use Rattle.boot_reasons.specs.Noting.{giver_in}
 use Rattle.boot_reasons.proofs.DxeEnds.{held_one}
 use Rattle.boot_reasons.proofs.dxe_held.held_of.Goals as goal
 

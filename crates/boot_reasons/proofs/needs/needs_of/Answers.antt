@@ -1,8 +1,6 @@
 use Rattle.std.proofs.Common.{◌++◌, ap, map, ◌∙◌}
-use Rattle.boot_reasons.specs.Needs.{need_of}
-use Rattle.boot_reasons.specs.Noting.{giver_in}
-use Rattle.boot_reasons.proofs.HeldParts.{need_is}
-use Rattle.boot_reasons.proofs.WalkedLists.{map_on, map_whole}
+use Rattle.boot_reasons.specs.{Needs.need_of, Noting.giver_in}
+use Rattle.boot_reasons.proofs.{HeldParts.need_is, WalkedLists.map_on, WalkedLists.map_whole}
 use Rattle.boot_reasons.proofs.needs.needs_of.Goals as goal
 
 pub guids-init : goal.guids-init

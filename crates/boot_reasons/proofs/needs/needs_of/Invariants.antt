@@ -1,6 +1,5 @@
 use Rattle.std.proofs.Common.{◌≡◌, ◌++◌, length, map}
-use Rattle.boot_reasons.specs.Needs.{need_of}
-use Rattle.boot_reasons.specs.Noting.{giver_in}
+use Rattle.boot_reasons.specs.{Needs.need_of, Noting.giver_in}
 use Rattle.boot_reasons.proofs.needs.needs_of.Given as goal
 
 -- the needs so far, and those of the GUIDs that are left, are all

@@ -1,7 +1,6 @@
 use Rattle.std.proofs.Common.{◌≡◌, ◌∙◌, sym, subst}
 use Rattle.std.proofs.lemmas.Result.{err_from_is_err_and}
-use Rattle.boot_model.specs.Licence.{AllDiffer}
-use Rattle.boot_model.specs.PeiRun.{pei_opening}
+use Rattle.boot_model.specs.{Licence.AllDiffer, PeiRun.pei_opening}
 use Rattle.pei_dispatch.specs.View.{first_view}
 use Rattle.boot_reasons.proofs.PeiEnds.{opened}
 use Rattle.boot_reasons.proofs.pei.queue_of_opening.Goals as goal

@@ -2,8 +2,7 @@ use Rattle.std.proofs.Common.{ℕ}
 use Rattle.store_model.specs.StoreState.{Board}
 use Rattle.pei_core.specs.Standing.{IsFor}
 use Rattle.pei_dispatch.specs.Choices.{LetsPeims}
-use Rattle.boot_reasons.specs.PeiEnding.{IsAtOpening}
-use Rattle.boot_reasons.specs.Unseen.{NamesUnseen}
+use Rattle.boot_reasons.specs.{PeiEnding.IsAtOpening, Unseen.NamesUnseen}
 use Rattle.boot_reasons.proofs.PeiEnds.{IsOnWay}
 use Rattle.boot_reasons.proofs.pei.run_to_end.Given as goal
 

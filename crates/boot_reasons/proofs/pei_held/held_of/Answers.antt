@@ -1,5 +1,4 @@
-use Rattle.std.proofs.Common.{sym, ◌∙◌, ap, subst}
-use Rattle.std.specs.Option.{option_copied}
+use Rattle.std.proofs.Common.{sym, ◌∙◌, ap, subst, option_copied}
 use Rattle.boot_model.specs.PeimState.{IsPeimState}
 use Rattle.boot_reasons.specs.Noting.{giver_in}
 use Rattle.boot_reasons.proofs.HeldParts.{held_is}

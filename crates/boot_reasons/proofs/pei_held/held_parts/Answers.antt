@@ -1,6 +1,5 @@
 use Rattle.boot_model.specs.PeiStep.{reason_of}
-use Rattle.boot_reasons.specs.Noting.{giver_in}
-use Rattle.boot_reasons.specs.PeiReasons.{pei_held_for}
+use Rattle.boot_reasons.specs.{Noting.giver_in, PeiReasons.pei_held_for}
 use Rattle.boot_reasons.proofs.WalkedLists.{flat_on}
 use Rattle.boot_reasons.proofs.pei_held.held_parts.Goals as goal
 

@@ -1,9 +1,7 @@
 use Rattle.std.proofs.Common.{◌≡◌, ◌++◌, flat_map, length}
-use Rattle.boot_model.specs.PeiMachine.{PeiMachine}
-use Rattle.boot_model.specs.PeiStep.{reason_of}
+use Rattle.boot_model.specs.{PeiMachine.PeiMachine, PeiStep.reason_of}
 use Rattle.pei_core.specs.Standing.{StandsFor}
-use Rattle.boot_reasons.specs.Noting.{giver_in}
-use Rattle.boot_reasons.specs.PeiReasons.{pei_held_for}
+use Rattle.boot_reasons.specs.{Noting.giver_in, PeiReasons.pei_held_for}
 use Rattle.boot_reasons.proofs.pei_held.held_parts.Given as goal
 
 -- those so far, and those of the parts that are left, are all

@@ -1,8 +1,7 @@
 use Rattle.std.proofs.Common.{◌∙◌, true, false}
 use Rattle.boot_model.specs.PeiStep.{started}
-use Rattle.pei_dispatch.specs.View.{view_of}
+use Rattle.pei_dispatch.specs.{View.view_of, Choices.LetsPeims}
 use Rattle.boot_laws.specs.PeiAim.{with_cursor}
-use Rattle.pei_dispatch.specs.Choices.{LetsPeims}
 use Rattle.pei_dispatch.proofs.Chosen.{aimed_idle, aimed_now, lets_by}
 use Rattle.boot_reasons.specs.Unseen.{NamesUnseen}
 use Rattle.boot_reasons.proofs.PeiSteps.{Laws, barred_on, chose_unseen, start_on, stop_on}

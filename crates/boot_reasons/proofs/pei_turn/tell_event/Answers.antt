@@ -1,8 +1,5 @@
-use Rattle.std.proofs.Common.{◌≡◌, Bool, List, ◌++◌, Result, Ok, Err, subst}
-use Rattle.std.specs.Prelude.{OnOk}
-use Rattle.std.specs.Option.{option_to_list}
-use Rattle.pi_base.specs.declared.guid.Guid.{Guid}
-use Rattle.pi_base.specs.declared.memory.OutOfMemory.{OutOfMemory}
+use Rattle.std.proofs.Common.{◌≡◌, Bool, List, ◌++◌, Result, Ok, Err, subst, OnOk, option_to_list}
+use Rattle.pi_base.specs.{declared.guid.Guid.Guid, declared.memory.OutOfMemory.OutOfMemory}
 use Rattle.store_model.specs.Service.Install.{has_ppi}
 use Rattle.explain_text.specs.declared.reasons.Giver.{Giver}
 use Rattle.boot_reasons.specs.Noting.{AreNoted}

@@ -2,8 +2,7 @@ use Rattle.std.proofs.Common.{◌∙◌, ap}
 use Rattle.boot_laws.specs.ChangedGuids.{IsKept}
 use Rattle.boot_model.specs.PeiStep.{pei_step}
 use Rattle.pei_dispatch.specs.Choices.{LetsPeims}
-use Rattle.boot_reasons.specs.Givers.{actor_by}
-use Rattle.boot_reasons.specs.Unseen.{NamesUnseen}
+use Rattle.boot_reasons.specs.{Givers.actor_by, Unseen.NamesUnseen}
 use Rattle.boot_reasons.proofs.PeiSteps.{Laws, cut_on, on_ok, went_on}
 use Rattle.boot_reasons.proofs.pei_turn.turn.Goals as goal
 

@@ -1,4 +1,4 @@
-use Rattle.std.specs.Prelude.{[]}
+use Rattle.std.proofs.Common.{[]}
 use Rattle.boot_model.specs.PlanBoard.{board_of}
 use Rattle.boot_reasons.proofs.plan.explain_over.Goals as goal
 

@@ -1,7 +1,6 @@
 use Rattle.std.proofs.Common.{◌≡◌, Bool, List, [], ◌∷◌, Some, IsSome, ◌<◌, ◌≤◌, length, slice_index_or, arith, sym, ap, ◌∙◌}
 use Rattle.pi_base.specs.declared.guid.Guid.{Guid}
-use Rattle.depex_code.specs.Tree.{postfix}
-use Rattle.depex_code.specs.declared.opcode.Opcode.{Opcode}
+use Rattle.depex_code.specs.{Tree.postfix, declared.opcode.Opcode.Opcode}
 use Rattle.boot_reasons.specs.declared.side.Side.{Side}
 use Rattle.boot_reasons.specs.Sides.{side_of, sides_after, sides_behind}
 use Rattle.boot_reasons.proofs.Parts.{has_operands, tree_alone}

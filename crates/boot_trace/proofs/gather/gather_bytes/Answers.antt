@@ -1,11 +1,8 @@
-use Rattle.std.proofs.Common.{◌≡◌, ◌++◌, List, ℕ, [], Ok, Err, refl, sym, ap, ◌∙◌, append_assoc, drop, subst}
-use Rattle.std.proofs.lemmas.List.{take-append-drop}
+use Rattle.std.proofs.Common.{◌≡◌, ◌++◌, List, ℕ, [], Ok, Err, refl, sym, ap, ◌∙◌, append_assoc, drop, subst, take-append-drop}
 use Rattle.hex.specs.Hex.{encode_lower}
-use Rattle.boot_io.specs.Line.{Gathers}
-use Rattle.boot_io.specs.Sink.{AppendsPart}
+use Rattle.boot_io.specs.{Line.Gathers, Sink.AppendsPart}
 use Rattle.boot_io.proofs.PutsLaws.{gathers_then, gathers_fails, gathers_err}
-use Rattle.boot_trace.proofs.Hexadecimal.{encode_lower-append, encode_lower-none}
-use Rattle.boot_trace.proofs.PieceTexts.{none_gathered}
+use Rattle.boot_trace.proofs.{Hexadecimal.encode_lower-append, Hexadecimal.encode_lower-none, PieceTexts.none_gathered}
 use Rattle.boot_trace.proofs.gather.gather_bytes.Goals as goal
 
 pub parts-init : goal.parts-init

@@ -1,6 +1,5 @@
 use Rattle.std.proofs.Common.{◌++◌, ◌∷◌, [], ◌+◌, sym, ap, ◌∙◌, Ok, append_assoc, get_or, take, drop}
-use Rattle.boot_trace.specs.declared.piece.Piece.TheVariants.{Decimal}
-use Rattle.boot_trace.specs.Pieces.{piece_text}
+use Rattle.boot_trace.specs.{declared.piece.Piece.TheVariants.Decimal, Pieces.piece_text}
 use Rattle.boot_io.proofs.PutsLaws.{gathers_then, gathers_err}
 use Rattle.boot_trace.proofs.PieceTexts.{words_text, words_more, words_at, piece_fails}
 use Rattle.boot_trace.proofs.gather.gather_words.Goals as goal

@@ -1,7 +1,6 @@
 use Rattle.std.proofs.Common.{◌≡◌, ◌++◌, List, ℕ, [], ◌∷◌, sym, ap, ◌∙◌, Ok, Err, append_assoc, subst, flat_map}
-use Rattle.boot_io.specs.Line.{spaced, line_of}
+use Rattle.boot_io.specs.{Line.spaced, Line.line_of, Sink.AppendsPart}
 use Rattle.boot_trace.specs.Pieces.{piece_texts}
-use Rattle.boot_io.specs.Sink.{AppendsPart}
 use Rattle.boot_io.proofs.PutsLaws.{gathers_then, gathers_fails, gathers_puts, puts_err}
 use Rattle.boot_trace.proofs.gather.put_words.Goals as goal
 

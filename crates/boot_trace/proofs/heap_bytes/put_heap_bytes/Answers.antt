@@ -4,8 +4,7 @@ use Rattle.hex.specs.Hex.{encode_lower}
 use Rattle.boot_io.specs.Sink.{AppendsPart, Puts}
 use Rattle.boot_io.proofs.PutsLaws.{appends_none, appends_then, part_then, part_of_more, puts_then, puts_err}
 use Rattle.boot_trace.specs.HeapParts.{IsHeapPart, heap_part}
-use Rattle.boot_trace.proofs.Hexadecimal.{encode_lower-none}
-use Rattle.boot_trace.proofs.HeapPieces.{piece_more, no_piece}
+use Rattle.boot_trace.proofs.{Hexadecimal.encode_lower-none, HeapPieces.piece_more, HeapPieces.no_piece}
 use Rattle.boot_trace.proofs.heap_bytes.put_heap_bytes.Goals as goal
 
 pub pieces-init : goal.pieces-init

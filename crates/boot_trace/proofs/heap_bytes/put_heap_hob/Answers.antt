@@ -3,8 +3,7 @@ use Rattle.hex.specs.Hex.{encode_lower}
 use Rattle.boot_io.specs.Sink.{AppendsPart, Puts}
 use Rattle.boot_io.proofs.PutsLaws.{puts_then, part_of_more}
 use Rattle.boot_trace.specs.HeapParts.{heap_part}
-use Rattle.boot_trace.proofs.HeapPieces.{part_some}
-use Rattle.boot_trace.proofs.Hexadecimal.{hob_parts}
+use Rattle.boot_trace.proofs.{HeapPieces.part_some, Hexadecimal.hob_parts}
 use Rattle.boot_trace.proofs.heap_bytes.put_heap_hob.Goals as goal
 
 pub returns-in-Ok-clause-text : goal.returns-in-Ok-clause-text

@@ -1,9 +1,7 @@
 use lib.Seq.{take-append-add}
-use Rattle.std.proofs.Common.{◌≡◌, ◌+◌, ◌++◌, length, List, ℕ, Some, ap, ◌∙◌, replicate, take, drop, arith}
-use Rattle.std.proofs.lemmas.List.{append-nil, length-replicate}
-use Rattle.store_model.specs.HeapImage.{hob_list}
-use Rattle.store_model.specs.StoreState.{end_place}
-use Rattle.store_model.specs.MemoryReading.{bytes_at}
+use Rattle.std.proofs.Common.{◌≡◌, ◌+◌, ◌++◌, length, List, ℕ, Some, ap, ◌∙◌, replicate, take, drop, arith, append-nil}
+use Rattle.std.proofs.lemmas.List.{length-replicate}
+use Rattle.store_model.specs.{HeapImage.hob_list, StoreState.end_place, MemoryReading.bytes_at}
 use Rattle.boot_trace.proofs.HeapReads.{list_length, list_read, peeked}
 use Rattle.boot_trace.proofs.hob_bytes.hob_list.Goals as goal
 

@@ -1,9 +1,7 @@
 use Rattle.std.proofs.Common.{◌+◌, Option, arith, sym, ◌∙◌, subst, IsSomeAnd}
 use Rattle.std.specs.Io.KnownBytes.{Appends}
 use Rattle.boot_io.specs.Sink.{AppendsPart}
-use Rattle.boot_model.specs.declared.line.Line.{Line}
-use Rattle.boot_model.specs.Listing.{hob_lines_from}
-use Rattle.boot_model.specs.Text.{line_text}
+use Rattle.boot_model.specs.{declared.line.Line.Line, Listing.hob_lines_from, Text.line_text}
 use Rattle.boot_trace.specs.HobLines.{all_hobs}
 use Rattle.boot_trace.proofs.HobBounds.{small_heap}
 use Rattle.boot_trace.proofs.HobPlaces.{told, none_left, hob_place, line_of_hob, line_at, line_in, lines_len}

@@ -1,8 +1,7 @@
 use Rattle.std.proofs.Common.{◌≡◌, ℕ, ◌-◌, ◌≤◌, length, take}
 use Rattle.std.specs.Io.KnownBytes.{Appends}
 use Rattle.store_model.specs.StoreState.{StoreState}
-use Rattle.boot_model.specs.Listing.{hob_lines_from}
-use Rattle.boot_model.specs.Text.{text_of}
+use Rattle.boot_model.specs.{Listing.hob_lines_from, Text.text_of}
 use Rattle.boot_trace.specs.HobLines.{all_hobs}
 use Rattle.boot_trace.proofs.HobPlaces.{place_of}
 use Rattle.boot_trace.proofs.store_hobs.put_hob_lines.Given as goal

@@ -3,8 +3,7 @@ use Rattle.std.specs.Io.KnownBytes.{Appends}
 use Rattle.boot_io.specs.Sink.{AppendsPart}
 use Rattle.boot_io.proofs.PutsLaws.{puts_then, part_of_more}
 use Rattle.boot_model.specs.declared.line.Line.TheVariants as L
-use Rattle.boot_model.specs.Listing.{hob_lines_from}
-use Rattle.boot_model.specs.Text.{line_text, text_of}
+use Rattle.boot_model.specs.{Listing.hob_lines_from, Text.line_text, Text.text_of}
 use Rattle.boot_trace.specs.HobLines.{all_hobs}
 use Rattle.boot_trace.proofs.store_hobs.put_hobs.Goals as goal
 

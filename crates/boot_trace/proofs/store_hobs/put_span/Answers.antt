@@ -1,11 +1,9 @@
 use Rattle.std.proofs.Common.{◌≡◌, ◌+◌, Option, Some, arith, ap, ◌∙◌, subst, IsSomeAnd}
 use Rattle.boot_io.specs.Sink.{Puts}
-use Rattle.boot_model.specs.declared.line.Line.{Line}
+use Rattle.boot_model.specs.{declared.line.Line.Line, Text.line_text}
 use Rattle.boot_model.specs.declared.line.Line.TheVariants as L
-use Rattle.boot_model.specs.Text.{line_text}
 use Rattle.boot_trace.specs.HeapParts.{IsHeapPart, heap_part}
-use Rattle.boot_trace.proofs.HobBounds.{low_heap}
-use Rattle.boot_trace.proofs.SpanLines.{body_at, span_line}
+use Rattle.boot_trace.proofs.{HobBounds.low_heap, SpanLines.body_at, SpanLines.span_line}
 use Rattle.boot_trace.proofs.store_hobs.put_span.Goals as goal
 
 pub overflow_add-at : goal.overflow_add-at

@@ -1,5 +1,4 @@
-use Rattle.std.proofs.Common.{◌∙◌, arith}
-use Rattle.std.proofs.lemmas.List.{length-map}
+use Rattle.std.proofs.{Common.◌∙◌, Common.arith, lemmas.List.length-map}
 use Rattle.store_model.specs.Service.Reading.{told_of}
 use Rattle.boot_io.proofs.PutsLaws.{puts_err}
 use Rattle.boot_model.specs.Text.{line_text, text_of}

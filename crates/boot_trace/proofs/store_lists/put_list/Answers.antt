@@ -2,8 +2,7 @@ use Rattle.std.proofs.Common.{ap, ◌∙◌, subst, length}
 use Rattle.std.specs.Io.KnownBytes.{Appends}
 use Rattle.boot_io.specs.Sink.{AppendsPart}
 use Rattle.boot_io.proofs.PutsLaws.{puts_err, puts_then, part_of_more}
-use Rattle.boot_model.specs.declared.line.Line.{Line}
-use Rattle.boot_model.specs.Text.{line_text, text_of}
+use Rattle.boot_model.specs.{declared.line.Line.Line, Text.line_text, Text.text_of}
 use Rattle.store_model.specs.Service.Reading.{told_of}
 use Rattle.boot_trace.specs.EntryLines.{count_line, entry_lines, list_text}
 use Rattle.boot_trace.proofs.store_lists.put_list.Goals as goal

@@ -1,8 +1,7 @@
 use Rattle.std.proofs.Common.{ℕ, List, [], ◌∷◌, flat_map, sym, subst}
 use Rattle.boot_io.specs.Sink.{Puts, AppendsPart}
 use Rattle.boot_io.proofs.PutsLaws.{puts_err, puts_then, part_of_more}
-use Rattle.boot_model.specs.Listing.{hob_lines, store_lines}
-use Rattle.boot_model.specs.Text.{text_of}
+use Rattle.boot_model.specs.{Listing.hob_lines, Listing.store_lines, Text.text_of}
 use Rattle.store_model.specs.declared.store_handle.EntryList.TheVariants.{Ppis, Callbacks, Dispatches, Pendings}
 use Rattle.boot_trace.specs.EntryLines.{list_text}
 use Rattle.boot_trace.proofs.StoreTexts.{store_text}

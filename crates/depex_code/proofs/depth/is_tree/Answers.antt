@@ -1,7 +1,5 @@
-use Rattle.std.proofs.Common.{◌≡◌, sym, ap, ◌∙◌, Some, None, Option, ℕ, [], refl, length, eq-eqb}
-use Rattle.std.specs.Prelude.{option_map}
-use Rattle.std.proofs.lemmas.Bool.{eqb-true, false≢true}
-use Rattle.std.proofs.lemmas.Option.{same_Some}
+use Rattle.std.proofs.Common.{◌≡◌, sym, ap, ◌∙◌, Some, None, Option, ℕ, [], refl, length, eq-eqb, option_map, eqb-true}
+use Rattle.std.proofs.{lemmas.Bool.false≢true, lemmas.Option.same_Some}
 use Rattle.depex_code.specs.TreeCode.{stack_after}
 use Rattle.depex_code.proofs.Stacks.{alone-spelled, spelled-alone}
 use Rattle.depex_code.proofs.depth.is_tree.Goals as goal

@@ -1,7 +1,6 @@
-use Rattle.std.proofs.Common.{refl, arith}
+use Rattle.std.proofs.Common.{refl, arith, true, false}
 use Rattle.depex_code.specs.declared.depex.Depex.TheVariants as depex
 use Rattle.pi_base.specs.declared.phase.Phase.TheVariants.{Dxe}
-use Rattle.std.specs.Prelude.{true, false}
 use Rattle.depex_code.proofs.Instructions.{instruction_takes}
 use Rattle.depex_code.proofs.Outcomes.{lengths_of, named_is, tree_is, first_is}
 use Rattle.depex_code.proofs.reading.driver_depex.Goals as goal

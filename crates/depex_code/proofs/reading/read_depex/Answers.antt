@@ -1,6 +1,5 @@
-use Rattle.std.proofs.Common.{refl, sym, ◌∙◌, arith, ◌≡◌, ◌+◌, ◌-◌, length, None}
+use Rattle.std.proofs.Common.{refl, sym, ◌∙◌, arith, ◌≡◌, ◌+◌, ◌-◌, length, None, false}
 use Rattle.pi_base.specs.declared.phase.Phase.TheVariants.{Pei}
-use Rattle.std.specs.Prelude.{false}
 use Rattle.depex_code.specs.Reading.{instruction_at}
 use Rattle.depex_code.proofs.Outcomes.{tree_is, nothing_is}
 use Rattle.depex_code.proofs.reading.read_depex.Goals as goal

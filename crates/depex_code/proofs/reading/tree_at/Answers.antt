@@ -1,5 +1,4 @@
-use Rattle.std.proofs.Common.{◌≡◌, length, arith, ap, inl, inr}
-use Rattle.std.specs.Prelude.{◌⊎◌}
+use Rattle.std.proofs.Common.{◌≡◌, length, arith, ap, inl, inr, ◌⊎◌}
 use Rattle.std.proofs.lemmas.List.{length_push}
 use Rattle.depex_code.proofs.TreeWalk.{more_read, left-le, place-near, tree_read, is_read, is_stuck}
 use Rattle.depex_code.specs.Reading.{instruction_at, BlocksAt}

@@ -1,11 +1,9 @@
 use Rattle.std.proofs.Common.{refl, sym, subst, ◌∙◌}
-use Rattle.pi_base.specs.declared.word.Word.TheVariants.{AlreadyStarted}
+use Rattle.pi_base.specs.{declared.word.Word.TheVariants.AlreadyStarted, declared.phase.Phase.TheVariants.Dxe}
 use Rattle.act_code.specs.declared.action.Action.TheVariants as A
 use Rattle.boot_model.specs.declared.line.CallName.TheVariants as C
-use Rattle.dxe_core.proofs.Replying.{refuses}
-use Rattle.pi_base.specs.declared.phase.Phase.TheVariants.{Dxe}
+use Rattle.dxe_core.proofs.{Replying.refuses, Grammar.at_most}
 use Rattle.phase_parts.specs.Needs.{IsScriptAction}
-use Rattle.dxe_core.proofs.Grammar.{at_most}
 use Rattle.dxe_core.specs.Reply.{IsReply, Replies}
 use Rattle.dxe_core.proofs.Taking.{counts, counts_where, flags_where, more}
 use Rattle.dxe_core.proofs.action.take_own.Goals as goal

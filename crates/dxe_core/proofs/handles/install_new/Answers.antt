@@ -2,13 +2,11 @@ use Rattle.std.proofs.Common.{refl, ap, subst, ◌∙◌, Some, None, Ok}
 use Rattle.act_code.specs.declared.action.Action.TheVariants as A
 use Rattle.boot_model.specs.declared.line.CallName.TheVariants as C
 use Rattle.boot_model.specs.declared.line.Extra.TheVariants as X
-use Rattle.boot_model.specs.declared.frame.Register.TheVariants.{HandleIn}
-use Rattle.boot_model.specs.Registers.{both, number_in}
+use Rattle.boot_model.specs.{declared.frame.Register.TheVariants.HandleIn, Registers.both, Registers.number_in}
 use Rattle.boot_model.specs.DxeAction.{Called, install_answer, install_reply}
 use Rattle.phase_parts.specs.declared.registers.Writes.TheVariants as W
 use Rattle.dxe_core.specs.Answered.{Serves, did, swept}
-use Rattle.dxe_core.specs.Event.{changes}
-use Rattle.dxe_core.specs.Services.{Services}
+use Rattle.dxe_core.specs.{Event.changes, Services.Services}
 use Rattle.dxe_core.proofs.Growing.{with_handles}
 use Rattle.dxe_core.proofs.Handling.{news, sweeps, unasked}
 use Rattle.dxe_core.proofs.handles.install_new.Goals as goal

@@ -1,15 +1,13 @@
-use Rattle.std.proofs.Common.{refl, ap, subst, ◌∙◌, suc, Some, Ok}
+use Rattle.std.proofs.Common.{refl, ap, subst, ◌∙◌, suc, Some, Ok, option_map}
 use Rattle.act_code.specs.declared.action.Action.TheVariants as A
 use Rattle.boot_model.specs.declared.line.CallName.TheVariants as C
 use Rattle.boot_model.specs.declared.line.Extra.TheVariants as X
 use Rattle.store_model.specs.HandleState.{install_on}
-use Rattle.std.specs.Prelude.{option_map}
 use Rattle.boot_model.specs.Registers.{both, handle_in, number_in}
 use Rattle.boot_model.specs.DxeAction.{Called, install_answer, install_reply}
 use Rattle.phase_parts.specs.declared.registers.Writes.TheVariants as W
 use Rattle.dxe_core.specs.Answered.{GrowByOne, Serves, did, swept}
-use Rattle.dxe_core.specs.Event.{changes}
-use Rattle.dxe_core.specs.Services.{Services}
+use Rattle.dxe_core.specs.{Event.changes, Services.Services}
 use Rattle.dxe_core.proofs.Growing.{grow_handles, grown, installs_one, with_handles}
 use Rattle.dxe_core.proofs.Handling.{adds, faulted, on_none, sweeps, unasked}
 use Rattle.dxe_core.proofs.handles.install_on.Goals as goal

@@ -1,7 +1,6 @@
 use Rattle.std.proofs.Common.{subst, Ok}
 use Rattle.act_code.specs.declared.action.Action.TheVariants as A
-use Rattle.dxe_core.specs.Answered.{Serves}
-use Rattle.dxe_core.specs.Services.{Services}
+use Rattle.dxe_core.specs.{Answered.Serves, Services.Services}
 use Rattle.dxe_core.proofs.Handling.{located, unlocated}
 use Rattle.dxe_core.proofs.handles.locate.Goals as goal
 

@@ -6,9 +6,7 @@ use Rattle.store_model.specs.HandleState.{uninstall_interface}
 use Rattle.boot_model.specs.DxeAction.{Called, uninstall_answer, uninstall_reply}
 use Rattle.phase_parts.specs.declared.registers.Writes.TheVariants as W
 use Rattle.dxe_core.specs.Answered.{GrowByOne, Serves, did}
-use Rattle.dxe_core.specs.Event.{changes}
-use Rattle.dxe_core.specs.Reply.{Replies}
-use Rattle.dxe_core.specs.Services.{Services}
+use Rattle.dxe_core.specs.{Event.changes, Reply.Replies, Services.Services}
 use Rattle.dxe_core.proofs.Growing.{grow_handles, grown, on_ok, uninstalls_none, with_handles}
 use Rattle.dxe_core.proofs.Handling.{faulted, removes, tells, unasked}
 use Rattle.dxe_core.proofs.handles.uninstall.Goals as goal

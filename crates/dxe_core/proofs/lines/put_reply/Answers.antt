@@ -1,7 +1,6 @@
 use Rattle.boot_io.proofs.PutsLaws.{part_of_more, puts_err, puts_then}
 use Rattle.std.proofs.Common.{◌∷◌}
-use Rattle.boot_model.specs.Discovery.{discovery_lines}
-use Rattle.boot_model.specs.Text.{line_text, text_of}
+use Rattle.boot_model.specs.{Discovery.discovery_lines, Text.line_text, Text.text_of}
 use Rattle.dxe_core.proofs.lines.put_reply.Goals as goal
 
 pub returns-in_err-put_made-clause-text : goal.returns-in_err-put_made-clause-text

@@ -1,6 +1,5 @@
 use Rattle.boot_io.proofs.PutsLaws.{puts_err}
-use Rattle.boot_model.specs.Discovery.{discovery_lines}
-use Rattle.boot_model.specs.Text.{text_of}
+use Rattle.boot_model.specs.{Discovery.discovery_lines, Text.text_of}
 use Rattle.dxe_core.proofs.VolumeLines.{part_of_volumes}
 use Rattle.dxe_core.proofs.lines.put_volumes.Goals as goal
 

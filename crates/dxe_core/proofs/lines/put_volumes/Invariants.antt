@@ -1,7 +1,6 @@
 use Rattle.std.proofs.Common.{◌≡◌, take}
 use Rattle.std.specs.Io.KnownBytes.{Appends}
-use Rattle.boot_model.specs.Discovery.{discovery_lines}
-use Rattle.boot_model.specs.Text.{text_of}
+use Rattle.boot_model.specs.{Discovery.discovery_lines, Text.text_of}
 use Rattle.dxe_core.proofs.lines.put_volumes.Given as goal
 
 abbrev pub invariant-volumes : goal.invariant-volumes

@@ -1,5 +1,4 @@
-use Rattle.std.proofs.Common.{sym, ◌∙◌, ap, arith}
-use Rattle.std.specs.Prelude.{slice_get}
+use Rattle.std.proofs.Common.{sym, ◌∙◌, ap, arith, slice_get}
 use Rattle.dxe_core.proofs.Notifying.{told, told_none, told_late}
 use Rattle.dxe_core.proofs.notify.next_of.Goals as goal
 

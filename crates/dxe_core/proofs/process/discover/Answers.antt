@@ -1,8 +1,5 @@
 use Rattle.std.proofs.Common.{ap, sym, subst, ◌∙◌, Ok}
-use Rattle.dxe_core.specs.Answered.{ProcessesVolume, did}
-use Rattle.dxe_core.specs.Event.{discovers}
-use Rattle.dxe_core.specs.Order.{IsOrderOf}
-use Rattle.dxe_core.specs.Services.{Services}
+use Rattle.dxe_core.specs.{Answered.ProcessesVolume, Answered.did, Event.discovers, Order.IsOrderOf, Services.Services}
 use Rattle.dxe_core.proofs.Discovered.{known_volume, new_volume, with_order}
 use Rattle.dxe_core.proofs.process.discover.Goals as goal
 

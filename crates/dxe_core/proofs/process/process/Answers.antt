@@ -2,8 +2,7 @@ use Rattle.std.proofs.Common.{refl}
 use Rattle.act_code.specs.declared.action.Action.TheVariants as A
 use Rattle.boot_model.specs.declared.line.CallName.TheVariants as C
 use Rattle.boot_model.specs.DxeAction.{process_reply}
-use Rattle.dxe_core.proofs.Discovered.{unmapped}
-use Rattle.dxe_core.proofs.Handling.{unasked}
+use Rattle.dxe_core.proofs.{Discovered.unmapped, Handling.unasked}
 use Rattle.dxe_core.proofs.process.process.Goals as goal
 
 pub discover-requires-clause-order : goal.discover-requires-clause-order

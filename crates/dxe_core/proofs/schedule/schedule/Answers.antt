@@ -1,9 +1,5 @@
 use Rattle.std.proofs.Common.{◌≡◌, ◌<◌, ◌∙◌, ap, sym, subst, length, Some}
-use Rattle.dxe_core.specs.Answered.{did}
-use Rattle.dxe_core.specs.Event.{requests}
-use Rattle.dxe_core.specs.Order.{asking_of}
-use Rattle.dxe_core.specs.Requests.{ServesRequest, first_down}
-use Rattle.dxe_core.specs.Services.{Services}
+use Rattle.dxe_core.specs.{Answered.did, Event.requests, Order.asking_of, Requests.ServesRequest, Requests.first_down, Services.Services}
 use Rattle.act_code.specs.declared.action.Action.TheVariants as A
 use Rattle.dxe_core.proofs.Requested.{named, none_named, with_flag}
 use Rattle.dxe_core.proofs.schedule.schedule.Goals as goal

@@ -1,10 +1,6 @@
-use Rattle.std.proofs.Common.{◌≡◌, sym, subst}
-use Rattle.std.specs.Prelude.{OnOk}
-use Rattle.dxe_dispatch.specs.Aim.{aimed}
-use Rattle.dxe_dispatch.specs.Queue.{IsQueueOf}
-use Rattle.dxe_dispatch.specs.Choices.{Aims, root_of}
-use Rattle.dxe_dispatch.proofs.Chosen.{order_of, seen_of}
-use Rattle.dxe_dispatch.proofs.Turning.{on_ok}
+use Rattle.std.proofs.Common.{◌≡◌, sym, subst, OnOk}
+use Rattle.dxe_dispatch.specs.{Aim.aimed, Queue.IsQueueOf, Choices.Aims, Choices.root_of}
+use Rattle.dxe_dispatch.proofs.{Chosen.order_of, Chosen.seen_of, Turning.on_ok}
 use Rattle.dxe_dispatch.proofs.aim.aim.Goals as goal
 
 pub returns-in-Some-clause-row : goal.returns-in-Some-clause-row

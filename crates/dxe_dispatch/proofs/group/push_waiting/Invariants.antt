@@ -1,7 +1,5 @@
-use Rattle.std.proofs.Common.{◌≡◌, ◌++◌, drop, map}
-use Rattle.std.specs.Prelude.{filter}
-use Rattle.dxe_dispatch.specs.declared.group.Item.TheVariants.{Group}
-use Rattle.dxe_dispatch.specs.Queue.{waits_at}
+use Rattle.std.proofs.Common.{◌≡◌, ◌++◌, drop, map, filter}
+use Rattle.dxe_dispatch.specs.{declared.group.Item.TheVariants.Group, Queue.waits_at}
 use Rattle.dxe_dispatch.proofs.group.push_waiting.Given as goal
 
 -- the items so far, and those that are left, make the whole

@@ -1,6 +1,4 @@
-use Rattle.std.proofs.Common.{sym, ap, ◌∙◌}
-use Rattle.std.specs.Option.{option_and_then}
-use Rattle.std.specs.Prelude.{slice_get}
+use Rattle.std.proofs.Common.{sym, ap, ◌∙◌, option_and_then, slice_get}
 use Rattle.wait_index.specs.Index.{order_in}
 use Rattle.dxe_dispatch.proofs.Machines.{stands_settled}
 use Rattle.dxe_dispatch.proofs.index.first_that_may_start.Goals as goal

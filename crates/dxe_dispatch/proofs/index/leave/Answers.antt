@@ -1,5 +1,4 @@
-use Rattle.std.proofs.Common.{◌≡◌, Some}
-use Rattle.std.specs.Prelude.{slice_get}
+use Rattle.std.proofs.Common.{◌≡◌, Some, slice_get}
 use Rattle.wait_index.specs.Index.{order_in}
 use Rattle.dxe_dispatch.proofs.WaitingDrivers.{leaves_none, not_there, place_within}
 use Rattle.dxe_dispatch.proofs.index.leave.Goals as goal

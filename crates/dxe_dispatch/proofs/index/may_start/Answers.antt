@@ -1,9 +1,7 @@
-use Rattle.std.proofs.Common.{ℕ, ◌≡◌, ◌<◌, length, sym, ◌∙◌, Some, arith}
-use Rattle.std.specs.Prelude.{slice_get}
+use Rattle.std.proofs.Common.{ℕ, ◌≡◌, ◌<◌, length, sym, ◌∙◌, Some, arith, slice_get}
 use Rattle.wait_index.specs.Index.{is_eligible_in, order_in}
 use Rattle.dxe_dispatch.proofs.Eligible.{first_from_place, is_same_place, next_with_place, none_without_place, one_place}
-use Rattle.dxe_dispatch.proofs.Machines.{stands_settled}
-use Rattle.dxe_dispatch.proofs.WaitingDrivers.{not_there, place_within}
+use Rattle.dxe_dispatch.proofs.{Machines.stands_settled, WaitingDrivers.not_there, WaitingDrivers.place_within}
 use Rattle.dxe_dispatch.proofs.index.may_start.Goals as goal
 
 pub next-requires-clause-cursor : goal.next-requires-clause-cursor

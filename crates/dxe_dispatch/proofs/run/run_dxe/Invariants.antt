@@ -1,9 +1,8 @@
 use Rattle.std.proofs.Common.{◌≡◌, ◌+◌, ℕ}
 use Rattle.store_model.specs.StoreState.{StoreState}
 use Rattle.boot_model.specs.DxeRun.{dxe_opening}
-use Rattle.dxe_dispatch.specs.Queue.{IsQueueFor, owed}
+use Rattle.dxe_dispatch.specs.{Queue.IsQueueFor, Queue.owed, Choices.LetsDrivers, Choices.NamesDrivers}
 use Rattle.dxe_core.specs.Standing.{IsFor, StandsFor}
-use Rattle.dxe_dispatch.specs.Choices.{LetsDrivers, NamesDrivers}
 use Rattle.dxe_dispatch.proofs.ChosenWays.{IsComing}
 use Rattle.dxe_dispatch.proofs.run.run_dxe.Given as goal
 

@@ -1,5 +1,4 @@
-use Rattle.std.proofs.Common.{sym, ◌∙◌}
-use Rattle.std.proofs.lemmas.Result.{err_from_is_err_and}
+use Rattle.std.proofs.{Common.sym, Common.◌∙◌, lemmas.Result.err_from_is_err_and}
 use Rattle.boot_model.specs.DxeStep.{dxe_step}
 use Rattle.dxe_dispatch.proofs.Idle.{case_starts}
 use Rattle.dxe_dispatch.proofs.Turning.{none_put, not_ok, part_started, part_stopped, starts_so, stays_so, stops_so}

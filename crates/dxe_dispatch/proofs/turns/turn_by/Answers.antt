@@ -1,9 +1,8 @@
 use Rattle.std.proofs.Common.{arith, ◌+◌, ℕ, ap, ◌∙◌, subst, Option}
 use Rattle.std.proofs.lemmas.Result.{err_from_is_err_and}
 use Rattle.boot_model.specs.DxeMachine.{DxeMachine}
-use Rattle.dxe_dispatch.specs.Queue.{owed}
+use Rattle.dxe_dispatch.specs.{Queue.owed, Ends.IsNow}
 use Rattle.dxe_dispatch.specs.Choices.{LetsDrivers, NamesDrivers, aimed_at}
-use Rattle.dxe_dispatch.specs.Ends.{IsNow}
 use Rattle.dxe_dispatch.specs.Turns.{AreKeptFor, IsLeft, TurnsDxeTo}
 use Rattle.dxe_dispatch.proofs.Chosen.{Any, StepLaws, aim_by, few_started, has_aimed, not_aimed, starts_are, turned_by, within_less}
 use Rattle.dxe_dispatch.proofs.Turning.{on_ok}

@@ -1,10 +1,8 @@
 use Rattle.std.proofs.Common.{◌≡◌, flat_map, take}
 use Rattle.std.specs.Io.KnownBytes.{Appends}
-use Rattle.boot_model.specs.DxeMachine.{DxeMachine}
-use Rattle.boot_model.specs.Text.{text_of}
+use Rattle.boot_model.specs.{DxeMachine.DxeMachine, Text.text_of}
 use Rattle.dxe_core.specs.Services.{AreFlags}
-use Rattle.dxe_dispatch.specs.Queue.{IsQueueOf}
-use Rattle.dxe_dispatch.specs.Waiting.{waiting_line}
+use Rattle.dxe_dispatch.specs.{Queue.IsQueueOf, Waiting.waiting_line}
 use Rattle.dxe_dispatch.proofs.waiting.put_all_waiting.Given as goal
 
 -- the lines of the drivers so far

@@ -1,8 +1,7 @@
 use Rattle.std.proofs.Common.{[], ◌∷◌, ◌++◌, decimal}
 use Rattle.boot_io.specs.Line.{line_of}
 use Rattle.boot_model.specs.Text.{end_text}
-use Rattle.explain_text.specs.EndLines.{heap_line, moved_lines}
-use Rattle.explain_text.specs.Words.{word_of}
+use Rattle.explain_text.specs.{EndLines.heap_line, EndLines.moved_lines, Words.word_of}
 use Rattle.explain_text.specs.declared.keyword.Keyword.TheVariants as K
 use Rattle.explain_text.proofs.HeldText.{next_added, on_ok}
 use Rattle.explain_text.proofs.end_lines.put_end.Goals as goal

@@ -1,7 +1,6 @@
-use Rattle.std.proofs.Common.{◌≡◌, ◌+◌, Bool, List, [], ◌∷◌, ◌++◌, ap, sym, subst, take, ◌∙◌}
-use Rattle.std.proofs.lemmas.List.{take_all, take_more}
-use Rattle.explain_text.specs.declared.reasons.Held.{Held}
-use Rattle.explain_text.specs.Flags.{AddsHeld}
+use Rattle.std.proofs.Common.{◌≡◌, ◌+◌, Bool, List, [], ◌∷◌, ◌++◌, ap, sym, subst, take, ◌∙◌, take_all}
+use Rattle.std.proofs.lemmas.List.{take_more}
+use Rattle.explain_text.specs.{declared.reasons.Held.Held, Flags.AddsHeld}
 use Rattle.explain_text.proofs.Flagged.{held_more, held_other, none_held}
 use Rattle.explain_text.proofs.flags.add_held.Goals.{then-same_phase, else-same_phase}
 use Rattle.explain_text.proofs.flags.add_held.Goals as goal

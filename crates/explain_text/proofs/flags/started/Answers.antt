@@ -1,7 +1,6 @@
-use Rattle.std.proofs.Common.{◌≡◌, ◌+◌, Bool, List, [], ◌∷◌, ◌++◌, ap, sym, subst, take, ◌∙◌}
-use Rattle.std.proofs.lemmas.List.{take_all, take_more}
-use Rattle.explain_text.specs.declared.reasons.Begun.{Begun}
-use Rattle.explain_text.specs.Flags.{AreStarted}
+use Rattle.std.proofs.Common.{◌≡◌, ◌+◌, Bool, List, [], ◌∷◌, ◌++◌, ap, sym, subst, take, ◌∙◌, take_all}
+use Rattle.std.proofs.lemmas.List.{take_more}
+use Rattle.explain_text.specs.{declared.reasons.Begun.Begun, Flags.AreStarted}
 use Rattle.explain_text.proofs.Flagged.{none_started, started_more, started_other}
 use Rattle.explain_text.proofs.flags.started.Goals.{then-same_phase, else-same_phase}
 use Rattle.explain_text.proofs.flags.started.Goals as goal

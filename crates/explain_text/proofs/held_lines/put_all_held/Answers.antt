@@ -1,6 +1,5 @@
 use Rattle.std.proofs.Common.{◌++◌, ap, ◌∙◌}
-use Rattle.explain_text.specs.declared.reasons.Held.{Held}
-use Rattle.explain_text.specs.HeldLines.{held_lines}
+use Rattle.explain_text.specs.{declared.reasons.Held.Held, HeldLines.held_lines}
 use Rattle.explain_text.proofs.HeldText.{text_next}
 use Rattle.explain_text.proofs.held_lines.put_all_held.Goals as goal
 

@@ -1,8 +1,6 @@
 use Rattle.std.proofs.Common.{◌≡◌, ◌++◌, List, flat_map, take}
 use Rattle.mod_catalog.specs.declared.catalogue.Module.{Module}
-use Rattle.explain_text.specs.declared.reasons.Begun.{Begun}
-use Rattle.explain_text.specs.Context.{AreContexts}
-use Rattle.explain_text.specs.HeldLines.{held_lines}
+use Rattle.explain_text.specs.{declared.reasons.Begun.Begun, Context.AreContexts, HeldLines.held_lines}
 use Rattle.explain_text.proofs.held_lines.put_all_held.Given as goal
 
 abbrev pub invariant-waits : goal.invariant-waits

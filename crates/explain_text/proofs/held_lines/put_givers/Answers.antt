@@ -1,12 +1,9 @@
 use Rattle.std.proofs.Common.{ℕ, Bool, List, Option, ◌++◌, flat_map, sym, ap, ◌∙◌, subst}
 use Rattle.boot_io.specs.Line.{spaced}
 use Rattle.pi_base.specs.GuidMap.{value_of}
-use Rattle.explain_text.specs.declared.givers.Link.{Link}
+use Rattle.explain_text.specs.{declared.givers.Link.Link, Flags.flag, Givers.Chain, Givers.givers_from, Words.word_of}
 use Rattle.explain_text.specs.declared.keyword.Keyword.TheVariants as K
-use Rattle.explain_text.specs.Flags.{flag}
-use Rattle.explain_text.specs.Givers.{Chain, givers_from}
 use Rattle.explain_text.specs.HeldLines.{or_dash, told_words, with_core}
-use Rattle.explain_text.specs.Words.{word_of}
 use Rattle.explain_text.proofs.HeldText.{nobody_told, on_ok, somebody_told, three_added, words_with, words_without}
 use Rattle.explain_text.proofs.held_lines.put_givers.Goals as goal
 

@@ -1,7 +1,6 @@
 use Rattle.std.proofs.Common.{[], ◌∷◌, decimal}
 use Rattle.pi_base.specs.WordText.{guid_text}
-use Rattle.explain_text.specs.HeldLines.{lacks_words}
-use Rattle.explain_text.specs.Words.{word_of}
+use Rattle.explain_text.specs.{HeldLines.lacks_words, Words.word_of}
 use Rattle.explain_text.specs.declared.keyword.Keyword.TheVariants as K
 use Rattle.explain_text.proofs.HeldText.{line_added, on_ok}
 use Rattle.explain_text.proofs.held_lines.put_lacks.Goals as goal

@@ -1,8 +1,6 @@
 use Rattle.std.proofs.Common.{◌≡◌, ◌++◌, List, flat_map, take}
 use Rattle.mod_catalog.specs.declared.catalogue.Module.{Module}
-use Rattle.explain_text.specs.declared.reasons.Begun.{Begun}
-use Rattle.explain_text.specs.Context.{IsContext}
-use Rattle.explain_text.specs.HeldLines.{need_line}
+use Rattle.explain_text.specs.{declared.reasons.Begun.Begun, Context.IsContext, HeldLines.need_line}
 use Rattle.explain_text.proofs.held_lines.put_needs.Given as goal
 
 abbrev pub invariant-needs : goal.invariant-needs

@@ -1,8 +1,7 @@
 use Rattle.std.proofs.Common.{Bool, ◌++◌, ap, cond, sym, ◌∙◌}
 use Rattle.boot_io.specs.Line.{spaced}
 use Rattle.explain_text.specs.declared.keyword.Keyword.TheVariants as K
-use Rattle.explain_text.specs.Flags.{flag}
-use Rattle.explain_text.specs.Words.{word_of}
+use Rattle.explain_text.specs.{Flags.flag, Words.word_of}
 use Rattle.explain_text.proofs.HeldText.{on_ok, pair_added}
 use Rattle.explain_text.proofs.held_lines.put_pair.Goals as goal
 

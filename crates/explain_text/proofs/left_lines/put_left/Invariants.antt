@@ -1,6 +1,5 @@
 use Rattle.std.proofs.Common.{◌≡◌, ◌++◌, drop}
-use Rattle.explain_text.specs.Flags.{flag}
-use Rattle.explain_text.specs.LeftLines.{left_lines}
+use Rattle.explain_text.specs.{Flags.flag, LeftLines.left_lines}
 use Rattle.explain_text.proofs.left_lines.put_left.Given as goal
 
 -- the lines so far and those to come make the whole

@@ -1,12 +1,8 @@
 use Rattle.std.proofs.Common.{◌≡◌, ◌++◌, List, OnOk, ap, flat_map, subst, ◌∙◌}
 use Rattle.pi_base.specs.declared.phase.Phase.TheVariants.{Dxe, Pei}
 use Rattle.mod_catalog.specs.declared.catalogue.Module.{Module}
-use Rattle.explain_text.specs.declared.reasons.Begun.{Begun}
-use Rattle.explain_text.specs.EndLines.{end_lines}
-use Rattle.explain_text.specs.HeldLines.{held_lines}
-use Rattle.explain_text.specs.LeftLines.{left_lines}
-use Rattle.explain_text.specs.StartLines.{start_lines}
-use Rattle.explain_text.specs.Text.{explained_text, is_told}
+use Rattle.explain_text.specs.{declared.reasons.Begun.Begun, EndLines.end_lines, HeldLines.held_lines, LeftLines.left_lines}
+use Rattle.explain_text.specs.{StartLines.start_lines, Text.explained_text, Text.is_told}
 use Rattle.explain_text.proofs.HeldText.{next_added, on_ok}
 use Rattle.explain_text.proofs.text.put_explained.Goals as goal
 

@@ -1,8 +1,5 @@
 use Rattle.std.proofs.Common.{Bool, List, ◌++◌, ap, ◌∙◌, length, arith}
-use Rattle.explain_text.specs.Flags.{flag}
-use Rattle.explain_text.specs.LeftLines.{left_lines}
-use Rattle.explain_text.specs.Text.{is_told}
-use Rattle.explain_text.specs.Told.{known_in}
+use Rattle.explain_text.specs.{Flags.flag, LeftLines.left_lines, Text.is_told, Told.known_in}
 use Rattle.explain_text.proofs.LeftText.{same_left}
 use Rattle.explain_text.proofs.text.put_rest.Goals as goal
 

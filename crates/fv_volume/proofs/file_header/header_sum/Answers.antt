@@ -1,6 +1,4 @@
-use Rattle.std.proofs.Common.{◌≡◌, ℕ, ◌+◌, ◌%◌, ap, ◌∙◌, arith, drop, length-drop}
-use Rattle.std.specs.Prelude.{sum}
-use Rattle.std.proofs.lemmas.List.{take_all}
+use Rattle.std.proofs.Common.{◌≡◌, ℕ, ◌+◌, ◌%◌, ap, ◌∙◌, arith, drop, length-drop, sum, take_all}
 use Rattle.fv_volume.proofs.file_header.header_sum.Goals as goal
 
 sums : (a b c x y z : ℕ) → x ≡ a % 256 → y ≡ b % 256 → z ≡ c % 256 → ((x + y) % 256 + z) % 256 ≡ (a + b + c) % 256

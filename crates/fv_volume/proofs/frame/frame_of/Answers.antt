@@ -1,6 +1,5 @@
 use Rattle.std.proofs.Common.{Some, None, Ok, Err, refl, ap, ◌∙◌, arith}
-use Rattle.std.proofs.lemmas.Bool.{cond_below}
-use Rattle.std.proofs.lemmas.Result.{err_from_is_err_and}
+use Rattle.std.proofs.{lemmas.Bool.cond_below, lemmas.Result.err_from_is_err_and}
 use Rattle.fv_volume.proofs.Frames.{framed, extended_room, framed_within}
 use Rattle.fv_volume.proofs.frame.frame_of.Goals as goal
 

@@ -1,7 +1,5 @@
 use Rattle.std.proofs.Common.{sym, ap, ◌∙◌, inl, inr, subst}
-use Rattle.fv_volume.specs.Search.{IsListing, IsSearchFault}
-use Rattle.fv_volume.specs.Volume.{image_of}
-use Rattle.fv_volume.specs.Frame.{frame_of}
+use Rattle.fv_volume.specs.{Search.IsListing, Search.IsSearchFault, Volume.image_of, Frame.frame_of}
 use Rattle.fv_volume.proofs.Volumes.{same_frame, not_both, same_fault, made_volume, one_listing, one_fault, no_fault, some_volume}
 use Rattle.fv_volume.proofs.law.one_reading.Goals as goal
 

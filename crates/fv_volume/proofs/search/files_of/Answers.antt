@@ -1,7 +1,5 @@
 use Rattle.std.proofs.Common.{length, ◌≡◌, ◌++◌, ◌∷◌, [], sym, ap, ◌∙◌, arith, length-append}
-use Rattle.fv_volume.specs.declared.file.FfsFile.{FfsFile}
-use Rattle.fv_volume.specs.Item.{listed_of}
-use Rattle.fv_volume.specs.Search.{met_at}
+use Rattle.fv_volume.specs.{declared.file.FfsFile.FfsFile, Item.listed_of, Search.met_at}
 use Rattle.fv_volume.proofs.Searches.{leads_more, files_more, step}
 use Rattle.fv_volume.proofs.search.files_of.Goals as goal
 

@@ -1,6 +1,5 @@
 use Rattle.std.proofs.Common.{◌≡◌, ◌+◌, ◌-◌, ◌≤◌, List, length}
-use Rattle.fv_volume.specs.declared.item.Item.{Item}
-use Rattle.fv_volume.specs.Search.{Leads, files_of}
+use Rattle.fv_volume.specs.{declared.item.Item.Item, Search.Leads, Search.files_of}
 use Rattle.fv_volume.proofs.search.files_of.Given as goal
 
 -- the items so far lead from the start to this place

@@ -1,8 +1,6 @@
 use Rattle.std.proofs.Common.{inl, inr, refl, sym, ap, ◌∙◌, subst, Err}
 use Rattle.std.proofs.lemmas.Result.{err_from_is_err_and}
-use Rattle.fv_volume.specs.declared.volume.Volume.{Volume}
-use Rattle.fv_volume.specs.Search.{IsListing, IsSearchFault}
-use Rattle.fv_volume.specs.Volume.{IsVolume}
+use Rattle.fv_volume.specs.{declared.volume.Volume.Volume, Search.IsListing, Search.IsSearchFault, Volume.IsVolume}
 use Rattle.fv_volume.proofs.Standing.{volume_inside, volume_in_order}
 use Rattle.fv_volume.proofs.volume.read_volume.Goals as goal
 

@@ -1,13 +1,9 @@
 use Rattle.std.proofs.Common.{◌≡◌, ◌⊎◌, ◌+◌, ◌<◌, List, length, take, drop, sym, ap, ◌∙◌, subst, arith}
 use Rattle.std.specs.List.{splice}
-use Rattle.gcd_map.specs.declared.range.GcdRange.{GcdRange}
+use Rattle.gcd_map.specs.{declared.range.GcdRange.GcdRange, Growing.Replaces, Growing.after, Tests.base_at, Tests.IsRangeOf}
 use Rattle.gcd_map.specs.Ranges.{Cover, Differ, DoesFit}
-use Rattle.gcd_map.specs.Growing.{Replaces, after}
-use Rattle.gcd_map.specs.Tests.{base_at, IsRangeOf}
-use Rattle.gcd_map.proofs.Covers.{begins_at_zero}
+use Rattle.gcd_map.proofs.{Covers.begins_at_zero, Changes.on_ok, Splices.replaced, Splices.rest_begins}
 use Rattle.gcd_map.proofs.Stretches.{covers_fit, each_drop, each_take}
-use Rattle.gcd_map.proofs.Changes.{on_ok}
-use Rattle.gcd_map.proofs.Splices.{replaced, rest_begins}
 use Rattle.gcd_map.proofs.change.change.Goals as goal
 
 pub first_meeting-at-requires-clause-first : goal.first_meeting-at-requires-clause-first

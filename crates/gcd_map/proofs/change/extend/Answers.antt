@@ -1,6 +1,5 @@
 use Rattle.std.proofs.Common.{List, sym, subst, arith}
-use Rattle.gcd_map.specs.declared.range.GcdRange.{GcdRange}
-use Rattle.gcd_map.specs.Growing.{Extends}
+use Rattle.gcd_map.specs.{declared.range.GcdRange.GcdRange, Growing.Extends}
 use Rattle.gcd_map.proofs.Changes.{on_ok, extended}
 use Rattle.gcd_map.proofs.change.extend.Goals as goal
 

@@ -1,8 +1,5 @@
 use Rattle.std.proofs.Common.{◌≡◌, ◌+◌, refl, ap, ◌∙◌, subst}
-use Rattle.gcd_map.specs.declared.state.SpaceState.{SpaceState}
-use Rattle.gcd_map.specs.AddressSpace.{after_effect}
-use Rattle.gcd_map.specs.Ranges.{state_of}
-use Rattle.gcd_map.specs.Growing.{Extends}
+use Rattle.gcd_map.specs.{declared.state.SpaceState.SpaceState, AddressSpace.after_effect, Ranges.state_of, Growing.Extends}
 use Rattle.gcd_map.proofs.Changes.{on_ok, extended_by}
 use Rattle.gcd_map.proofs.change.extend_by.Goals as goal
 

@@ -1,9 +1,6 @@
-use Rattle.std.proofs.Common.{◌≡◌, [], ◌∷◌, ◌++◌, List, refl, sym, ap, ◌∙◌, subst}
-use Rattle.std.proofs.lemmas.List.{append-nil, append_assoc}
+use Rattle.std.proofs.Common.{◌≡◌, [], ◌∷◌, ◌++◌, List, refl, sym, ap, ◌∙◌, subst, append-nil, append_assoc}
 use Rattle.pi_base.specs.Lists.{Each}
-use Rattle.gcd_map.specs.declared.range.GcdRange.{GcdRange}
-use Rattle.gcd_map.specs.Ranges.{DoesFit}
-use Rattle.gcd_map.specs.Growing.{Replaces}
+use Rattle.gcd_map.specs.{declared.range.GcdRange.GcdRange, Ranges.DoesFit, Growing.Replaces}
 use Rattle.gcd_map.proofs.Changes.{no_items, replaced_none, replaced_more}
 use Rattle.gcd_map.proofs.change.replacement.Goals as goal
 

@@ -1,8 +1,6 @@
 use Rattle.std.proofs.Common.{◌≡◌, ◌++◌, List, length}
 use Rattle.pi_base.specs.Lists.{Each}
-use Rattle.gcd_map.specs.declared.range.GcdRange.{GcdRange}
-use Rattle.gcd_map.specs.Ranges.{DoesFit}
-use Rattle.gcd_map.specs.Growing.{Replaces}
+use Rattle.gcd_map.specs.{declared.range.GcdRange.GcdRange, Ranges.DoesFit, Growing.Replaces}
 use Rattle.gcd_map.proofs.change.replacement.Given as goal
 
 abbrev pub invariant-met : goal.invariant-met

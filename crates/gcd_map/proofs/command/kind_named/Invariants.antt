@@ -1,7 +1,5 @@
-use Rattle.std.proofs.Common.{◌≡◌, length, find}
-use Rattle.std.specs.Str.{bytes_eq}
-use Rattle.gcd_map.specs.CommandText.{kind_named}
-use Rattle.gcd_map.specs.MapText.{kind_text}
+use Rattle.std.proofs.Common.{◌≡◌, length, find, bytes_eq}
+use Rattle.gcd_map.specs.{CommandText.kind_named, MapText.kind_text}
 use Rattle.gcd_map.proofs.command.kind_named.Given as goal
 
 -- the word is none of the kinds so far

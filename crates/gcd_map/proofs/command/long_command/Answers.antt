@@ -1,6 +1,4 @@
-use Rattle.std.proofs.Common.{sym, ◌∙◌}
-use Rattle.std.specs.Prelude.{codes}
-use Rattle.std.specs.Str.{bytes_eq}
+use Rattle.std.proofs.Common.{sym, ◌∙◌, codes, bytes_eq}
 use Rattle.line_words.specs.Number.{number_of}
 use Rattle.gcd_map.specs.CommandText.{kind_named, align_of}
 use Rattle.gcd_map.proofs.CommandWords.{no_kind, no_number, no_len}

@@ -1,6 +1,4 @@
-use Rattle.std.proofs.Common.{sym, ◌∙◌}
-use Rattle.std.specs.Prelude.{codes}
-use Rattle.std.specs.Str.{bytes_eq}
+use Rattle.std.proofs.Common.{sym, ◌∙◌, codes, bytes_eq}
 use Rattle.line_words.specs.Number.{number_of}
 use Rattle.gcd_map.proofs.CommandWords.{no_first, no_last}
 use Rattle.gcd_map.proofs.command.short_command.Goals as goal

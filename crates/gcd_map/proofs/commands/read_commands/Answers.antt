@@ -1,8 +1,7 @@
 use Rattle.std.proofs.Common.{◌∙◌, sym, subst, arith, rules, below_more}
 use Rattle.std.proofs.lemmas.Result.{err_from_is_err_and}
 use Rattle.line_words.specs.Line.{lines}
-use Rattle.gcd_map.specs.CommandFaults.{IsCommandFault}
-use Rattle.gcd_map.specs.CommandText.{IsBad}
+use Rattle.gcd_map.specs.{CommandFaults.IsCommandFault, CommandText.IsBad}
 use Rattle.gcd_map.proofs.CommandLines.{at_is, spelled_more, ended, fault_at}
 use Rattle.gcd_map.proofs.commands.read_commands.Goals as goal
 

@@ -1,6 +1,5 @@
 use Rattle.std.proofs.Common.{subst, sym, rules}
-use Rattle.gcd_map.specs.AddressSpace.{MemorySpace}
-use Rattle.gcd_map.specs.SpaceMap.{Shows}
+use Rattle.gcd_map.specs.{AddressSpace.MemorySpace, SpaceMap.Shows}
 use Rattle.gcd_map.proofs.Following.{add_fault}
 use Rattle.gcd_map.proofs.fill.add_at.Goals as goal
 

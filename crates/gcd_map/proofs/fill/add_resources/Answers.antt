@@ -1,11 +1,9 @@
 use Rattle.std.proofs.Common.{◌≡◌, ◌∷◌, List, refl, subst, ◌≢◌, sym}
 use Rattle.std.proofs.lemmas.Result.{err_from_is_err_and}
-use Rattle.gcd_map.specs.declared.fault.GcdFault.{GcdFault}
-use Rattle.gcd_map.specs.declared.fault.GcdCause.TheVariants.{Memory}
+use Rattle.gcd_map.specs.{declared.fault.GcdFault.GcdFault, declared.fault.GcdCause.TheVariants.Memory, HobFaults.ComesNot, HobFaults.Stops}
 use Rattle.pi_base.specs.Lists.{Each}
 use Rattle.hob_codec.specs.declared.list.HobPlace.{HobPlace}
 use Rattle.gcd_map.specs.HobMap.{resources, resource_at, MayCome, came, with_first}
-use Rattle.gcd_map.specs.HobFaults.{ComesNot, Stops}
 use Rattle.gcd_map.specs.Places.{IsNear}
 use Rattle.gcd_map.proofs.Changes.{no_items}
 use Rattle.gcd_map.proofs.Following.{Goes, Gone, goes_first, goes_step, step_stops}

@@ -1,8 +1,7 @@
 use Rattle.std.proofs.Common.{length}
 use Rattle.pi_base.specs.Lists.{Each}
 use Rattle.gcd_map.specs.HobMap.{resources, MayCome, came}
-use Rattle.gcd_map.specs.HobFaults.{ComesNot}
-use Rattle.gcd_map.specs.Places.{IsNear}
+use Rattle.gcd_map.specs.{HobFaults.ComesNot, Places.IsNear}
 use Rattle.gcd_map.proofs.Following.{Goes}
 use Rattle.gcd_map.proofs.fill.add_resources.Given as goal
 

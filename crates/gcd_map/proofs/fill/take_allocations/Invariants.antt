@@ -1,8 +1,7 @@
 use Rattle.std.proofs.Common.{length}
 use Rattle.pi_base.specs.Lists.{Each}
 use Rattle.gcd_map.specs.HobMap.{allocations, MayBeTaken, taken}
-use Rattle.gcd_map.specs.HobFaults.{IsNotTaken}
-use Rattle.gcd_map.specs.Places.{IsNear}
+use Rattle.gcd_map.specs.{HobFaults.IsNotTaken, Places.IsNear}
 use Rattle.gcd_map.proofs.Following.{Goes}
 use Rattle.gcd_map.proofs.fill.take_allocations.Given as goal
 

@@ -1,7 +1,6 @@
 use Rattle.std.proofs.Common.{◌≡◌, length}
 use Rattle.pi_base.specs.Lists.{Each}
-use Rattle.gcd_map.specs.HobMap.{first_cpu}
-use Rattle.gcd_map.specs.Places.{IsNear}
+use Rattle.gcd_map.specs.{HobMap.first_cpu, Places.IsNear}
 use Rattle.gcd_map.proofs.hobs.first_cpu.Given as goal
 
 abbrev pub invariant-cpus : goal.invariant-cpus

@@ -1,10 +1,8 @@
 use Rattle.std.proofs.Common.{◌≢◌, inr, ◌^◌, List, sym, subst}
 use Rattle.std.proofs.lemmas.Result.{err_from_is_err_and}
 use Rattle.hob_codec.specs.declared.list.HobPlace.{HobPlace}
-use Rattle.gcd_map.specs.AddressSpace.{empty_space}
+use Rattle.gcd_map.specs.{AddressSpace.empty_space, HobFaults.IsFirstFault, HobFaults.IsMemoryFault, declared.fault.GcdFault.GcdFault}
 use Rattle.gcd_map.specs.HobMap.{first_cpu, AreBitsOf, IsFilled}
-use Rattle.gcd_map.specs.HobFaults.{IsFirstFault, IsMemoryFault}
-use Rattle.gcd_map.specs.declared.fault.GcdFault.{GcdFault}
 use Rattle.gcd_map.specs.declared.fault.GcdCause.TheVariants.{Memory}
 use Rattle.gcd_map.proofs.hobs.from_hobs.Goals as goal
 

@@ -1,8 +1,6 @@
 use Rattle.std.proofs.Common.{List, MatchBool, subst}
-use Rattle.gcd_map.specs.declared.range.GcdRange.{GcdRange}
-use Rattle.gcd_map.specs.Tests.{EachMeets, SomeMisses}
-use Rattle.gcd_map.proofs.Covers.{begins_low}
-use Rattle.gcd_map.proofs.Stretches.{tells}
+use Rattle.gcd_map.specs.{declared.range.GcdRange.GcdRange, Tests.EachMeets, Tests.SomeMisses}
+use Rattle.gcd_map.proofs.{Covers.begins_low, Stretches.tells}
 use Rattle.gcd_map.proofs.search.all_meet.Goals as goal
 
 pub index_of-requires-clause-first : goal.index_of-requires-clause-first

@@ -1,5 +1,4 @@
-use Rattle.std.proofs.Common.{◌∙◌, ap}
-use Rattle.std.specs.Prelude.{insert}
+use Rattle.std.proofs.Common.{◌∙◌, ap, insert}
 use Rattle.guid_lists.proofs.Rising.{put_in}
 use Rattle.guid_lists.proofs.lists.put.Goals as goal
 

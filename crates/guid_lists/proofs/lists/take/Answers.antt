@@ -1,5 +1,4 @@
-use Rattle.std.proofs.Common.{◌≡◌, ◌<◌, length, get_or, sym, ◌∙◌, ap, arith}
-use Rattle.std.specs.Prelude.{remove}
+use Rattle.std.proofs.Common.{◌≡◌, ◌<◌, length, get_or, sym, ◌∙◌, ap, arith, remove}
 use Rattle.guid_lists.proofs.Rising.{at, taken_out, not_there}
 use Rattle.guid_lists.proofs.lists.take.Goals as goal
 use Rattle.guid_lists.proofs.lists.take.Goals.{else-at-len-via-then-at-len+else-index-number, else-at-len-via-else-at-len}

@@ -1,10 +1,8 @@
 use Rattle.std.proofs.Common.{◌≡◌, take, drop}
-use Rattle.store_model.specs.declared.store_handle.EntryList.{EntryList}
-use Rattle.store_model.specs.StoreState.{Range, StoreState}
+use Rattle.store_model.specs.{declared.store_handle.EntryList.EntryList, StoreState.Range, StoreState.StoreState}
 use Rattle.store_laws.specs.Moving.{Done}
-use Rattle.heap_store.specs.Half.{IsHalf, with_links}
+use Rattle.heap_store.specs.{Half.IsHalf, Half.with_links, Ready.IsReady}
 use Rattle.heap_store.specs.Linked.{links_of, address, first_of}
-use Rattle.heap_store.specs.Ready.{IsReady}
 use Rattle.heap_store.proofs.chain.move_chain.Given as goal
 
 abbrev pub invariant-nodes : goal.invariant-nodes

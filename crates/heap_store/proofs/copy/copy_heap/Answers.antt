@@ -1,10 +1,8 @@
 use Rattle.std.proofs.Common.{◌≡◌, ◌+◌, ℕ, List, ◌∷◌, Bool, true, false, Some, None, ap, refl, sym, ◌∙◌}
 use Rattle.store_model.specs.StoreState.{Range, StoreState, end_place}
-use Rattle.phys_mem.specs.Region.{Region}
+use Rattle.phys_mem.specs.{Region.Region, declared.memory.PhysMem.PhysMem}
 use Rattle.phys_mem.specs.Regions.{regions, copied, Becomes}
-use Rattle.phys_mem.specs.declared.memory.PhysMem.{PhysMem}
-use Rattle.heap_store.specs.declared.course.Course.{Course}
-use Rattle.heap_store.specs.Ready.{IsMoving, course_of}
+use Rattle.heap_store.specs.{declared.course.Course.Course, Ready.IsMoving, Ready.course_of}
 use Rattle.heap_store.proofs.Copying.{copying, is_copied, old_temp, new_regions}
 use Rattle.heap_store.proofs.copy.copy_heap.Goals as goal
 

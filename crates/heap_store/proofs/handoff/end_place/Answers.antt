@@ -1,9 +1,6 @@
 use Rattle.std.proofs.Common.{◌≡◌, ◌≤◌, ◌+◌, ℕ, List, length, arith, ap, ◌∙◌}
-use Rattle.store_model.specs.StoreState.{StoreState, end_place}
-use Rattle.store_model.specs.StateFacts.{IsStoreState}
-use Rattle.store_model.specs.HeapImage.{heap_image}
-use Rattle.store_laws.specs.Mapped.{layout_of}
-use Rattle.store_laws.specs.Word.{word_in}
+use Rattle.store_model.specs.{StoreState.StoreState, StoreState.end_place, StateFacts.IsStoreState, HeapImage.heap_image}
+use Rattle.store_laws.specs.{Mapped.layout_of, Word.word_in}
 use Rattle.store_laws.proofs.Facts.{images_fill, has_room}
 use Rattle.heap_store.proofs.handoff.end_place.Goals as goal
 

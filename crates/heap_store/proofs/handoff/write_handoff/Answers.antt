@@ -1,12 +1,8 @@
 use Rattle.std.proofs.Common.{◌≡◌, ◌+◌, ◌-◌, ◌≤◌, ℕ, List, arith, ap, subst, ◌∙◌}
-use Rattle.phys_mem.specs.Region.{replaced}
-use Rattle.phys_mem.specs.declared.memory.PhysMem.{PhysMem}
-use Rattle.store_model.specs.StoreState.{Range, StoreState}
-use Rattle.store_model.specs.Migration.{migrated_to}
+use Rattle.phys_mem.specs.{Region.replaced, declared.memory.PhysMem.PhysMem}
+use Rattle.store_model.specs.{StoreState.Range, StoreState.StoreState, Migration.migrated_to}
 use Rattle.store_laws.specs.Mapped.{layout_of, HasHeap}
-use Rattle.heap_store.specs.declared.words.Words.{Words}
-use Rattle.heap_store.specs.WordBytes.{words_bytes}
-use Rattle.heap_store.specs.Copied.{copied_image}
+use Rattle.heap_store.specs.{declared.words.Words.Words, WordBytes.words_bytes, Copied.copied_image}
 use Rattle.heap_store.proofs.Handoffs.{low_words, high_words, handoff_written, low_is, high_is, front_room}
 use Rattle.heap_store.proofs.handoff.write_handoff.Goals as goal
 

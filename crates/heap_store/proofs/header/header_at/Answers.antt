@@ -1,8 +1,6 @@
-use Rattle.std.proofs.Common.{◌≡◌, ◌+◌, ◌-◌, ◌≤◌, ◌<◌, ◌^◌, ℕ, List, ◌++◌, length, take, drop, ap, ◌∙◌, Some, None, arith, length-take, length-drop}
-use Rattle.std.specs.Prelude.{replicate}
+use Rattle.std.proofs.Common.{◌≡◌, ◌+◌, ◌-◌, ◌≤◌, ◌<◌, ◌^◌, ℕ, List, ◌++◌, length, take, drop, ap, ◌∙◌, Some, None, arith, length-take, length-drop, replicate}
 use Rattle.pi_base.specs.Field.{little_number, little_bytes, ReadsWhatItSpells}
-use Rattle.phys_mem.specs.Regions.{regions, bytes_at}
-use Rattle.phys_mem.specs.declared.memory.PhysMem.{PhysMem}
+use Rattle.phys_mem.specs.{Regions.regions, Regions.bytes_at, declared.memory.PhysMem.PhysMem}
 use Rattle.store_model.specs.HeapImage.{header_bytes}
 use Rattle.store_laws.specs.Mapped.{Layout, HasHeap}
 use Rattle.store_laws.proofs.Words.{has_read}

@@ -1,6 +1,5 @@
 use Rattle.store_model.specs.Service.Install.{with_ppi}
-use Rattle.heap_store.proofs.OnWay.{all_made, start}
-use Rattle.heap_store.proofs.Pushing.{ppi_more, ppi_ready}
+use Rattle.heap_store.proofs.{OnWay.all_made, OnWay.start, Pushing.ppi_more, Pushing.ppi_ready}
 use Rattle.heap_store.proofs.install.push_ppis.Goals as goal
 
 pub descs-init : goal.descs-init

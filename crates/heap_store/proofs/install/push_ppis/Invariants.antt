@@ -1,5 +1,4 @@
-use Rattle.store_model.specs.StoreState.{StoreState}
-use Rattle.store_model.specs.Service.Install.{with_ppi}
+use Rattle.store_model.specs.{StoreState.StoreState, Service.Install.with_ppi}
 use Rattle.pei_heap.specs.Linked.{IsLinked}
 use Rattle.heap_store.specs.Made.{CanMakePpis}
 use Rattle.heap_store.proofs.OnWay.{IsOnWay}

@@ -1,8 +1,6 @@
 use Rattle.std.proofs.Common.{◌≡◌, ◌-◌, ℕ, List, take, drop, arith, ap, ◌∙◌}
-use Rattle.store_model.specs.declared.state.Body.TheVariants.{Descriptor}
-use Rattle.store_model.specs.Migration.{migrated_to, moved_descriptor}
-use Rattle.store_laws.specs.Mapped.{layout_of}
-use Rattle.store_laws.specs.Moving.{with_descriptor}
+use Rattle.store_model.specs.{declared.state.Body.TheVariants.Descriptor, Migration.migrated_to, Migration.moved_descriptor}
+use Rattle.store_laws.specs.{Mapped.layout_of, Moving.with_descriptor}
 use Rattle.heap_store.specs.Half.{half_image}
 use Rattle.heap_store.specs.WordBytes.{words_bytes, descriptor_words, shifted_descriptor}
 use Rattle.heap_store.proofs.MovedBodies.{in_new, descriptor_long, written_half}

@@ -1,12 +1,9 @@
-use Rattle.std.proofs.Common.{◌≡◌, ◌≢◌, ◌+◌, ◌≤◌, ℕ, Option, Some, None, arith}
-use Rattle.std.specs.Prelude.{IfSome}
-use Rattle.store_model.specs.StoreState.{Range, StoreState}
-use Rattle.store_model.specs.declared.state.Body.TheVariants.{Descriptor}
+use Rattle.std.proofs.Common.{◌≡◌, ◌≢◌, ◌+◌, ◌≤◌, ℕ, Option, Some, None, arith, IfSome}
+use Rattle.store_model.specs.{StoreState.Range, StoreState.StoreState, declared.state.Body.TheVariants.Descriptor}
 use Rattle.phys_mem.specs.declared.memory.PhysMem.{PhysMem}
 use Rattle.store_laws.specs.Moving.{Done, with_descriptor}
 use Rattle.store_laws.proofs.HeapBodies.{body_behind}
-use Rattle.heap_store.specs.Half.{IsHalf, with_other}
-use Rattle.heap_store.specs.Linked.{HasDescriptor, address}
+use Rattle.heap_store.specs.{Half.IsHalf, Half.with_other, Linked.HasDescriptor, Linked.address}
 use Rattle.heap_store.proofs.moved_descriptor.move_other.Goals as goal
 
 not_null : (s : StoreState) (base at p : ℕ) → HasDescriptor s p → at ≡ base + p → at ≢ 0

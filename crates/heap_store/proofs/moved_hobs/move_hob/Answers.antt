@@ -1,14 +1,11 @@
 use Rattle.std.proofs.Common.{◌≡◌, ℕ, Some}
 use Rattle.hob_codec.specs.declared.kind.TheConstants.{ALLOCATION}
 use Rattle.store_model.specs.StoreState.{Range, StoreState, body_at}
-use Rattle.store_model.specs.declared.state.AllocationBody.{AllocationBody}
-use Rattle.store_model.specs.declared.state.Body.{Body}
+use Rattle.store_model.specs.{declared.state.AllocationBody.AllocationBody, declared.state.Body.Body}
 use Rattle.store_model.specs.declared.state.Body.TheVariants.{Bytes, Descriptor, Node, Allocation}
 use Rattle.phys_mem.specs.declared.memory.PhysMem.{PhysMem}
 use Rattle.store_laws.specs.Moving.{Done}
-use Rattle.heap_store.specs.Half.{IsHalf}
-use Rattle.heap_store.specs.Pages.{with_pages}
-use Rattle.heap_store.specs.Ready.{IsOfKind}
+use Rattle.heap_store.specs.{Half.IsHalf, Pages.with_pages, Ready.IsOfKind}
 use Rattle.heap_store.proofs.moved_hobs.move_hob.Goals as goal
 
 are_pages : (s : StoreState) (to : Range) (done : Done) (p kind : ℕ) (body : Body) (memory : PhysMem) → kind ≡ ALLOCATION → IsOfKind s kind body → body_at s p ≡ Some body

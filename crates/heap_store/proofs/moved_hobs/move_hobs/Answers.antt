@@ -1,20 +1,13 @@
 use Rattle.std.proofs.Common.{◌≡◌, ◌≤◌, ◌<◌, ◌+◌, ◌-◌, ℕ, List, ◌∷◌, false, take, drop, length, sum_by, arith, ap, sym, subst, ◌∙◌}
-use Rattle.store_model.specs.declared.state.HobEntry.{HobEntry}
+use Rattle.store_model.specs.{declared.state.HobEntry.HobEntry, HeapImage.header_bytes, Migration.migrated_to}
 use Rattle.store_model.specs.StoreState.{Range, StoreState, end_place, hob_len}
-use Rattle.store_model.specs.HeapImage.{header_bytes}
-use Rattle.store_model.specs.Migration.{migrated_to}
 use Rattle.phys_mem.specs.declared.memory.PhysMem.{PhysMem}
-use Rattle.store_laws.specs.Mapped.{layout_of}
-use Rattle.store_laws.specs.Moving.{Done}
+use Rattle.store_laws.specs.{Mapped.layout_of, Moving.Done}
 use Rattle.store_laws.proofs.Lists.{each_behind}
-use Rattle.heap_store.specs.declared.header.Header.{Header}
-use Rattle.heap_store.specs.declared.course.Course.{Course}
-use Rattle.heap_store.specs.Half.{half_image, IsHalf}
-use Rattle.heap_store.specs.Pages.{with_hobs}
+use Rattle.heap_store.specs.{declared.header.Header.Header, declared.course.Course.Course, Half.half_image, Half.IsHalf, Pages.with_hobs}
 use Rattle.heap_store.specs.Ready.{IsReady, HasHeader, IsOfKind}
 use Rattle.heap_store.proofs.HobWalk.{place_of, place_next, header_read, body_found, some_hob, no_hob, few_hobs}
-use Rattle.heap_store.proofs.PageMarks.{more_pages, unmarked_pages}
-use Rattle.heap_store.proofs.Walks.{take_all, none_past}
+use Rattle.heap_store.proofs.{PageMarks.more_pages, PageMarks.unmarked_pages, Walks.take_all, Walks.none_past}
 use Rattle.heap_store.proofs.moved_hobs.move_hobs.Goals as goal
 
 finished : (s : StoreState) (to : Range) (done : Done) (some hobs : List HobEntry) (memory : PhysMem) → some ≡ hobs → IsHalf s to (with_hobs done 56 some) memory → IsHalf s to (with_hobs done 56 hobs) memory

@@ -1,9 +1,7 @@
 use Rattle.std.proofs.Common.{◌≡◌, ◌+◌, ℕ, false, take}
 use Rattle.store_model.specs.StoreState.{Range, StoreState, end_place}
 use Rattle.store_laws.specs.Moving.{Done}
-use Rattle.heap_store.specs.Half.{IsHalf}
-use Rattle.heap_store.specs.Pages.{with_hobs}
-use Rattle.heap_store.specs.Ready.{IsReady}
+use Rattle.heap_store.specs.{Half.IsHalf, Pages.with_hobs, Ready.IsReady}
 use Rattle.heap_store.proofs.HobWalk.{place_of}
 use Rattle.heap_store.proofs.moved_hobs.move_hobs.Given as goal
 

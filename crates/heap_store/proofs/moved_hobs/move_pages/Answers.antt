@@ -1,11 +1,7 @@
 use Rattle.std.proofs.Common.{◌≡◌, ◌+◌, ◌-◌, ◌≤◌, ◌<◌, ◌^◌, ℕ, List, take, drop, arith, ap, ◌∙◌}
-use Rattle.store_model.specs.declared.state.Body.TheVariants.{Allocation}
-use Rattle.store_model.specs.Migration.{migrated_to}
+use Rattle.store_model.specs.{declared.state.Body.TheVariants.Allocation, Migration.migrated_to}
 use Rattle.store_laws.specs.Mapped.{layout_of}
-use Rattle.heap_store.specs.declared.words.Words.{Words}
-use Rattle.heap_store.specs.Half.{half_image}
-use Rattle.heap_store.specs.Pages.{with_pages}
-use Rattle.heap_store.specs.WordBytes.{words_bytes}
+use Rattle.heap_store.specs.{declared.words.Words.Words, Half.half_image, Pages.with_pages, WordBytes.words_bytes}
 use Rattle.heap_store.proofs.MovedBodies.{in_new, written_half}
 use Rattle.heap_store.proofs.PageSteps.{page_words, pages_read, pages_written}
 use Rattle.heap_store.proofs.moved_hobs.move_pages.Goals as goal

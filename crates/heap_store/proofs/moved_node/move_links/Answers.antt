@@ -1,10 +1,7 @@
 use Rattle.std.proofs.Common.{◌≡◌, ◌-◌, ◌≤◌, ℕ, List, take, drop, arith, ap, ◌∙◌}
-use Rattle.store_model.specs.declared.state.Body.TheVariants.{Node}
-use Rattle.store_model.specs.Migration.{migrated_to}
-use Rattle.store_laws.specs.Mapped.{layout_of}
-use Rattle.store_laws.specs.Moving.{with_node_done}
-use Rattle.heap_store.specs.Half.{half_image}
-use Rattle.heap_store.specs.Linked.{fields}
+use Rattle.store_model.specs.{declared.state.Body.TheVariants.Node, Migration.migrated_to}
+use Rattle.store_laws.specs.{Mapped.layout_of, Moving.with_node_done}
+use Rattle.heap_store.specs.{Half.half_image, Linked.fields}
 use Rattle.heap_store.specs.WordBytes.{words_bytes, links_words, shifted_node}
 use Rattle.heap_store.proofs.MovedBodies.{in_new, written_half}
 use Rattle.heap_store.proofs.NodeMoves.{links_now, node_read, node_written, links_shifted, links_low}

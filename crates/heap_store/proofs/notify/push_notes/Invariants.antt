@@ -1,5 +1,4 @@
-use Rattle.store_model.specs.StoreState.{StoreState}
-use Rattle.store_model.specs.Service.Notify.{with_note}
+use Rattle.store_model.specs.{StoreState.StoreState, Service.Notify.with_note}
 use Rattle.pei_heap.specs.Linked.{IsLinked}
 use Rattle.heap_store.specs.Made.{CanMakeNotes}
 use Rattle.heap_store.proofs.OnWay.{IsOnWay}

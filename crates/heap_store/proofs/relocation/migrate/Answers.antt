@@ -2,11 +2,8 @@ use Rattle.std.proofs.Common.{◌≡◌, ℕ, ap, ◌∙◌, refl}
 use Rattle.pi_base.specs.declared.span.Span.{Span}
 use Rattle.store_model.specs.StoreState.{StoreState, range_of}
 use Rattle.phys_mem.specs.declared.memory.PhysMem.{PhysMem}
-use Rattle.pei_heap.specs.declared.heap.Heap.{Heap}
-use Rattle.pei_heap.specs.HeapMemory.{IsHeapOf}
-use Rattle.heap_store.specs.declared.course.Course.{Course}
-use Rattle.heap_store.specs.Due.{IsDue}
-use Rattle.heap_store.specs.Ready.{IsMoving, course_of}
+use Rattle.pei_heap.specs.{declared.heap.Heap.Heap, HeapMemory.IsHeapOf}
+use Rattle.heap_store.specs.{declared.course.Course.Course, Due.IsDue, Ready.IsMoving, Ready.course_of}
 use Rattle.heap_store.proofs.Readiness.{after, is_ready, pages_left}
 use Rattle.heap_store.proofs.Relocated.{relocated}
 use Rattle.heap_store.proofs.relocation.migrate.Goals as goal

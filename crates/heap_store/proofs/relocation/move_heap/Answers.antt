@@ -3,13 +3,9 @@ use Rattle.store_model.specs.StoreState.{Range, StoreState, end_place}
 use Rattle.store_model.specs.Migration.{migrated_to}
 use Rattle.phys_mem.specs.declared.memory.PhysMem.{PhysMem}
 use Rattle.store_laws.specs.Mapped.{layout_of, HasHeap, IsMemoryOf}
-use Rattle.heap_store.specs.declared.course.Course.{Course}
-use Rattle.heap_store.specs.Half.{IsHalf, lists_done}
-use Rattle.heap_store.specs.Pages.{with_hobs}
+use Rattle.heap_store.specs.{declared.course.Course.Course, Half.IsHalf, Half.lists_done, Pages.with_hobs}
 use Rattle.heap_store.specs.Ready.{IsReady, IsMoving, course_of}
-use Rattle.heap_store.proofs.Readiness.{is_ready, pages_left}
-use Rattle.heap_store.proofs.Complete.{image_done}
-use Rattle.heap_store.proofs.PageMarks.{lists_pages}
+use Rattle.heap_store.proofs.{Readiness.is_ready, Readiness.pages_left, Complete.image_done, PageMarks.lists_pages}
 use Rattle.heap_store.proofs.relocation.move_heap.Goals as goal
 
 ready_for : (s : StoreState) (to : Range) (memory : PhysMem) (course : Course) → IsMoving s to memory → course ≡ course_of s to → IsReady s to course

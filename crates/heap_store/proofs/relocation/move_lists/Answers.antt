@@ -1,6 +1,5 @@
 use Rattle.store_model.specs.declared.store_handle.EntryList.TheVariants.{Ppis, Callbacks, Dispatches, Pendings}
-use Rattle.heap_store.specs.Half.{with_links, none_done}
-use Rattle.heap_store.specs.Linked.{links_of}
+use Rattle.heap_store.specs.{Half.with_links, Half.none_done, Linked.links_of}
 use Rattle.heap_store.proofs.HeadMoves.{head_at}
 use Rattle.heap_store.proofs.relocation.move_lists.Goals as goal
 

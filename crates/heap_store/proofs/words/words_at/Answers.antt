@@ -1,8 +1,7 @@
 use Rattle.std.proofs.Common.{◌≡◌, ◌-◌, ℕ, List, length, take, drop, ap, ◌∙◌, Some, None, arith}
 use Rattle.phys_mem.specs.Regions.{regions, bytes_at}
 use Rattle.store_laws.proofs.Words.{has_read}
-use Rattle.heap_store.specs.WordBytes.{words_bytes}
-use Rattle.heap_store.specs.declared.words.Words.{Words}
+use Rattle.heap_store.specs.{WordBytes.words_bytes, declared.words.Words.Words}
 use Rattle.heap_store.proofs.Spelt.{first_is, second_is, third_is, read_len}
 use Rattle.heap_store.proofs.words.words_at.Goals as goal
 

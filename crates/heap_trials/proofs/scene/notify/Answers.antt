@@ -1,6 +1,5 @@
 use Rattle.std.proofs.Common.{[], ◌∷◌}
-use Rattle.store_model.specs.StateFacts.{IsDesc}
-use Rattle.store_model.specs.Service.Notify.{notify}
+use Rattle.store_model.specs.{StateFacts.IsDesc, Service.Notify.notify}
 use Rattle.heap_trials.specs.Scene.{AreThere}
 use Rattle.heap_trials.proofs.Stays.{all_kept, notify_grows, is_desc, kept_by}
 use Rattle.heap_trials.proofs.scene.notify.Goals as goal

@@ -1,5 +1,4 @@
-use Rattle.store_model.specs.StateFacts.{IsDesc}
-use Rattle.store_model.specs.Service.Install.{reinstall}
+use Rattle.store_model.specs.{StateFacts.IsDesc, Service.Install.reinstall}
 use Rattle.heap_trials.specs.Scene.{AreThere}
 use Rattle.heap_trials.proofs.Stays.{all_kept, is_desc, kept_by, reinstall_grows}
 use Rattle.heap_trials.proofs.scene.reinstall.Goals as goal

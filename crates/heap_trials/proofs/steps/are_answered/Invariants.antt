@@ -1,5 +1,4 @@
-use Rattle.store_model.specs.Service.{Present}
-use Rattle.store_model.specs.StoreCall.{Anything}
+use Rattle.store_model.specs.{Service.Present, StoreCall.Anything}
 use Rattle.heap_trials.proofs.steps.are_answered.Given as goal
 
 abbrev pub invariant-steps : goal.invariant-steps

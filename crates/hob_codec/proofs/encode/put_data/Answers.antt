@@ -1,5 +1,4 @@
-use Rattle.std.proofs.Common.{◌++◌, length, take, ap, ◌∙◌, sym}
-use Rattle.std.proofs.lemmas.List.{append-nil}
+use Rattle.std.proofs.Common.{◌++◌, length, take, ap, ◌∙◌, sym, append-nil}
 use Rattle.hob_codec.specs.HobBytes.{padding}
 use Rattle.hob_codec.proofs.encode.put_data.Goals as goal
 

@@ -1,5 +1,4 @@
-use Rattle.std.proofs.Common.{◌≡◌, ◌+◌, ◌++◌, length, arith, ap, ◌∙◌, sym, take, length-append, get_or, subst, List, Bor, ℕ}
-use Rattle.std.proofs.lemmas.List.{append_assoc, take_all}
+use Rattle.std.proofs.Common.{◌≡◌, ◌+◌, ◌++◌, length, arith, ap, ◌∙◌, sym, take, length-append, get_or, subst, List, Bor, ℕ, append_assoc, take_all}
 use Rattle.hob_codec.specs.FieldView.{all_bytes}
 use Rattle.hob_codec.proofs.FieldLemmas.{all_more, all_room, nothing}
 use Rattle.hob_codec.proofs.field.put_fields.Goals as goal

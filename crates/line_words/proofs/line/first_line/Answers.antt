@@ -1,5 +1,5 @@
-use Rattle.std.proofs.Common.{◌≡◌, ◌+◌, ◌-◌, arith, rules, length, take, drop, ap, ◌∙◌}
-use Rattle.std.proofs.lemmas.List.{take_all, nil_from_length, drop-drop, take_rest}
+use Rattle.std.proofs.Common.{◌≡◌, ◌+◌, ◌-◌, arith, rules, length, take, drop, ap, ◌∙◌, take_all, drop-drop}
+use Rattle.std.proofs.lemmas.List.{nil_from_length, take_rest}
 use Rattle.line_words.proofs.LineLemmas.{lines_last, lines_more}
 use Rattle.line_words.proofs.line.first_line.Goals as goal
 

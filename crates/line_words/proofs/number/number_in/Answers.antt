@@ -1,5 +1,4 @@
-use Rattle.std.proofs.Common.{◌≡◌, ◌∙◌, arith, rules, ◌<◌, ◌+◌, get_or, take, ap}
-use Rattle.std.proofs.lemmas.List.{take_all}
+use Rattle.std.proofs.Common.{◌≡◌, ◌∙◌, arith, rules, ◌<◌, ◌+◌, get_or, take, ap, take_all}
 use Rattle.std.specs.Char.{digit_value}
 use Rattle.line_words.proofs.Values.{value_more, valid_more, too_great, is_number}
 use Rattle.line_words.specs.Number.{value_in}

@@ -1,6 +1,5 @@
 use Rattle.std.proofs.Common.{◌≡◌, ◌<◌, ◌^◌, take, true}
-use Rattle.std.specs.List.{list_all}
-use Rattle.std.specs.Char.{is_digit}
+use Rattle.std.specs.{List.list_all, Char.is_digit}
 use Rattle.line_words.specs.Number.{value_in}
 use Rattle.line_words.proofs.number.number_in.Given as goal
 

@@ -1,7 +1,6 @@
 use Rattle.std.proofs.Common.{ap, refl, ◌∙◌, ◌++◌}
 use Rattle.store_model.specs.StateFacts.{IsDesc}
-use Rattle.mem_store.specs.Rows.{row_at}
-use Rattle.mem_store.specs.Picked.{is_picked}
+use Rattle.mem_store.specs.{Rows.row_at, Picked.is_picked}
 use Rattle.mem_store.proofs.Listed.{each_at, picked_are, put_all, put_more, test_of}
 use Rattle.mem_store.proofs.index.put_rows.Goals as goal
 

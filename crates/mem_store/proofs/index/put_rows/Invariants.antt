@@ -1,6 +1,5 @@
 use Rattle.std.proofs.Common.{◌≡◌, ◌++◌, drop}
-use Rattle.store_model.specs.StoreState.{StoreState}
-use Rattle.store_model.specs.StoreCall.{AreDescs}
+use Rattle.store_model.specs.{StoreState.StoreState, StoreCall.AreDescs}
 use Rattle.mem_store.specs.Rows.{row_at}
 use Rattle.heap_store.specs.HeapState as H
 use Rattle.mem_store.proofs.Listed.{picked, test_of}

@@ -1,7 +1,6 @@
 use Rattle.std.proofs.Common.{refl, sym, ◌∙◌}
 use Rattle.store_model.specs.StateFacts.{IsDesc}
-use Rattle.mem_store.proofs.Alone.{news_end, news_more}
-use Rattle.mem_store.proofs.Listed.{each_at}
+use Rattle.mem_store.proofs.{Alone.news_end, Alone.news_more, Listed.each_at}
 use Rattle.mem_store.proofs.pairs.are_callbacks.Goals as goal
 
 pub is_callback-requires : goal.is_callback-requires

@@ -1,7 +1,5 @@
 use Rattle.std.proofs.Common.{◌≡◌, drop}
-use Rattle.store_model.specs.StoreState.{StoreState}
-use Rattle.store_model.specs.StoreCall.{AreDescs}
-use Rattle.store_model.specs.Service.Notify.{new_dispatches}
+use Rattle.store_model.specs.{StoreState.StoreState, StoreCall.AreDescs, Service.Notify.new_dispatches}
 use Rattle.heap_store.specs.HeapState as H
 use Rattle.mem_store.proofs.pairs.are_callbacks.Given as goal
 

@@ -1,6 +1,4 @@
-use Rattle.mem_store.proofs.Cores.{core_keeps}
-use Rattle.mem_store.proofs.Notifies.{notify_keeps}
-use Rattle.mem_store.proofs.Reinstalls.{reinstall_keeps}
+use Rattle.mem_store.proofs.{Cores.core_keeps, Notifies.notify_keeps, Reinstalls.reinstall_keeps}
 use Rattle.mem_store.proofs.Services.{boot_mode_keeps, desc_keeps, hob_keeps, install_keeps, move_keeps, pages_keep, pool_keeps, pop_keeps, set_memory_keeps, store_keeps}
 use Rattle.mem_store.proofs.row_laws.services_keep_rows.Goals as goal
 

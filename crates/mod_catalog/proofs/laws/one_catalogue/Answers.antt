@@ -1,6 +1,4 @@
-use Rattle.mod_catalog.proofs.OneCatalogue.{Laws, one_catalogue}
-use Rattle.mod_catalog.proofs.CatalogueOrFault.{catalogue_or_fault}
-use Rattle.mod_catalog.proofs.OneFault.{one_image_fault}
+use Rattle.mod_catalog.proofs.{OneCatalogue.Laws, OneCatalogue.one_catalogue, CatalogueOrFault.catalogue_or_fault, OneFault.one_image_fault}
 use Rattle.mod_catalog.proofs.laws.one_catalogue.Goals as goal
 
 pub returns : goal.returns

@@ -1,8 +1,6 @@
 use Rattle.std.proofs.Common.{◌≡◌, ◌++◌, ◌∷◌, [], true, sym, ◌∙◌, subst}
 use Rattle.pi_base.specs.Lists.{EachPair}
-use Rattle.mod_catalog.specs.FileType.{has_module}
-use Rattle.mod_catalog.specs.ModuleEntry.{IsModule}
-use Rattle.mod_catalog.specs.Totals.{module_files}
+use Rattle.mod_catalog.specs.{FileType.has_module, ModuleEntry.IsModule, Totals.module_files}
 use Rattle.mod_catalog.proofs.Kept.{kept_last, pair_more}
 use Rattle.mod_catalog.proofs.modules.add_module.Goals as goal
 

@@ -1,7 +1,6 @@
 use Rattle.std.proofs.Common.{refl}
 use Rattle.pi_base.specs.declared.phase.Phase.TheVariants.{Pei, Dxe}
-use Rattle.mod_catalog.specs.FileType.{has_part}
-use Rattle.mod_catalog.specs.APrioriNames.{a_priori_list}
+use Rattle.mod_catalog.specs.{FileType.has_part, APrioriNames.a_priori_list}
 use Rattle.mod_catalog.proofs.PartFacts.{part_is}
 use Rattle.mod_catalog.proofs.modules.module_of.Goals as goal
 

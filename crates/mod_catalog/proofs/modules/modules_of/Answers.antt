@@ -1,6 +1,5 @@
 use Rattle.std.proofs.Common.{sym, subst}
-use Rattle.mod_catalog.specs.Lying.{ArePlaced}
-use Rattle.mod_catalog.specs.Modules.{RanksHold}
+use Rattle.mod_catalog.specs.{Lying.ArePlaced, Modules.RanksHold}
 use Rattle.mod_catalog.proofs.PartFacts.{are_placed}
 use Rattle.mod_catalog.proofs.modules.modules_of.Goals as goal
 

@@ -1,5 +1,4 @@
-use Rattle.std.proofs.Common.{ℕ, List, Option, None, length, is_some, sym, ap, ◌∙◌, refl}
-use Rattle.std.specs.Prelude.{slice_index_or}
+use Rattle.std.proofs.Common.{ℕ, List, Option, None, length, is_some, sym, ap, ◌∙◌, refl, slice_index_or}
 use Rattle.mod_catalog.proofs.KeptNames.{within_places, kept_unknown, kept_again, kept_first}
 use Rattle.mod_catalog.proofs.ranks.keep.Goals as goal
 

@@ -1,7 +1,5 @@
 use Rattle.std.proofs.Common.{◌≤◌, ℕ, ◌*◌, ◌++◌, ◌∷◌, [], List, length, map, sym, ap, ◌∙◌, subst, arith}
-use Rattle.pi_base.specs.Guids.{guid_at}
-use Rattle.pi_base.specs.Lists.{numbers}
-use Rattle.pi_base.specs.declared.guid.Guid.{Guid}
+use Rattle.pi_base.specs.{Guids.guid_at, Lists.numbers, declared.guid.Guid.Guid}
 use Rattle.mod_catalog.specs.Ranks.{AreKept, kept_of, known}
 use Rattle.mod_catalog.proofs.KeptNames.{next_number, few_kept}
 use Rattle.mod_catalog.proofs.ranks.places_of.Goals as goal

@@ -1,6 +1,5 @@
 use Rattle.std.proofs.Common.{◌≡◌, ◌*◌, length, map}
-use Rattle.pi_base.specs.Guids.{guid_at}
-use Rattle.pi_base.specs.Lists.{numbers}
+use Rattle.pi_base.specs.{Guids.guid_at, Lists.numbers}
 use Rattle.mod_catalog.specs.Ranks.{AreKept}
 use Rattle.mod_catalog.proofs.ranks.places_of.Given as goal
 

@@ -1,6 +1,5 @@
 use Rattle.std.proofs.Common.{◌≡◌, subst, inl}
-use Rattle.act_code.specs.declared.fault.ActCause.TheVariants.{Memory}
-use Rattle.act_code.specs.Script.{IsFault}
+use Rattle.act_code.specs.{declared.fault.ActCause.TheVariants.Memory, Script.IsFault}
 use Rattle.mod_catalog.proofs.scripts.script_of.Goals as goal
 
 pub returns-in-Err-clause-refused : goal.returns-in-Err-clause-refused

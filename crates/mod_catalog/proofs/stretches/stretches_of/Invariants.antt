@@ -1,6 +1,5 @@
 use Rattle.std.proofs.Common.{◌≡◌, ◌+◌, take}
-use Rattle.mod_catalog.specs.ReadFile.{nested_in}
-use Rattle.mod_catalog.specs.Lying.{AreStretchesBelow}
+use Rattle.mod_catalog.specs.{ReadFile.nested_in, Lying.AreStretchesBelow}
 use Rattle.mod_catalog.proofs.stretches.stretches_of.Given as goal
 
 -- the stretches so far

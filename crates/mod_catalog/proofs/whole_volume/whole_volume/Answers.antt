@@ -1,8 +1,6 @@
 use Rattle.std.proofs.Common.{List, [], ◌∷◌, ◌++◌, ap, ◌∙◌}
 use Rattle.std.proofs.lemmas.Result.{IfOk-weaker}
-use Rattle.mod_catalog.specs.declared.catalogue.VolumeEntry.{VolumeEntry}
-use Rattle.mod_catalog.specs.Image.{image_of}
-use Rattle.mod_catalog.specs.VolumeTree.{entry_of}
+use Rattle.mod_catalog.specs.{declared.catalogue.VolumeEntry.VolumeEntry, Image.image_of, VolumeTree.entry_of}
 use Rattle.mod_catalog.proofs.WholeVolume.{whole}
 use Rattle.mod_catalog.proofs.whole_volume.whole_volume.Goals as goal
 

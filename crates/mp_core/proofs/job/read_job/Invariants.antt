@@ -1,9 +1,7 @@
-use Rattle.std.proofs.Common.{◌≡◌, ◌≢◌, ◌+◌, ◌≤◌, ◌++◌, length, slice_index}
-use Rattle.std.specs.Prelude.{option_map}
+use Rattle.std.proofs.Common.{◌≡◌, ◌≢◌, ◌+◌, ◌≤◌, ◌++◌, length, slice_index, option_map}
 use Rattle.pi_base.specs.Lists.{Each}
 use Rattle.line_words.specs.Words.{words}
-use Rattle.mp_core.specs.Calls.{IsOp}
-use Rattle.mp_core.specs.LineText.{ops_of}
+use Rattle.mp_core.specs.{Calls.IsOp, LineText.ops_of}
 use Rattle.mp_core.proofs.job.read_job.Given as goal
 
 -- the words so far spell the operations, and the others the rest

@@ -1,10 +1,6 @@
-use Rattle.std.proofs.Common.{◌≡◌, ◌-◌, ◌≤◌, Bool, true, false, List, [], ◌∷◌, length, take, drop, get_or, Some, refl, sym, ap, ◌∙◌, arith}
+use Rattle.std.proofs.Common.{◌≡◌, ◌-◌, ◌≤◌, Bool, true, false, List, [], ◌∷◌, length, take, drop, get_or, Some, refl, sym, ap, ◌∙◌, arith, find, if◌then◌else◌, bytes_eq}
 use Rattle.std.proofs.lemmas.List.{take_rest}
-use Rattle.std.specs.List.{find}
-use Rattle.std.specs.Prelude.{if◌then◌else◌}
-use Rattle.std.specs.Str.{bytes_eq}
-use Rattle.mp_core.specs.declared.keyword.Keyword.{Keyword}
-use Rattle.mp_core.specs.LineText.{keyword_text}
+use Rattle.mp_core.specs.{declared.keyword.Keyword.Keyword, LineText.keyword_text}
 use Rattle.mp_core.proofs.keyword.keyword_named.Goals as goal
 
 first : (f : Keyword → Bool) (rest : List Keyword) (d : Keyword) (b : Bool) → 1 ≤ length rest → f (get_or rest 0 d) ≡ b

@@ -1,5 +1,4 @@
-use Rattle.std.proofs.Common.{◌≡◌, length, find}
-use Rattle.std.specs.Str.{bytes_eq}
+use Rattle.std.proofs.Common.{◌≡◌, length, find, bytes_eq}
 use Rattle.mp_core.specs.LineText.{keyword_text, keyword_named}
 use Rattle.mp_core.proofs.keyword.keyword_named.Given as goal
 

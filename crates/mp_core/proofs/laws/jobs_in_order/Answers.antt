@@ -1,6 +1,4 @@
-use Rattle.mp_core.proofs.InOrder.{cells_in_order, records_in_order}
-use Rattle.mp_core.proofs.Orderly.{orderly}
-use Rattle.mp_core.proofs.Runs.{idle_in_order}
+use Rattle.mp_core.proofs.{InOrder.cells_in_order, InOrder.records_in_order, Orderly.orderly, Runs.idle_in_order}
 use Rattle.mp_core.specs.Past.{schedule}
 use Rattle.mp_core.proofs.laws.jobs_in_order.Goals as goal
 

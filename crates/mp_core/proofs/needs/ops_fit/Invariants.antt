@@ -1,5 +1,4 @@
-use Rattle.std.proofs.Common.{length}
-use Rattle.std.specs.Prelude.{◌↔◌}
+use Rattle.std.proofs.Common.{length, ◌↔◌}
 use Rattle.pi_base.specs.Lists.{Each}
 use Rattle.mp_core.specs.Calls.{IsOp}
 use Rattle.mp_core.proofs.needs.ops_fit.Given as goal

@@ -1,6 +1,5 @@
 use Rattle.std.proofs.Common.{◌≡◌, ◌++◌, map, not}
-use Rattle.mp_core.specs.declared.processor.Processor.{Processor}
-use Rattle.mp_core.specs.Past.{is_empty}
+use Rattle.mp_core.specs.{declared.processor.Processor.Processor, Past.is_empty}
 use Rattle.mp_core.proofs.outcome.take_apart.Given as goal
 
 abbrev pub invariant-loop-processor : goal.invariant-loop-processor

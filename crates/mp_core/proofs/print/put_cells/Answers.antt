@@ -1,5 +1,5 @@
-use Rattle.std.proofs.Common.{◌+◌, drop, get_or, rules}
-use Rattle.std.specs.List.{flat_map, enumerate_from}
+use Rattle.std.proofs.Common.{◌+◌, drop, get_or, rules, flat_map}
+use Rattle.std.specs.List.{enumerate_from}
 use Rattle.mp_core.specs.OutcomeText.{cell_line}
 use Rattle.mp_core.proofs.Putting.{left_is, left_more, left_fails, next_line, same_read}
 use Rattle.boot_io.proofs.PutsLaws.{puts_err}

@@ -1,5 +1,5 @@
-use Rattle.std.proofs.Common.{◌≡◌, drop}
-use Rattle.std.specs.List.{flat_map, enumerate_from}
+use Rattle.std.proofs.Common.{◌≡◌, drop, flat_map}
+use Rattle.std.specs.List.{enumerate_from}
 use Rattle.mp_core.specs.OutcomeText.{cell_line, cells_text}
 use Rattle.mp_core.proofs.Putting.{IsLeft}
 use Rattle.mp_core.proofs.print.put_cells.Given as goal

@@ -1,5 +1,4 @@
-use Rattle.std.proofs.Common.{◌+◌, map, drop, get_or, decimal, rules}
-use Rattle.std.specs.List.{flat_map}
+use Rattle.std.proofs.Common.{◌+◌, map, drop, get_or, decimal, rules, flat_map}
 use Rattle.boot_io.specs.Line.{spaced}
 use Rattle.mp_core.proofs.Putting.{left_is, left_more, left_fails, next_word}
 use Rattle.boot_io.proofs.PutsLaws.{puts_err}

@@ -1,5 +1,4 @@
-use Rattle.std.proofs.Common.{◌≡◌, drop, map, decimal}
-use Rattle.std.specs.List.{flat_map}
+use Rattle.std.proofs.Common.{◌≡◌, drop, map, decimal, flat_map}
 use Rattle.boot_io.specs.Line.{spaced}
 use Rattle.mp_core.proofs.Putting.{IsLeft}
 use Rattle.mp_core.proofs.print.put_numbers.Given as goal

@@ -1,5 +1,5 @@
-use Rattle.std.proofs.Common.{◌+◌, drop, rules}
-use Rattle.std.specs.List.{flat_map, enumerate_from}
+use Rattle.std.proofs.Common.{◌+◌, drop, rules, flat_map}
+use Rattle.std.specs.List.{enumerate_from}
 use Rattle.mp_core.specs.OutcomeText.{record_line}
 use Rattle.mp_core.proofs.Putting.{left_is, left_more, left_fails, next_line}
 use Rattle.boot_io.proofs.PutsLaws.{puts_err}

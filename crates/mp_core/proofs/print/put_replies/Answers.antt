@@ -1,6 +1,5 @@
 use Rattle.std.proofs.Common.{◌-◌, length, take, drop, get_or, sym, rules}
-use Rattle.mp_core.specs.declared.reply.MpReply.TheVariants.{Word}
-use Rattle.mp_core.specs.declared.reply.MpWord.TheVariants.{Success}
+use Rattle.mp_core.specs.{declared.reply.MpReply.TheVariants.Word, declared.reply.MpWord.TheVariants.Success}
 use Rattle.mp_core.specs.OutcomeText.{reply_line, replies_text}
 use Rattle.mp_core.proofs.Putting.{left_is, left_more, left_fails}
 use Rattle.mp_core.proofs.ReplyLines.{next_reply}

@@ -1,11 +1,6 @@
-use Rattle.std.proofs.Common.{◌≡◌, ℕ, ◌<◌, ◌≤◌, ◌++◌, Bool, false, List, length, take, sym, ap, subst, ◌∙◌, arith, Result, Ok, Err}
-use Rattle.std.proofs.lemmas.List.{take_all}
+use Rattle.std.proofs.Common.{◌≡◌, ℕ, ◌<◌, ◌≤◌, ◌++◌, Bool, false, List, length, take, sym, ap, subst, ◌∙◌, arith, Result, Ok, Err, take_all, option_to_list, IfOk}
 use Rattle.std.specs.List.{list_any}
-use Rattle.std.specs.Option.{option_to_list}
-use Rattle.std.specs.Result.{IfOk}
-use Rattle.mp_core.specs.declared.event.MpEvent.{MpEvent}
-use Rattle.mp_core.specs.declared.machine.Machine.{Machine}
-use Rattle.mp_core.specs.Calls.{IsEvent}
+use Rattle.mp_core.specs.{declared.event.MpEvent.MpEvent, declared.machine.Machine.Machine, Calls.IsEvent}
 use Rattle.mp_core.specs.Machine.{IsLeft, IsMachine}
 use Rattle.mp_core.specs.Past.{Past, after, opening, past_from, replies_from, reply}
 use Rattle.mp_core.proofs.Orderly.{orderly}

@@ -5,8 +5,7 @@ use Rattle.act_code.specs.Format.{is_hob}
 use Rattle.phase_parts.specs.Needs.{IsScriptAction}
 use Rattle.boot_model.specs.PeiAction.{effect}
 use Rattle.pei_core.specs.declared.taken.Taken.TheVariants as T
-use Rattle.pei_core.proofs.OwnActions.{acts_of, reads_of}
-use Rattle.pei_core.proofs.Changing.{changes_nothing, changes_of}
+use Rattle.pei_core.proofs.{OwnActions.acts_of, OwnActions.reads_of, Changing.changes_nothing, Changing.changes_of}
 use Rattle.pei_core.proofs.Grammar.{block, few_in, at_most}
 use Rattle.pei_core.proofs.action.take_own.Goals as goal
 

@@ -1,8 +1,6 @@
-use Rattle.std.proofs.Common.{◌+◌, slice_set, refl, ap, sym, ◌∙◌}
-use Rattle.std.specs.Option.{option_map}
+use Rattle.std.proofs.Common.{◌+◌, slice_set, refl, ap, sym, ◌∙◌, option_map}
 use Rattle.pi_base.specs.declared.word.Word.TheVariants.{Success}
-use Rattle.boot_model.specs.declared.frame.Register.TheVariants.{Number}
-use Rattle.boot_model.specs.PeiAction.{Wrote, number_written}
+use Rattle.boot_model.specs.{declared.frame.Register.TheVariants.Number, PeiAction.Wrote, PeiAction.number_written}
 use Rattle.boot_model.proofs.Held.{held_place}
 use Rattle.phase_parts.specs.Writes.{written}
 use Rattle.pei_core.proofs.address.write_address.Goals as goal

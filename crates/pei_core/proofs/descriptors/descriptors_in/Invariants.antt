@@ -1,5 +1,4 @@
-use Rattle.std.proofs.Common.{◌≡◌, ◌++◌, length, drop}
-use Rattle.std.specs.Option.{option_map}
+use Rattle.std.proofs.Common.{◌≡◌, ◌++◌, length, drop, option_map}
 use Rattle.boot_model.specs.Registers as R
 use Rattle.pei_core.proofs.descriptors.descriptors_in.Given as goal
 

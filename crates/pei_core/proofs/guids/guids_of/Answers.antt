@@ -1,8 +1,6 @@
-use Rattle.std.proofs.Common.{◌≤◌, ◌++◌, length, ap, sym, ◌∙◌, arith, append-nil}
+use Rattle.std.proofs.Common.{◌≤◌, ◌++◌, length, ap, sym, ◌∙◌, arith, append-nil, map}
 use Rattle.std.proofs.Math.ListN.{drop_of_length-le}
-use Rattle.std.specs.Prelude.{map}
-use Rattle.store_model.specs.Service.Descriptor.{guid_at, offsets}
-use Rattle.store_model.specs.StateFacts.{IsDesc}
+use Rattle.store_model.specs.{Service.Descriptor.guid_at, Service.Descriptor.offsets, StateFacts.IsDesc}
 use Rattle.pei_core.proofs.Each.{each_index}
 use Rattle.pei_core.proofs.guids.guids_of.Goals as goal
 

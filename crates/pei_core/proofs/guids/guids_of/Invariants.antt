@@ -1,9 +1,6 @@
-use Rattle.std.proofs.Common.{◌≡◌, ◌++◌, length, drop}
-use Rattle.std.specs.Prelude.{map}
+use Rattle.std.proofs.Common.{◌≡◌, ◌++◌, length, drop, map}
 use Rattle.pi_base.specs.Lists.{Each}
-use Rattle.store_model.specs.StateFacts.{IsDesc}
-use Rattle.store_model.specs.Service.{OfEach}
-use Rattle.store_model.specs.Service.Descriptor.{guid_at, offsets}
+use Rattle.store_model.specs.{StateFacts.IsDesc, Service.OfEach, Service.Descriptor.guid_at, Service.Descriptor.offsets}
 use Rattle.pei_core.proofs.guids.guids_of.Given as goal
 
 -- the GUIDs that were read stand before those of the descriptors that are left

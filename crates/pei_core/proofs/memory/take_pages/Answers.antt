@@ -4,9 +4,7 @@ use Rattle.boot_model.specs.declared.line.Extra.TheVariants as X
 use Rattle.store_model.specs.Service.Memory.{pages}
 use Rattle.boot_model.specs.PeiAction.{Called, told}
 use Rattle.phase_parts.specs.Writes.{written}
-use Rattle.pei_core.proofs.Pages.{answered, some_pages}
-use Rattle.pei_core.proofs.Served.{refused_taken, told_taken}
-use Rattle.pei_core.proofs.Changing.{refused_none}
+use Rattle.pei_core.proofs.{Pages.answered, Pages.some_pages, Served.refused_taken, Served.told_taken, Changing.refused_none}
 use Rattle.pei_core.proofs.memory.take_pages.Goals as goal
 
 pub returns-in-Ok-clause-row : goal.returns-in-Ok-clause-row

@@ -1,14 +1,12 @@
-use Rattle.std.proofs.Common.{refl, subst}
+use Rattle.std.proofs.Common.{refl, subst, ◌+◌, slice_set}
 use Rattle.boot_model.specs.declared.frame.Register.TheVariants.{DescriptorIn}
 use Rattle.boot_model.specs.declared.line.CallName.TheVariants as C
 use Rattle.boot_model.specs.declared.line.Extra.TheVariants as X
-use Rattle.std.specs.Prelude.{◌+◌, slice_set}
 use Rattle.store_model.specs.Service.Descriptor.{desc}
 use Rattle.boot_model.specs.PeiAction.{answer_reply, call_where, desc_argument, desc_reply}
 use Rattle.pei_core.specs.Taken.{Does, IsTaken}
-use Rattle.pei_core.proofs.Made.{Stands, desc_stands}
+use Rattle.pei_core.proofs.{Made.Stands, Made.desc_stands, Changing.refused_none}
 use Rattle.pei_core.proofs.Served.{given_where, made_taken, not_given, refused_taken}
-use Rattle.pei_core.proofs.Changing.{refused_none}
 use Rattle.pei_core.proofs.new_descriptors.make_descriptor.Goals as goal
 
 pub desc-requires : goal.desc-requires

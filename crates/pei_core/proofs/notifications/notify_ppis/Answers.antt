@@ -1,8 +1,6 @@
 use Rattle.std.proofs.Common.{refl, ap, sym, subst, ◌∙◌, [], Err}
 use Rattle.boot_model.specs.declared.line.CallName.TheVariants as C
-use Rattle.store_model.specs.Service.{Answers}
-use Rattle.store_model.specs.Service.Descriptor.{offsets}
-use Rattle.store_model.specs.Service.Notify.{notify}
+use Rattle.store_model.specs.{Service.Answers, Service.Descriptor.offsets, Service.Notify.notify}
 use Rattle.boot_model.specs.PeiAction.{Called, sweep_reply, notify_reply}
 use Rattle.pei_core.specs.Taken.{changes_by, swept}
 use Rattle.boot_model.proofs.Held.{held_list}

@@ -1,13 +1,9 @@
-use Rattle.std.proofs.Common.{refl, subst}
-use Rattle.boot_model.specs.declared.frame.Register.TheVariants.{PoolIn}
+use Rattle.std.proofs.Common.{refl, subst, ◌+◌, slice_set}
+use Rattle.boot_model.specs.{declared.frame.Register.TheVariants.PoolIn, PeiAction.answer_reply}
 use Rattle.boot_model.specs.declared.line.CallName.TheVariants as C
 use Rattle.boot_model.specs.declared.line.Extra.TheVariants as X
-use Rattle.std.specs.Prelude.{◌+◌, slice_set}
 use Rattle.store_model.specs.Service.Pool.{pool}
-use Rattle.boot_model.specs.PeiAction.{answer_reply}
-use Rattle.pei_core.proofs.Made.{Stands, pool_stands}
-use Rattle.pei_core.proofs.Served.{made_taken, refused_taken}
-use Rattle.pei_core.proofs.Changing.{refused_none}
+use Rattle.pei_core.proofs.{Made.Stands, Made.pool_stands, Served.made_taken, Served.refused_taken, Changing.refused_none}
 use Rattle.pei_core.proofs.pools.make_pool.Goals as goal
 
 pub address-address-requires : goal.address-address-requires

@@ -1,11 +1,9 @@
 use Rattle.std.proofs.Common.{ap, sym, subst, ◌∙◌, [], None}
 use Rattle.boot_model.specs.declared.line.CallName.TheVariants as C
-use Rattle.boot_model.specs.PeiAction.{Called, effect}
-use Rattle.boot_model.specs.Registers.{number_in}
+use Rattle.boot_model.specs.{PeiAction.Called, PeiAction.effect, Registers.number_in}
 use Rattle.act_code.specs.declared.action.Action.TheVariants as A
 use Rattle.phase_parts.specs.declared.registers.Writes.TheVariants as W
-use Rattle.pei_core.specs.Guids.{no_changes}
-use Rattle.pei_core.specs.Taken.{Does, reply_in}
+use Rattle.pei_core.specs.{Guids.no_changes, Taken.Does, Taken.reply_in}
 use Rattle.pei_core.proofs.Served.{peek_shown}
 use Rattle.pei_core.proofs.pools.read_memory.Goals as goal
 

@@ -2,9 +2,7 @@ use Rattle.std.proofs.Common.{map, refl, ap, sym, subst, ◌∙◌, Err}
 use Rattle.pi_base.specs.declared.word.Word.TheVariants.{InvalidParameter}
 use Rattle.act_code.specs.declared.action.Action.TheVariants as A
 use Rattle.boot_model.specs.declared.line.CallName.TheVariants as C
-use Rattle.store_model.specs.Service.{Answers}
-use Rattle.store_model.specs.Service.Descriptor.{guid_at, offsets}
-use Rattle.store_model.specs.Service.Install.{install}
+use Rattle.store_model.specs.{Service.Answers, Service.Descriptor.guid_at, Service.Descriptor.offsets, Service.Install.install}
 use Rattle.boot_model.specs.PeiAction.{Called, sweep_reply, install_reply}
 use Rattle.boot_model.proofs.Held.{held_list}
 use Rattle.pei_core.proofs.Changing.{fault_changes, install_places, refusal_changes, swept_changes}

@@ -1,11 +1,8 @@
-use Rattle.std.proofs.Common.{map, refl, ap, sym, ◌∙◌, [], ◌∷◌, ◌++◌, Some}
-use Rattle.std.specs.Option.{option_map}
+use Rattle.std.proofs.Common.{map, refl, ap, sym, ◌∙◌, [], ◌∷◌, ◌++◌, Some, option_map}
 use Rattle.pi_base.specs.declared.word.Word.TheVariants.{InvalidParameter}
 use Rattle.act_code.specs.declared.action.Action.TheVariants as A
-use Rattle.store_model.specs.StateFacts.{IsDesc}
-use Rattle.store_model.specs.Service.Descriptor.{guid_at}
+use Rattle.store_model.specs.{StateFacts.IsDesc, Service.Descriptor.guid_at, Service.Install.reinstall}
 use Rattle.boot_model.specs.declared.line.CallName.TheVariants as C
-use Rattle.store_model.specs.Service.Install.{reinstall}
 use Rattle.boot_model.specs.PeiAction.{Called, sweep_reply, reinstall_reply}
 use Rattle.pei_core.specs.Taken.{swept}
 use Rattle.boot_model.proofs.Held.{held_two}

@@ -1,6 +1,5 @@
 use Rattle.boot_io.proofs.PutsLaws.{puts_err}
-use Rattle.boot_model.specs.PeiStep.{report_lines}
-use Rattle.boot_model.specs.Text.{text_of}
+use Rattle.boot_model.specs.{PeiStep.report_lines, Text.text_of}
 use Rattle.pei_core.proofs.Reported.{part_of_reports}
 use Rattle.pei_core.proofs.reports.put_reports.Goals as goal
 

@@ -1,7 +1,6 @@
 use Rattle.std.proofs.Common.{◌≡◌, take}
 use Rattle.std.specs.Io.KnownBytes.{Appends}
-use Rattle.boot_model.specs.Text.{text_of}
-use Rattle.boot_model.specs.PeiStep.{report_lines}
+use Rattle.boot_model.specs.{Text.text_of, PeiStep.report_lines}
 use Rattle.pei_core.proofs.reports.put_reports.Given as goal
 
 abbrev pub invariant-volumes : goal.invariant-volumes

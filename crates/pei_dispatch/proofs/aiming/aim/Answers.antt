@@ -1,6 +1,5 @@
 use Rattle.std.proofs.Common.{refl, sym, subst}
-use Rattle.pei_dispatch.specs.Queue.{parts_in}
-use Rattle.pei_dispatch.specs.Choices.{IsPlaceFor}
+use Rattle.pei_dispatch.specs.{Queue.parts_in, Choices.IsPlaceFor}
 use Rattle.pei_dispatch.proofs.aiming.aim.Goals as goal
 
 pub returns-in-Some-clause-place : goal.returns-in-Some-clause-place

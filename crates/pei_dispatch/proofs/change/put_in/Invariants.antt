@@ -1,6 +1,5 @@
 use Rattle.std.proofs.Common.{◌≡◌, Bool, true, List, take}
-use Rattle.pi_base.specs.Lists.{Each}
-use Rattle.pi_base.specs.declared.guid.Guid.{Guid}
+use Rattle.pi_base.specs.{Lists.Each, declared.guid.Guid.Guid}
 use Rattle.mod_catalog.specs.declared.catalogue.Catalog.{Catalog}
 use Rattle.wait_index.specs.Index.{IsIndex}
 use Rattle.pei_dispatch.specs.Noted.{AreKnown, IsNoted}

@@ -1,6 +1,4 @@
-use Rattle.std.proofs.Common.{◌≡◌, [], Option, subst, sym}
-use Rattle.std.specs.Prelude.{IfSome}
-use Rattle.std.specs.Option.{option_to_list}
+use Rattle.std.proofs.Common.{◌≡◌, [], Option, subst, sym, IfSome, option_to_list}
 use Rattle.pi_base.specs.declared.guid.Guid.{Guid}
 use Rattle.pei_dispatch.specs.Noted.{IsNoted}
 use Rattle.pei_dispatch.proofs.Notes.{taken_away}

@@ -1,8 +1,6 @@
 use Rattle.std.proofs.Common.{◌≡◌, Bool, true, false, ◌||◌, refl, sym, ap, subst, ◌∙◌}
 use Rattle.std.proofs.lemmas.Bool.Decides.{Decides-eqb}
-use Rattle.pei_dispatch.specs.Queue.{Shows}
-use Rattle.pei_dispatch.specs.View.{with_again}
-use Rattle.pei_dispatch.specs.Following.{lets_at}
+use Rattle.pei_dispatch.specs.{Queue.Shows, View.with_again, Following.lets_at}
 use Rattle.pei_dispatch.proofs.follow.allow_again.Goals as goal
 
 or_nothing : (b : Bool) → b ≡ (b || false)

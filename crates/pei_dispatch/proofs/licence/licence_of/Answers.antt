@@ -1,11 +1,7 @@
-use Rattle.std.proofs.Common.{◌≡◌, true, true≢false, not, refl, sym}
-use Rattle.std.specs.Prelude.{if◌then◌else◌}
-use Rattle.boot_model.specs.PeimState.{has_started}
-use Rattle.boot_model.specs.declared.licence.Licence.{Licence}
-use Rattle.boot_model.specs.declared.licence.Licence.TheVariants.{Shadow}
-use Rattle.boot_model.specs.declared.peim_state.PeimState.{PeimState}
+use Rattle.std.proofs.Common.{◌≡◌, true, true≢false, not, refl, sym, if◌then◌else◌}
+use Rattle.boot_model.specs.{PeimState.has_started, declared.licence.Licence.Licence, declared.licence.Licence.TheVariants.Shadow}
+use Rattle.boot_model.specs.{declared.peim_state.PeimState.PeimState, contracts.peim_state.PeimState.the_type}
 use Rattle.boot_model.specs.declared.peim_state.PeimState.TheVariants.{NotDispatched, Dispatched, RegisteredForShadow, Done}
-use Rattle.boot_model.specs.contracts.peim_state.PeimState.{the_type}
 use Rattle.pei_dispatch.proofs.licence.licence_of.Goals as goal
 use denote.Enum.Bare.{sameb}
 

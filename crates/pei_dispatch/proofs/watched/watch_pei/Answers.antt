@@ -1,10 +1,8 @@
 use Rattle.std.proofs.Common.{arith, ◌≡◌, ◌+◌, refl, sym, ap, ◌∙◌, subst}
 use Rattle.std.proofs.lemmas.Result.{err_from_is_err_and}
-use Rattle.boot_model.specs.Licence.{AllDiffer}
-use Rattle.boot_model.specs.PeiRun.{pei_opening, pei_bound}
+use Rattle.boot_model.specs.{Licence.AllDiffer, PeiRun.pei_opening, PeiRun.pei_bound}
 use Rattle.pei_dispatch.specs.View.{AreAlike, first_view, view_of, with_volumes}
-use Rattle.pei_dispatch.specs.Choices.{LetsPeims, NamesPeims}
-use Rattle.pei_dispatch.specs.Queue.{owed_by}
+use Rattle.pei_dispatch.specs.{Choices.LetsPeims, Choices.NamesPeims, Queue.owed_by}
 use Rattle.pei_dispatch.proofs.ChosenFew.{few_at_end, none_evaluated, opening_few}
 use Rattle.pei_dispatch.proofs.ChosenWays.{Laws, opened, opening_halts, opening_way, turn_to_come, way_halts, way_on}
 use Rattle.pei_dispatch.proofs.Watching.{halts_watched, reached_watched, was_step}

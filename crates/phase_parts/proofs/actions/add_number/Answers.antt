@@ -1,5 +1,4 @@
-use Rattle.std.proofs.Common.{ap, ◌∙◌, ◌∷◌, ◌+◌, ◌%◌, ◌^◌}
-use Rattle.std.specs.Option.{option_map}
+use Rattle.std.proofs.Common.{ap, ◌∙◌, ◌∷◌, ◌+◌, ◌%◌, ◌^◌, option_map}
 use Rattle.phase_parts.specs.Deed.{frame_after, number_written}
 use Rattle.phase_parts.proofs.actions.add_number.Goals as goal
 

@@ -1,7 +1,6 @@
 use Rattle.std.proofs.Common.{ap, ◌∙◌, ◌∷◌, None}
 use Rattle.pi_base.specs.declared.word.Word.TheVariants.{Success}
-use Rattle.phase_parts.specs.Frames.{answered}
-use Rattle.phase_parts.specs.Writes.{written}
+use Rattle.phase_parts.specs.{Frames.answered, Writes.written}
 use Rattle.phase_parts.proofs.actions.set_number.Goals as goal
 
 pub returns : goal.returns

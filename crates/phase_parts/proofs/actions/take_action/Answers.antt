@@ -1,11 +1,9 @@
-use Rattle.std.proofs.Common.{ℕ, ◌+◌, ◌%◌, ◌^◌, ◌∙◌, ap, refl, sym, subst, [], ◌∷◌, Option, Some, length, ◌≤◌}
-use Rattle.std.specs.Option.{option_map}
+use Rattle.std.proofs.Common.{ℕ, ◌+◌, ◌%◌, ◌^◌, ◌∙◌, ap, refl, sym, subst, [], ◌∷◌, Option, Some, length, ◌≤◌, option_map}
 use Rattle.boot_model.specs.Registers.{number_in, skipped}
 use Rattle.phase_parts.specs.Frames.{below_top}
 use Rattle.boot_model.specs.declared.line.Line.TheVariants as L
 use Rattle.phase_parts.specs.Deed.{Logged, Returned, Skipped, deed, number_added, number_written}
-use Rattle.phase_parts.proofs.Grammar.{log_text}
-use Rattle.phase_parts.proofs.Written.{prints_nothing, leaves_the_frame}
+use Rattle.phase_parts.proofs.{Grammar.log_text, Written.prints_nothing, Written.leaves_the_frame}
 use Rattle.phase_parts.proofs.actions.take_action.Goals as goal
 
 pub shown-requires : goal.shown-requires

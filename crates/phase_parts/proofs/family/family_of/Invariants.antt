@@ -1,6 +1,5 @@
 use Rattle.std.proofs.Common.{◌≡◌, ◌≤◌, ◌∷◌, [], drop, length, max}
-use Rattle.mod_catalog.specs.Parts.{family_from}
-use Rattle.mod_catalog.specs.WellFormed.{AreNumbered}
+use Rattle.mod_catalog.specs.{Parts.family_from, WellFormed.AreNumbered}
 use Rattle.phase_parts.proofs.family.family_of.Given as goal
 
 -- the family so far, with those that are left, makes the whole

@@ -1,5 +1,4 @@
-use Rattle.std.proofs.Common.{List, ap, ◌∙◌}
-use Rattle.std.specs.Prelude.{option_copied, slice_get}
+use Rattle.std.proofs.Common.{List, ap, ◌∙◌, option_copied, slice_get}
 use Rattle.act_code.specs.declared.action.Action.{Action}
 use Rattle.phase_parts.proofs.FoundActions.{action_in, block_in, blocks_in}
 use Rattle.phase_parts.proofs.Got.{by_item, by_none, got}

@@ -1,6 +1,5 @@
-use Rattle.std.specs.Prelude.{Option, option_map, unwrap_or}
-use Rattle.mod_catalog.specs.declared.catalogue.Module.{Module}
-use Rattle.mod_catalog.specs.Parts.{no_name}
+use Rattle.std.proofs.Common.{Option, option_map, unwrap_or}
+use Rattle.mod_catalog.specs.{declared.catalogue.Module.Module, Parts.no_name}
 use Rattle.phase_parts.proofs.Got.{by_item, by_none}
 use Rattle.phase_parts.proofs.names.name_of.Goals as goal
 

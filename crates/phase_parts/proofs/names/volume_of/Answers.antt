@@ -1,4 +1,4 @@
-use Rattle.std.specs.Prelude.{Option, option_map, unwrap_or}
+use Rattle.std.proofs.Common.{Option, option_map, unwrap_or}
 use Rattle.mod_catalog.specs.declared.catalogue.Module.{Module}
 use Rattle.phase_parts.proofs.Got.{by_item, by_none}
 use Rattle.phase_parts.proofs.names.volume_of.Goals as goal

@@ -1,11 +1,7 @@
-use Rattle.std.proofs.Common.{◌∙◌, ap, sym, refl, subst, [], ◌∷◌}
-use Rattle.std.specs.Prelude.{unwrap_or}
+use Rattle.std.proofs.Common.{◌∙◌, ap, sym, refl, subst, [], ◌∷◌, unwrap_or}
 use Rattle.pi_base.specs.declared.word.Word.TheVariants.{Success}
 use Rattle.act_code.specs.declared.action.Action.TheVariants.{Ret}
-use Rattle.phase_parts.specs.Deed.{Returned, deed}
-use Rattle.phase_parts.specs.Frames.{below_top}
-use Rattle.phase_parts.specs.Needs.{IsWithin}
-use Rattle.phase_parts.specs.Took.{HasDone}
+use Rattle.phase_parts.specs.{Deed.Returned, Deed.deed, Frames.below_top, Needs.IsWithin, Took.HasDone}
 use Rattle.phase_parts.proofs.next.act.Goals as goal
 
 pub returns-in-None : goal.returns-in-None

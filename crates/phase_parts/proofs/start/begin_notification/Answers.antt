@@ -1,5 +1,4 @@
-use Rattle.std.proofs.Common.{◌∷◌, ◌∙◌, ap, arith, refl}
-use Rattle.std.specs.Prelude.{not}
+use Rattle.std.proofs.Common.{◌∷◌, ◌∙◌, ap, arith, refl, not}
 use Rattle.phase_parts.proofs.Room.{room}
 use Rattle.phase_parts.proofs.start.begin_notification.Goals as goal
 

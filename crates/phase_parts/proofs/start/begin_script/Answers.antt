@@ -1,7 +1,6 @@
 use Rattle.std.proofs.Common.{◌<◌, ◌∷◌, ◌∙◌, ap, arith, length, subst, sym}
 use Rattle.boot_model.specs.PeiMachine.{no_registers}
-use Rattle.phase_parts.specs.Found.{blocks_of}
-use Rattle.phase_parts.specs.Frames.{frame_at}
+use Rattle.phase_parts.specs.{Found.blocks_of, Frames.frame_at}
 use Rattle.phase_parts.proofs.Blocks.{begin, stay}
 use Rattle.phase_parts.proofs.start.begin_script.Goals as goal
 

@@ -1,6 +1,5 @@
 use Rattle.std.proofs.Common.{inl, inr, ◌∷◌, [], ap, sym, subst, ◌∙◌}
-use Rattle.program_edge.specs.Mistake.{IsMistake, keyword}
-use Rattle.program_edge.specs.declared.mistake.Mistake.{Mistake}
+use Rattle.program_edge.specs.{Mistake.IsMistake, Mistake.keyword, declared.mistake.Mistake.Mistake}
 use Rattle.program_edge.proofs.LimitMistakes.{base_breaks, last_breaks}
 use Rattle.program_edge.proofs.limit_mistake.long_mistake.Goals.{in-Some, in-None}
 use Rattle.program_edge.proofs.limit_mistake.long_mistake.Goals as goal

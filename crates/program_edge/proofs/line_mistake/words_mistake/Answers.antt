@@ -1,9 +1,8 @@
 use Rattle.std.proofs.Common.{◌≡◌, ◌<◌, ℕ, ◌∷◌, [], length, inl, inr, refl, sym, ◌∙◌, arith}
 use Rattle.std.proofs.lemmas.Bool.{cases_lt}
 use Rattle.line_words.specs.Words.{words}
-use Rattle.program_edge.specs.declared.kind.Kind.{Kind}
+use Rattle.program_edge.specs.{declared.kind.Kind.Kind, Mistake.word_count}
 use Rattle.program_edge.specs.declared.kind.Kind.TheVariants.{Temp, Ram, Volume, Fuel, Pages}
-use Rattle.program_edge.specs.Mistake.{word_count}
 use Rattle.program_edge.proofs.line_mistake.words_mistake.Goals as goal
 
 few_words : (kind : Kind) → word_count kind < 4

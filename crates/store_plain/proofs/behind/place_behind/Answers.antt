@@ -1,5 +1,4 @@
-use Rattle.std.proofs.Common.{ap, sym, ◌∙◌}
-use Rattle.std.specs.Prelude.{map}
+use Rattle.std.proofs.Common.{ap, sym, ◌∙◌, map}
 use Rattle.store_model.specs.Service.Reading.{entry_told, told_behind}
 use Rattle.store_plain.proofs.Left.{found}
 use Rattle.store_plain.proofs.behind.place_behind.Goals as goal

@@ -1,7 +1,5 @@
-use Rattle.std.proofs.Common.{◌≡◌, drop}
-use Rattle.std.specs.Prelude.{map}
-use Rattle.store_model.specs.StoreState.{StoreState}
-use Rattle.store_model.specs.Service.Reading.{behind_node, entry_told}
+use Rattle.std.proofs.Common.{◌≡◌, drop, map}
+use Rattle.store_model.specs.{StoreState.StoreState, Service.Reading.behind_node, Service.Reading.entry_told}
 use Rattle.store_plain.proofs.behind.place_behind.Given as goal
 
 abbrev pub invariant-entries : goal.invariant-entries

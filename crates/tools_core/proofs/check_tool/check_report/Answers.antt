@@ -1,14 +1,12 @@
 use Rattle.std.proofs.Common.{ℕ, List, refl}
 use Rattle.boot_plan.specs.declared.plan.Plan.{Plan}
 use Rattle.mod_catalog.specs.declared.catalogue.Catalog.{Catalog}
-use Rattle.boot_model.specs.FreeRun.{AreFreeLines}
-use Rattle.boot_model.specs.PlanBoard.{board_of}
+use Rattle.boot_model.specs.{FreeRun.AreFreeLines, PlanBoard.board_of}
 use Rattle.recorded_boot.specs.declared.trace.verdict.Verdict.{Verdict}
 use Rattle.recorded_boot.specs.declared.trace.verdict.Verdict.TheVariants.{Yes, No}
 use Rattle.recorded_boot.specs.Verdict.{IsVerdict}
 use Rattle.tools_core.specs.CheckReport.{VerdictReport, no, yes}
-use Rattle.tools_core.specs.Refusals.{verdict_line}
-use Rattle.tools_core.specs.ReportText.{verdict_status}
+use Rattle.tools_core.specs.{Refusals.verdict_line, ReportText.verdict_status}
 use Rattle.tools_core.specs.TraceReport.{image_refused, said, twins}
 use Rattle.tools_core.proofs.check_tool.check_report.Goals as goal
 

@@ -1,9 +1,8 @@
 use Rattle.std.proofs.Common.{◌≡◌, ◌∙◌, ℕ, List, refl, subst, sym}
 use Rattle.boot_core.specs.Examining.{IsImageRefusal}
 use Rattle.mod_catalog.specs.Catalogue.{IsCatalogue}
-use Rattle.tools_core.specs.declared.report.Report.{Report}
+use Rattle.tools_core.specs.{declared.report.Report.Report, Ends.Tells}
 use Rattle.tools_core.specs.declared.report.Report.TheVariants as R
-use Rattle.tools_core.specs.Ends.{Tells}
 use Rattle.tools_core.specs.ExplainReport.{ExplainReport, explained_so, faulty_image}
 use Rattle.tools_core.proofs.explain_tool.explain_report.Goals as goal
 

@@ -1,7 +1,6 @@
 use Rattle.std.proofs.Common.{◌++◌}
 use Rattle.boot_io.proofs.PutsLaws.{part_of_more, puts_err, puts_then}
-use Rattle.tools_core.specs.FollowText.{against_line}
-use Rattle.tools_core.specs.Refusals.{no_line}
+use Rattle.tools_core.specs.{FollowText.against_line, Refusals.no_line}
 use Rattle.tools_core.proofs.follow_print.put_last.Goals as goal
 
 pub returns-in_err-put_no-in-No-clause-text : goal.returns-in_err-put_no-in-No-clause-text

@@ -1,10 +1,8 @@
 use Rattle.std.proofs.Common.{ℕ, List, Result, Ok, Err, IfOk, arith, refl}
 use Rattle.pi_base.specs.declared.memory.OutOfMemory.{OutOfMemory}
 use Rattle.boot_plan.specs.declared.plan.Plan.{Plan}
-use Rattle.recorded_boot.specs.declared.order.lines.StartOrder.{StartOrder}
-use Rattle.recorded_boot.specs.OrderText.{IsOrder}
-use Rattle.tools_core.specs.declared.report.Report.{Report}
-use Rattle.tools_core.specs.Ends.{Tells}
+use Rattle.recorded_boot.specs.{declared.order.lines.StartOrder.StartOrder, OrderText.IsOrder}
+use Rattle.tools_core.specs.{declared.report.Report.Report, Ends.Tells}
 use Rattle.tools_core.specs.FollowReport.{FollowReport, OrderReport, bad_order, in_order}
 use Rattle.tools_core.proofs.follow_tool.follow_report.Goals as goal
 

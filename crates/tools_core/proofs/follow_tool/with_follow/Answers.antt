@@ -1,12 +1,8 @@
-use Rattle.std.proofs.Common.{◌≡◌, ℕ, List, Option, IfOk, ◌∙◌, subst}
-use Rattle.std.specs.Prelude.{OnErr}
+use Rattle.std.proofs.Common.{◌≡◌, ℕ, List, Option, IfOk, ◌∙◌, subst, OnErr}
 use Rattle.std.proofs.lemmas.Result.{err_from_is_err_and}
-use Rattle.boot_core.specs.Job.{IsNamedIn}
-use Rattle.boot_core.specs.Reading.{plan_limit}
-use Rattle.tools_core.specs.FileReading.{IsRead, LongOutcome}
-use Rattle.tools_core.specs.Ends.{Reports}
-use Rattle.tools_core.specs.FollowReport.{FollowNames, FollowOutcome, OrderTextsOutcome, long_order, long_plan, order_limit, texts_read}
-use Rattle.tools_core.specs.FollowReport.{names_order, names_plan, names_volume}
+use Rattle.boot_core.specs.{Job.IsNamedIn, Reading.plan_limit}
+use Rattle.tools_core.specs.{FileReading.IsRead, FileReading.LongOutcome, Ends.Reports}
+use Rattle.tools_core.specs.FollowReport.{FollowNames, FollowOutcome, OrderTextsOutcome, long_order, long_plan, order_limit, texts_read, names_order, names_plan, names_volume}
 use Rattle.tools_core.proofs.Ending.{reports_behind, reports_ok, reports_up}
 use Rattle.tools_core.proofs.follow_tool.with_follow.Goals as goal
 

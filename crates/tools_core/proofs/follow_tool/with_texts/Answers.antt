@@ -1,9 +1,6 @@
-use Rattle.boot_core.specs.Job.{IsNamedIn}
-use Rattle.boot_core.specs.Reading.{FilesTrail}
-use Rattle.tools_core.specs.FollowReport.{FollowReport, OrderTextsOutcome}
-use Rattle.tools_core.specs.JobOutcome.{job_read}
-use Rattle.tools_core.proofs.Ending.{told_reports}
-use Rattle.tools_core.proofs.FileReports.{job_refusal, job_reports}
+use Rattle.boot_core.specs.{Job.IsNamedIn, Reading.FilesTrail}
+use Rattle.tools_core.specs.{FollowReport.FollowReport, FollowReport.OrderTextsOutcome, JobOutcome.job_read}
+use Rattle.tools_core.proofs.{Ending.told_reports, FileReports.job_refusal, FileReports.job_reports}
 use Rattle.tools_core.proofs.follow_tool.with_texts.Goals as goal
 
 pub report_of-requires : goal.report_of-requires

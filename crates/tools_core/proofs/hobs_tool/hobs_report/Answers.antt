@@ -1,8 +1,7 @@
 use Rattle.std.proofs.Common.{◌≡◌, refl, subst, sym}
 use Rattle.boot_core.specs.Examining.{IsImageRefusal}
-use Rattle.tools_core.specs.declared.report.Report.{Report}
+use Rattle.tools_core.specs.{declared.report.Report.Report, Ends.Tells}
 use Rattle.tools_core.specs.declared.report.Report.TheVariants as R
-use Rattle.tools_core.specs.Ends.{Tells}
 use Rattle.tools_core.specs.HobsReport.{HobsReport, bad_image, ended, handed}
 use Rattle.tools_core.proofs.hobs_tool.hobs_report.Goals as goal
 

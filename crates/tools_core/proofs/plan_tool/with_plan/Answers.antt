@@ -1,10 +1,7 @@
 use Rattle.std.proofs.Common.{◌≡◌, ℕ, List, Option, IfOk, subst}
-use Rattle.boot_core.specs.Job.{IsNamedIn}
-use Rattle.boot_core.specs.Reading.{plan_limit}
-use Rattle.tools_core.specs.Ends.{Reports}
-use Rattle.tools_core.specs.FileReading.{IsRead}
+use Rattle.boot_core.specs.{Job.IsNamedIn, Reading.plan_limit}
+use Rattle.tools_core.specs.{Ends.Reports, FileReading.IsRead, JobOutcome.JobOutcome}
 use Rattle.tools_core.specs.PlanReport.{PlanNames, PlanOutcome, PlanReport, names_a_volume, text_read}
-use Rattle.tools_core.specs.JobOutcome.{JobOutcome}
 use Rattle.tools_core.proofs.Ending.{reports_ok}
 use Rattle.tools_core.proofs.plan_tool.with_plan.Goals as goal
 

@@ -1,12 +1,8 @@
 use Rattle.std.proofs.Common.{IfOk, sym, subst}
-use Rattle.boot_core.specs.Job.{IsNamedIn}
-use Rattle.boot_core.specs.Reading.{FilesTrail}
-use Rattle.tools_core.specs.declared.command_line.PlanTool.{PlanTool}
-use Rattle.tools_core.specs.Ends.{Tells}
-use Rattle.tools_core.specs.PlanReport.{PlanReport}
+use Rattle.boot_core.specs.{Job.IsNamedIn, Reading.FilesTrail}
+use Rattle.tools_core.specs.{declared.command_line.PlanTool.PlanTool, Ends.Tells, PlanReport.PlanReport}
 use Rattle.tools_core.specs.JobOutcome.{JobOutcome, job_read}
-use Rattle.tools_core.proofs.Ending.{told_reports}
-use Rattle.tools_core.proofs.FileReports.{job_refusal, job_reports}
+use Rattle.tools_core.proofs.{Ending.told_reports, FileReports.job_refusal, FileReports.job_reports}
 use Rattle.tools_core.proofs.plan_tool.with_text.Goals as goal
 
 pub report_of-requires : goal.report_of-requires

@@ -1,9 +1,7 @@
 use Rattle.std.proofs.Common.{◌≡◌, ◌∙◌, ℕ, List, refl, subst, sym}
 use Rattle.boot_core.specs.Examining.{IsImageRefusal}
-use Rattle.tools_core.specs.declared.command_line.TraceTool.TheVariants.{Explain}
-use Rattle.tools_core.specs.declared.report.Report.{Report}
+use Rattle.tools_core.specs.{declared.command_line.TraceTool.TheVariants.Explain, declared.report.Report.Report, Ends.Tells}
 use Rattle.tools_core.specs.declared.report.Report.TheVariants as R
-use Rattle.tools_core.specs.Ends.{Tells}
 use Rattle.tools_core.specs.TraceReport.{TraceReport, image_refused}
 use Rattle.tools_core.proofs.told_tool.lines_report.Goals as goal
 

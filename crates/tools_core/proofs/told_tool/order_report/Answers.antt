@@ -1,13 +1,8 @@
 use Rattle.std.proofs.Common.{◌≡◌, refl, ap, subst}
-use Rattle.boot_model.specs.FreeRun.{AreFreeLines}
-use Rattle.boot_model.specs.PlanBoard.{board_of}
+use Rattle.boot_model.specs.{FreeRun.AreFreeLines, PlanBoard.board_of}
 use Rattle.mod_catalog.specs.declared.catalogue.Catalog.{Catalog}
-use Rattle.recorded_boot.specs.Verdict.{IsBoot}
-use Rattle.recorded_boot.specs.Named.{IsFirstWithTwins}
-use Rattle.recorded_boot.specs.declared.order.lines.StartOrder.{StartOrder}
-use Rattle.tools_core.specs.ExplainReport.{IsExplanation}
-use Rattle.tools_core.specs.Refusals.{twins_line}
-use Rattle.tools_core.specs.ToldReport.{RunsInOrder, runs_so}
+use Rattle.recorded_boot.specs.{Verdict.IsBoot, Named.IsFirstWithTwins, declared.order.lines.StartOrder.StartOrder}
+use Rattle.tools_core.specs.{ExplainReport.IsExplanation, Refusals.twins_line, ToldReport.RunsInOrder, ToldReport.runs_so}
 use Rattle.tools_core.specs.TraceReport.{said, twins}
 use Rattle.tools_core.proofs.told_tool.order_report.Goals as goal
 

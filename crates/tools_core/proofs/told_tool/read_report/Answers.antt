@@ -1,8 +1,6 @@
 use Rattle.std.proofs.Common.{refl, ap, length, arith}
 use Rattle.trace_reader.specs.Trace.{IsBadLine}
-use Rattle.tools_core.specs.Refusals.{no_line}
-use Rattle.tools_core.specs.ToldReport.{not_read}
-use Rattle.tools_core.specs.TraceReport.{said}
+use Rattle.tools_core.specs.{Refusals.no_line, ToldReport.not_read, TraceReport.said}
 use Rattle.tools_core.proofs.FewLines.{few_lines}
 use Rattle.tools_core.proofs.told_tool.read_report.Goals as goal
 

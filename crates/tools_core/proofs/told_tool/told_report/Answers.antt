@@ -1,9 +1,7 @@
 use Rattle.std.proofs.Common.{ℕ, List, refl, ap, ◌∙◌, subst}
 use Rattle.mod_catalog.specs.ImageFault.{IsImageFault}
-use Rattle.recorded_boot.specs.Checking.{HasTwins, IsChecked}
-use Rattle.recorded_boot.specs.declared.trace.verdict.Verdict.TheVariants.{No}
-use Rattle.tools_core.specs.Refusals.{image_line, twins_line}
-use Rattle.tools_core.specs.ToldReport.{goes_wrong}
+use Rattle.recorded_boot.specs.{Checking.HasTwins, Checking.IsChecked, declared.trace.verdict.Verdict.TheVariants.No}
+use Rattle.tools_core.specs.{Refusals.image_line, Refusals.twins_line, ToldReport.goes_wrong}
 use Rattle.tools_core.specs.TraceReport.{image_refused, said, twins}
 use Rattle.tools_core.proofs.told_tool.told_report.Goals as goal
 

@@ -1,9 +1,7 @@
 use Rattle.std.proofs.Common.{ℕ, List, Option, subst}
 use Rattle.std.specs.Io.Buffered.{writer_contents}
 use Rattle.boot_io.specs.Words.{words_of}
-use Rattle.tools_core.specs.Ends.{Ends}
-use Rattle.tools_core.specs.OneOutcome.{AnswersExactly}
-use Rattle.tools_core.specs.Outcome.{Names, Outcome}
+use Rattle.tools_core.specs.{Ends.Ends, OneOutcome.AnswersExactly, Outcome.Names, Outcome.Outcome}
 use Rattle.tools_core.proofs.OneOutcome.{handed_on}
 use Rattle.tools_core.proofs.tools.tools_and_print.Goals as goal
 

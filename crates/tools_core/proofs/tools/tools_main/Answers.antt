@@ -1,9 +1,7 @@
 use Rattle.boot_io.specs.Words.{words_of}
-use Rattle.tools_core.specs.Ends.{Trail}
-use Rattle.tools_core.specs.Outcome.{Names, Outcome}
+use Rattle.tools_core.specs.{Ends.Trail, Outcome.Names, Outcome.Outcome}
 use Rattle.tools_core.proofs.Faults.{file_fault, files_rose, nothing_put, sink_fault, sink_rose}
-use Rattle.tools_core.proofs.OneOutcome.{answers_exactly}
-use Rattle.tools_core.proofs.TextsAgain.{again}
+use Rattle.tools_core.proofs.{OneOutcome.answers_exactly, TextsAgain.again}
 use Rattle.tools_core.proofs.tools.tools_main.Goals as goal
 
 pub returns : goal.returns

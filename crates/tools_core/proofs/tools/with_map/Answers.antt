@@ -1,7 +1,5 @@
 use Rattle.std.proofs.Common.{◌≡◌, ℕ, List, Option, inr, ◌∙◌, subst}
-use Rattle.tools_core.specs.FileReading.{IsRead, LongOutcome}
-use Rattle.tools_core.specs.Ends.{Reports}
-use Rattle.tools_core.specs.GcdReport.{GcdReport}
+use Rattle.tools_core.specs.{FileReading.IsRead, FileReading.LongOutcome, Ends.Reports, GcdReport.GcdReport}
 use Rattle.tools_core.specs.Outcome.{MapNames, MapOutcome, both, commands_limit, commands_long, file_limit}
 use Rattle.tools_core.proofs.Ending.{reports_behind, reports_up, told_reports}
 use Rattle.tools_core.proofs.tools.with_map.Goals as goal

@@ -1,8 +1,7 @@
 use Rattle.std.proofs.Common.{◌≡◌}
 use Rattle.boot_io.specs.Words.{words_of}
-use Rattle.tools_core.specs.FollowReport.{FollowNames, FollowOutcome}
+use Rattle.tools_core.specs.{FollowReport.FollowNames, FollowReport.FollowOutcome, PlanReport.PlanNames, PlanReport.PlanOutcome}
 use Rattle.tools_core.specs.Outcome.{MapNames, MapOutcome, Names, Outcome, ToolOutcome, of_follow, of_map, of_plan, of_tool, of_trace, words_ask_follow, words_ask_map, words_ask_plan, words_ask_tool, words_ask_trace}
-use Rattle.tools_core.specs.PlanReport.{PlanNames, PlanOutcome}
 use Rattle.tools_core.specs.TraceReport.{TraceNames, TraceOutcome}
 use Rattle.tools_core.proofs.Ending.{reports_ok}
 use Rattle.tools_core.proofs.tools.with_words.Goals as goal

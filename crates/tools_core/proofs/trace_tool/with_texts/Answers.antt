@@ -1,12 +1,8 @@
 use Rattle.std.proofs.Common.{IfOk, sym, subst}
-use Rattle.boot_core.specs.Job.{IsNamedIn}
-use Rattle.boot_core.specs.Reading.{FilesTrail}
-use Rattle.tools_core.specs.JobOutcome.{job_read}
-use Rattle.tools_core.specs.declared.command_line.TraceTool.{TraceTool}
-use Rattle.tools_core.specs.Ends.{Tells}
+use Rattle.boot_core.specs.{Job.IsNamedIn, Reading.FilesTrail}
+use Rattle.tools_core.specs.{JobOutcome.job_read, declared.command_line.TraceTool.TraceTool, Ends.Tells}
 use Rattle.tools_core.specs.TraceReport.{TextsOutcome, TraceReport}
-use Rattle.tools_core.proofs.Ending.{told_reports}
-use Rattle.tools_core.proofs.FileReports.{job_refusal, job_reports}
+use Rattle.tools_core.proofs.{Ending.told_reports, FileReports.job_refusal, FileReports.job_reports}
 use Rattle.tools_core.proofs.trace_tool.with_texts.Goals as goal
 
 pub report_of-requires : goal.report_of-requires

@@ -1,8 +1,6 @@
 use Rattle.std.proofs.Common.{◌≡◌, ℕ, List, Option, IfOk, ◌∙◌, subst}
-use Rattle.boot_core.specs.Job.{IsNamedIn}
-use Rattle.boot_core.specs.Reading.{plan_limit}
-use Rattle.tools_core.specs.FileReading.{IsRead, LongOutcome}
-use Rattle.tools_core.specs.Ends.{Reports}
+use Rattle.boot_core.specs.{Job.IsNamedIn, Reading.plan_limit}
+use Rattle.tools_core.specs.{FileReading.IsRead, FileReading.LongOutcome, Ends.Reports}
 use Rattle.tools_core.specs.TraceReport.{TextsOutcome, TraceNames, TraceOutcome, both_read, is_trace, is_volume, trace_limit, trace_long}
 use Rattle.tools_core.proofs.Ending.{reports_behind, reports_ok, reports_up}
 use Rattle.tools_core.proofs.trace_tool.with_trace.Goals as goal

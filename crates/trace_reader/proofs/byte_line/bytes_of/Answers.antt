@@ -1,5 +1,4 @@
-use Rattle.std.proofs.Common.{◌≡◌, ◌∙◌, ap, arith, length}
-use Rattle.std.proofs.lemmas.List.{take_at}
+use Rattle.std.proofs.Common.{◌≡◌, ◌∙◌, ap, arith, length, take_at}
 use Rattle.trace_reader.proofs.HexWords.{not_refused, decoded, two_digits, not_decided}
 use Rattle.trace_reader.proofs.ByteLines.{some_shown, bytes_found_ok}
 use Rattle.trace_reader.proofs.byte_line.bytes_of.Goals as goal

@@ -1,5 +1,4 @@
-use Rattle.std.proofs.Common.{◌∙◌}
-use Rattle.std.specs.Prelude.{codes}
+use Rattle.std.proofs.Common.{◌∙◌, codes}
 use Rattle.boot_model.specs.Text.{keyword}
 use Rattle.trace_reader.proofs.ByteLines.{one_word}
 use Rattle.trace_reader.proofs.byte_line.file_line.Goals as goal

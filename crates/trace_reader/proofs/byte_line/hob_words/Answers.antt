@@ -1,5 +1,4 @@
-use Rattle.std.proofs.Common.{◌++◌, [], ◌∷◌, ◌∙◌, decimal, flat_map}
-use Rattle.std.specs.Prelude.{codes}
+use Rattle.std.proofs.Common.{◌++◌, [], ◌∷◌, ◌∙◌, decimal, flat_map, codes}
 use Rattle.boot_io.specs.Line.{spaced}
 use Rattle.trace_reader.proofs.Splits.{cut_front, cut_back, behind_is}
 use Rattle.trace_reader.proofs.byte_line.hob_words.Goals as goal

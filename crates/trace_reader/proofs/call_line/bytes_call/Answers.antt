@@ -1,8 +1,7 @@
 use Rattle.std.proofs.Common.{◌∙◌, [], ◌∷◌}
 use Rattle.hex.specs.Hex.{encode_lower}
 use Rattle.boot_model.specs.Text.{keyword}
-use Rattle.trace_reader.proofs.CallWords.{call_is}
-use Rattle.trace_reader.proofs.HexWords.{not_decided}
+use Rattle.trace_reader.proofs.{CallWords.call_is, HexWords.not_decided}
 use Rattle.trace_reader.proofs.call_line.bytes_call.Goals as goal
 
 pub returns-in_default-clause-none : goal.returns-in_default-clause-none

@@ -1,7 +1,6 @@
 use Rattle.std.proofs.Common.{◌∙◌, sym, []}
 use Rattle.boot_model.specs.Text.{keyword}
-use Rattle.trace_reader.proofs.CallWords.{call_is}
-use Rattle.trace_reader.proofs.HexWords.{not_decided}
+use Rattle.trace_reader.proofs.{CallWords.call_is, HexWords.not_decided}
 use Rattle.trace_reader.proofs.call_line.silent_call.Goals as goal
 
 pub returns-in_default-clause-none : goal.returns-in_default-clause-none

@@ -1,6 +1,5 @@
 use Rattle.std.proofs.Common.{◌≡◌, ◌≤◌, ◌++◌, length, flat_map}
-use Rattle.volume_print.specs.Places.{pads_in}
-use Rattle.volume_print.specs.Spelling.{pad_text}
+use Rattle.volume_print.specs.{Places.pads_in, Spelling.pad_text}
 use Rattle.volume_print.proofs.pad.put_pads.Given as goal
 
 -- the pads of what is left come behind those that were told

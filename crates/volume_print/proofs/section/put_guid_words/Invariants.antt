@@ -1,7 +1,5 @@
-use Rattle.std.proofs.Common.{◌≡◌, ◌*◌, ◌++◌, map}
-use Rattle.std.specs.List.{flat_map}
-use Rattle.pi_base.specs.Guids.{guid_at}
-use Rattle.pi_base.specs.Lists.{numbers}
+use Rattle.std.proofs.Common.{◌≡◌, ◌*◌, ◌++◌, map, flat_map}
+use Rattle.pi_base.specs.{Guids.guid_at, Lists.numbers}
 use Rattle.volume_print.specs.Spelling.{guid_word}
 use Rattle.volume_print.proofs.section.put_guid_words.Given as goal
 

@@ -1,19 +1,13 @@
-use Rattle.std.proofs.lemmas.List.{take_all}
 use Rattle.fv_volume.proofs.Outcomes.{on_ok}
-use Rattle.std.proofs.Common.{arith, ◌≡◌, ℕ, ◌+◌, List, ◌++◌, length, map, take, flat_map, refl, sym, ap, ◌∙◌, subst}
-use Rattle.fv_volume.specs.declared.sections.section.Section.{Section}
-use Rattle.fv_volume.specs.declared.file.FfsFile.{FfsFile}
-use Rattle.fv_volume.specs.declared.build.new_file.NewSection.{NewSection}
-use Rattle.fv_volume.specs.Frame.{aligned}
-use Rattle.fv_volume.specs.Sections.{body_bytes}
-use Rattle.fv_volume.specs.declared.build.volume_header.VolumeForm.{VolumeForm}
-use Rattle.fv_volume.specs.Front.{first_place}
+use Rattle.std.proofs.Common.{take_all, arith, ◌≡◌, ℕ, ◌+◌, List, ◌++◌, length, map, take, flat_map, refl, sym, ap, ◌∙◌, subst}
+use Rattle.fv_volume.specs.{declared.sections.section.Section.Section, declared.file.FfsFile.FfsFile}
+use Rattle.fv_volume.specs.{declared.build.new_file.NewSection.NewSection, Frame.aligned, Sections.body_bytes}
+use Rattle.fv_volume.specs.{declared.build.volume_header.VolumeForm.VolumeForm, Front.first_place}
 use Rattle.volume_print.specs.Places.{pads_in, stands}
 use Rattle.volume_print.specs.Spelling.{volume_line, name_line, pad_text}
 use Rattle.volume_print.specs.Description.{section_in, form_in, name_in, IsInner}
 use Rattle.volume_print.specs.Finding.{held, form_text, AddsSections, AddsFiles}
-use Rattle.volume_print.proofs.Forms.{no_volume}
-use Rattle.volume_print.proofs.OneText.{told_or_not}
+use Rattle.volume_print.proofs.{Forms.no_volume, OneText.told_or_not}
 use Rattle.volume_print.proofs.Putting.{added, sections_more, sections_added, bytes_added, no_files, file_added, files_more, text_put}
 use Rattle.volume_print.proofs.tree.+tree.Goals as goal
 

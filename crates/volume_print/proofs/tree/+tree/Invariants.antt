@@ -1,6 +1,5 @@
 use Rattle.std.proofs.Common.{◌+◌, ◌*◌, map, take}
-use Rattle.volume_print.specs.Description.{section_in, IsInner}
-use Rattle.volume_print.specs.Finding.{AddsSections, AddsFiles}
+use Rattle.volume_print.specs.{Description.section_in, Description.IsInner, Finding.AddsSections, Finding.AddsFiles}
 use Rattle.volume_print.proofs.tree.+tree.Given as goal
 
 -- a level has eight calls

@@ -1,5 +1,4 @@
-use Rattle.volume_text.proofs.Saying.{says}
-use Rattle.volume_text.proofs.Completing.{complete}
+use Rattle.volume_text.proofs.{Saying.says, Completing.complete}
 use Rattle.volume_text.proofs.law.said_is_read.Goals as goal
 
 pub returns-clause-says : goal.returns-clause-says

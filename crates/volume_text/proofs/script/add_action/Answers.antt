@@ -1,7 +1,6 @@
 use Rattle.std.proofs.Common.{ap, ◌∙◌}
 use Rattle.volume_text.specs.Script.{last_block}
-use Rattle.volume_text.proofs.Ending.{with_said}
-use Rattle.volume_text.proofs.Lasts.{last_push}
+use Rattle.volume_text.proofs.{Ending.with_said, Lasts.last_push}
 use Rattle.volume_text.proofs.script.add_action.Goals as goal
 
 pub returns-in_ok-push-in-Ok-2-clause-said : goal.returns-in_ok-push-in-Ok-2-clause-said

@@ -1,7 +1,5 @@
 use Rattle.std.proofs.Common.{ℕ, List, Result, sym, ap, ◌∙◌, subst}
-use Rattle.volume_text.specs.declared.step.State.{State}
-use Rattle.volume_text.specs.declared.fault.Cause.{Cause}
-use Rattle.volume_text.specs.Reading.{◌>>=◌, Gives}
+use Rattle.volume_text.specs.{declared.step.State.State, declared.fault.Cause.Cause, Reading.◌>>=◌, Reading.Gives}
 use Rattle.volume_text.specs.Step.{last_volume, closed_in}
 use Rattle.volume_text.proofs.Lasts.{last_push}
 use Rattle.volume_text.proofs.step.closed.Goals as goal

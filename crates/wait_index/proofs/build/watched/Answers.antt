@@ -1,8 +1,7 @@
 use Rattle.std.proofs.Common.{◌∙◌, ap, subst, refl, List, length, false}
 use Rattle.std.proofs.lemmas.List.{length-replicate}
 use Rattle.mod_catalog.specs.declared.catalogue.Module.{Module}
-use Rattle.wait_index.specs.declared.installed.Installed.{Installed}
-use Rattle.wait_index.specs.Watching.{AreNoted, noted_from}
+use Rattle.wait_index.specs.{declared.installed.Installed.Installed, Watching.AreNoted, Watching.noted_from}
 use Rattle.wait_index.proofs.Making.{watched_made, nothing_there}
 use Rattle.wait_index.proofs.build.watched.Goals as goal
 

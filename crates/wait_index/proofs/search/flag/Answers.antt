@@ -1,5 +1,4 @@
-use Rattle.std.proofs.Common.{Bool, Option, false, refl}
-use Rattle.std.specs.Prelude.{unwrap_or}
+use Rattle.std.proofs.Common.{Bool, Option, false, refl, unwrap_or}
 use Rattle.phase_parts.proofs.Got.{by_item, by_none}
 use Rattle.wait_index.proofs.search.flag.Goals as goal
 

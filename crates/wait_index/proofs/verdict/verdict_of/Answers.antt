@@ -1,13 +1,9 @@
-use Rattle.std.proofs.Common.{◌≡◌, Bool, true, if◌then◌else◌, sym, ap, ◌∙◌}
-use Rattle.std.specs.Option.{is_some}
+use Rattle.std.proofs.Common.{◌≡◌, Bool, true, if◌then◌else◌, sym, ap, ◌∙◌, is_some}
 use denote.Enum.Bare.{same_true}
-use Rattle.pi_base.specs.contracts.phase.Phase.{the_type}
-use Rattle.pi_base.specs.declared.guid.Guid.{Guid}
-use Rattle.pi_base.specs.declared.phase.Phase.{Phase}
+use Rattle.pi_base.specs.{contracts.phase.Phase.the_type, declared.guid.Guid.Guid, declared.phase.Phase.Phase}
 use Rattle.pi_base.specs.declared.phase.Phase.TheVariants.{Pei}
 use Rattle.mod_catalog.specs.declared.catalogue.Part.{Part}
-use Rattle.wait_index.specs.declared.verdict.Verdict.TheVariants.{Yes}
-use Rattle.wait_index.specs.Installed.{is_there}
+use Rattle.wait_index.specs.{declared.verdict.Verdict.TheVariants.Yes, Installed.is_there}
 use Rattle.wait_index.specs.Verdict.{expression_verdict, part_verdict, verdict_in}
 use Rattle.wait_index.proofs.verdict.verdict_of.Goals as goal
 

@@ -1,8 +1,6 @@
 use Rattle.std.proofs.Common.{◌≡◌, ℕ, Some, length}
-use Rattle.pi_base.specs.declared.guid.Guid.{Guid}
-use Rattle.pi_base.specs.GuidMap.{value_of}
-use Rattle.wait_index.specs.Index.{watchers_at}
-use Rattle.wait_index.specs.Watching.{noted_by}
+use Rattle.pi_base.specs.{declared.guid.Guid.Guid, GuidMap.value_of}
+use Rattle.wait_index.specs.{Index.watchers_at, Watching.noted_by}
 use Rattle.wait_index.proofs.watch.note_code.Given as goal
 
 abbrev pub invariant-opcodes : goal.invariant-opcodes

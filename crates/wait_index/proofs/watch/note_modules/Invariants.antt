@@ -1,8 +1,6 @@
 use Rattle.std.proofs.Common.{◌≡◌, ◌+◌, ℕ, Some, length}
-use Rattle.pi_base.specs.declared.guid.Guid.{Guid}
-use Rattle.pi_base.specs.GuidMap.{value_of}
-use Rattle.wait_index.specs.Index.{watchers_at}
-use Rattle.wait_index.specs.Watching.{noted_from}
+use Rattle.pi_base.specs.{declared.guid.Guid.Guid, GuidMap.value_of}
+use Rattle.wait_index.specs.{Index.watchers_at, Watching.noted_from}
 use Rattle.wait_index.proofs.watch.note_modules.Given as goal
 
 abbrev pub invariant-modules : goal.invariant-modules

@@ -1,8 +1,7 @@
 use Rattle.std.proofs.Common.{List, ℕ, All, ◌∙◌, sym, ap, subst, length, refl}
 use Rattle.std.proofs.lemmas.Result.{err_from_is_err_and}
 use Rattle.boot_model.specs.declared.line.Line.{Line}
-use Rattle.boot_plan.specs.declared.plan.PlanVolume.{PlanVolume}
-use Rattle.boot_plan.specs.Range.{IsVolumeInRange}
+use Rattle.boot_plan.specs.{declared.plan.PlanVolume.PlanVolume, Range.IsVolumeInRange}
 use Rattle.boot_core.specs.Job.{IsNamedIn, IsTextRefusal, text_long, text_refused}
 use Rattle.boot_core.specs.Parsing.{IsFaultLine}
 use Rattle.boot_core.specs.Reading.{AreImages, IsLongVolume, IsReached, FilesTrail, Lacks}

@@ -1,8 +1,5 @@
-use Rattle.std.proofs.Common.{arith, ℕ, List, length}
-use Rattle.std.proofs.lemmas.Str.{IsUtf8-from_ascii}
-use Rattle.std.proofs.lemmas.Bool.{cases_lt}
-use Rattle.std.proofs.lemmas.List.{get_or_past}
-use Rattle.std.specs.Str.{IsAscii}
+use Rattle.std.proofs.Common.{arith, ℕ, List, length, IsAscii}
+use Rattle.std.proofs.{lemmas.Str.IsUtf8-from_ascii, lemmas.Bool.cases_lt, lemmas.List.get_or_past}
 use Rattle.boot_plan.specs.Range.{IsName}
 use Rattle.boot_core.proofs.plan_files.job.text_of.Goals as goal
 use mathlib.Core.Logic.{inl, inr}

@@ -1,9 +1,7 @@
 use Rattle.std.proofs.Common.{◌≡◌, subst}
 use Rattle.boot_trace.specs.Printing.{Texts}
 use Rattle.store_model.specs.HandleState.{HandleState}
-use Rattle.boot_core.specs.declared.whole.behind.Behind.TheVariants.{Closed}
-use Rattle.boot_core.specs.Closing.{closing_text}
-use Rattle.boot_core.specs.FirstBoot.{Tells}
+use Rattle.boot_core.specs.{declared.whole.behind.Behind.TheVariants.Closed, Closing.closing_text, FirstBoot.Tells}
 use Rattle.boot_core.proofs.whole.behind.close_pei.Goals as goal
 
 pub returns-clause-row : goal.returns-clause-row

@@ -1,12 +1,9 @@
-use Rattle.std.proofs.Common.{Ok, subst}
-use Rattle.std.proofs.lemmas.Result.{err_from_is_err_and}
+use Rattle.std.proofs.{Common.Ok, Common.subst, lemmas.Result.err_from_is_err_and}
 use Rattle.boot_model.specs.PeiRun.{pei_opening}
-use Rattle.pei_dispatch.specs.declared.boot.Left.{Left}
-use Rattle.pei_dispatch.specs.Choices.{BootsBy, HasBooted}
+use Rattle.pei_dispatch.specs.{declared.boot.Left.Left, Choices.BootsBy, Choices.HasBooted}
 use Rattle.boot_core.specs.declared.whole.boot.Booted.TheVariants as B
 use Rattle.boot_core.specs.Choices.{choices_of}
-use Rattle.boot_core.proofs.FreeBoots.{goes_freely}
-use Rattle.boot_core.proofs.Giving.{freely, given_up_in_pei}
+use Rattle.boot_core.proofs.{FreeBoots.goes_freely, Giving.freely, Giving.given_up_in_pei}
 use Rattle.boot_core.proofs.whole.boot.boot_by_choice.Goals as goal
 
 pub boot_pei-requires-clause-opening : goal.boot_pei-requires-clause-opening

@@ -1,6 +1,5 @@
 use Rattle.std.proofs.Common.{◌++◌}
-use Rattle.boot_model.specs.Listing.{store_lines}
-use Rattle.boot_model.specs.Text.{text_of}
+use Rattle.boot_model.specs.{Listing.store_lines, Text.text_of}
 use Rattle.boot_io.proofs.PutsLaws.{puts_err, puts_then, part_of_more}
 use Rattle.boot_core.specs.Closing.{result_text}
 use Rattle.boot_core.proofs.whole.closing.put_closing.Goals as goal

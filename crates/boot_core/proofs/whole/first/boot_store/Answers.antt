@@ -1,7 +1,5 @@
-use Rattle.std.proofs.Common.{subst}
-use Rattle.std.proofs.lemmas.Result.{err_from_is_err_and}
-use Rattle.boot_core.specs.declared.whole.boot.Booted.{Booted}
-use Rattle.boot_core.specs.ByChoice.{HasCome}
+use Rattle.std.proofs.{Common.subst, lemmas.Result.err_from_is_err_and}
+use Rattle.boot_core.specs.{declared.whole.boot.Booted.Booted, ByChoice.HasCome}
 use Rattle.boot_core.proofs.FirstBoots.{NamesNone, first_choices, first_halts, first_ran, first_wants}
 use Rattle.boot_core.proofs.whole.first.boot_store.Goals as goal
 

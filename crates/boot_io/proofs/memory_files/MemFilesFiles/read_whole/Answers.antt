@@ -1,7 +1,6 @@
 use Rattle.std.proofs.Common.{◌≡◌, List, ℕ, Some, Err, refl, ap, inr, ◌∙◌}
-use Rattle.boot_io.specs.declared.memory_files.MemFiles.{MemFiles}
+use Rattle.boot_io.specs.{declared.memory_files.MemFiles.MemFiles, Files.MissedAfter}
 use Rattle.boot_io.specs.MemFiles.{files_told, files_missed, failed_at, LeavesFiles}
-use Rattle.boot_io.specs.Files.{MissedAfter}
 use Rattle.boot_io.proofs.Failing.{by_fault}
 use Rattle.boot_io.proofs.memory_files.MemFilesFiles.read_whole.Goals as goal
 

@@ -1,7 +1,5 @@
-use Rattle.std.proofs.Common.{sym, ◌∙◌, ◌≡◌}
-use Rattle.std.proofs.lemmas.Bool.{true≢false}
-use Rattle.depex_code.specs.Tree.{postfix}
-use Rattle.depex_code.specs.TreeCode.{tree_of}
+use Rattle.std.proofs.Common.{sym, ◌∙◌, ◌≡◌, true≢false}
+use Rattle.depex_code.specs.{Tree.postfix, TreeCode.tree_of}
 use Rattle.depex_code.proofs.Stacks.{tree_of-of}
 use Rattle.depex_code.proofs.tree.Tree.from_code.Goals as goal
 

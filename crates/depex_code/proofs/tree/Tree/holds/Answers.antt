@@ -1,6 +1,5 @@
 use Rattle.std.proofs.Common.{sym, ap, ◌∙◌}
-use Rattle.depex_code.specs.Tree.{truth}
-use Rattle.depex_code.specs.TreeCode.{tree_of, tree_of-postfix}
+use Rattle.depex_code.specs.{Tree.truth, TreeCode.tree_of, TreeCode.tree_of-postfix}
 use Rattle.depex_code.proofs.Stacks.{tree_of-of}
 use Rattle.depex_code.proofs.tree.Tree.holds.Goals as goal
 

@@ -1,7 +1,6 @@
 use Rattle.std.proofs.Common.{sym, ◌∙◌, arith}
-use Rattle.dxe_core.proofs.Stretches.{within}
+use Rattle.dxe_core.proofs.{Stretches.within, Reading.blank, Reading.one_more}
 use Rattle.dxe_core.proofs.Firsts.{place_first, place_none, first_within}
-use Rattle.dxe_core.proofs.Reading.{blank, one_more}
 use Rattle.dxe_core.proofs.database.places.place_in.Goals as goal
 
 pub loop-place-init : goal.loop-place-init

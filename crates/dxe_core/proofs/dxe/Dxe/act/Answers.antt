@@ -1,12 +1,9 @@
-use Rattle.std.proofs.Common.{[], ◌∷◌, refl, sym, ap, ◌∙◌, subst}
-use Rattle.std.proofs.lemmas.List.{append-nil}
+use Rattle.std.proofs.Common.{[], ◌∷◌, refl, sym, ap, ◌∙◌, subst, append-nil}
 use Rattle.boot_model.specs.DxeStep.{DxeActs, with_action}
 use Rattle.phase_parts.specs.declared.fuel.Fuel.{Fuel}
-use Rattle.dxe_core.specs.declared.stepped.Stepped.TheVariants.{Went}
-use Rattle.dxe_core.specs.Parts.{acted_to}
+use Rattle.dxe_core.specs.{declared.stepped.Stepped.TheVariants.Went, Parts.acted_to, Event.quiet}
 use Rattle.dxe_core.specs.Standing.{DxeCore, IsFor, StandsFor}
 use Rattle.dxe_core.proofs.Acting.{acted_guids, acted_leads, count_fits, done, for_counted, fuel_left, left_core, limit_fits, takes_own, waits_on}
-use Rattle.dxe_core.specs.Event.{quiet}
 use Rattle.dxe_core.proofs.Cases.{case_acts, is_busy, leaves_from, part, went}
 use Rattle.dxe_core.proofs.Going.{first_part, part_from, stepped_from, stepped_none, stepped_one, steps_fail, texts}
 use Rattle.dxe_core.proofs.dxe.Dxe.act.Goals as goal

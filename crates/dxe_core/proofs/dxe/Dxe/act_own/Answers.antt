@@ -1,12 +1,9 @@
 use Rattle.std.proofs.Common.{◌≡◌, sym, ap, ◌∙◌, subst, ◌∷◌}
-use Rattle.boot_model.specs.Discovery.{discovery_lines}
-use Rattle.boot_model.specs.Text.{text_of}
+use Rattle.boot_model.specs.{Discovery.discovery_lines, Text.text_of}
 use Rattle.std.specs.Io.KnownBytes.{Appends}
 use Rattle.boot_io.specs.Sink as Sinks
-use Rattle.dxe_core.specs.Order.{Drivers}
+use Rattle.dxe_core.specs.{Order.Drivers, Parts.acted_to, Standing.DxeCore, Standing.StandsFor}
 use Rattle.dxe_core.specs.Services.{AreCounted, AreServicesFor, AreServicesOf}
-use Rattle.dxe_core.specs.Parts.{acted_to}
-use Rattle.dxe_core.specs.Standing.{DxeCore, StandsFor}
 use Rattle.dxe_core.proofs.DriverLines.{action_prints}
 use Rattle.dxe_core.proofs.Going.{none_put, part_put, stepped, takes_fail}
 use Rattle.dxe_core.proofs.Owned.{call_line, replied, top_is}

@@ -1,8 +1,6 @@
 use Rattle.std.proofs.Common.{cond, refl, ap, sym, subst, ◌∙◌, [], ◌∷◌}
 use Rattle.boot_model.specs.DxeStep.{DxeFires, protocol_begun, protocol_line, swept}
-use Rattle.dxe_core.specs.Standing.{DxeCore, IsCoreOf}
-use Rattle.dxe_core.specs.Event.{quiet}
-use Rattle.dxe_core.specs.declared.stepped.Stepped.TheVariants.{Went}
+use Rattle.dxe_core.specs.{Standing.DxeCore, Standing.IsCoreOf, Event.quiet, declared.stepped.Stepped.TheVariants.Went}
 use Rattle.dxe_core.proofs.Cases.{case_fires, is_busy, part, quiet_leaves, went}
 use Rattle.dxe_core.proofs.Fired.{fired_begun, fired_core}
 use Rattle.dxe_core.proofs.Going.{first_part, steps_fail, stepped_one, texts}

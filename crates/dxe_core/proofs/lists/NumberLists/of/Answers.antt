@@ -1,5 +1,4 @@
-use Rattle.std.proofs.Common.{◌∙◌}
-use Rattle.std.specs.Prelude.{Some, None}
+use Rattle.std.proofs.Common.{◌∙◌, Some, None}
 use Rattle.dxe_core.proofs.Listed.{found}
 use Rattle.dxe_core.proofs.lists.NumberLists.of.Goals as goal
 

@@ -1,7 +1,5 @@
-use Rattle.std.proofs.Common.{sym, ◌∙◌, ap, ◌≡◌, [], ◌∷◌, ◌++◌}
-use Rattle.std.specs.Prelude.{Some, None, is_some}
-use Rattle.dxe_core.specs.declared.lists.NumberLists.{NumberLists}
-use Rattle.dxe_core.specs.Lists.{numbers_under, IsPushed}
+use Rattle.std.proofs.Common.{sym, ◌∙◌, ap, ◌≡◌, [], ◌∷◌, ◌++◌, Some, None, is_some}
+use Rattle.dxe_core.specs.{declared.lists.NumberLists.NumberLists, Lists.numbers_under, Lists.IsPushed}
 use Rattle.dxe_core.proofs.Listed.{found, pushed, on_ok}
 use Rattle.dxe_core.proofs.lists.NumberLists.push.Goals as goal
 

@@ -1,10 +1,7 @@
 use Rattle.std.proofs.Common.{[], ◌∷◌, subst}
 use Rattle.mod_catalog.specs.Parts.{module_name}
-use Rattle.dxe_core.specs.declared.names.Names.{Names}
-use Rattle.dxe_core.specs.Lists.{IsPushed}
-use Rattle.dxe_core.specs.Names.{IsFirstOfName, NamesGrow}
-use Rattle.dxe_core.proofs.Listed.{on_ok}
-use Rattle.dxe_core.proofs.NamesMore.{names_more}
+use Rattle.dxe_core.specs.{declared.names.Names.Names, Lists.IsPushed, Names.IsFirstOfName, Names.NamesGrow}
+use Rattle.dxe_core.proofs.{Listed.on_ok, NamesMore.names_more}
 use Rattle.dxe_core.proofs.names.Names.push.Goals as goal
 
 pub returns : goal.returns

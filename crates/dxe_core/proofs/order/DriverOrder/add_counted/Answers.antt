@@ -1,9 +1,7 @@
 use Rattle.std.proofs.Common.{◌≡◌, ◌++◌, Some, length, sym, subst, ap, ◌∙◌}
 use Rattle.mod_catalog.specs.declared.limits.TheConstants.{MOST_MODULES}
-use Rattle.boot_model.specs.DxeChoice.{drivers_of}
-use Rattle.boot_model.specs.Reporting.{newcomers}
-use Rattle.dxe_core.specs.Names.{order_by}
-use Rattle.dxe_core.specs.Order.{IsOrderOf}
+use Rattle.boot_model.specs.{DxeChoice.drivers_of, Reporting.newcomers}
+use Rattle.dxe_core.specs.{Names.order_by, Order.IsOrderOf}
 use Rattle.dxe_core.proofs.OrderMore.{new_part, room_more, order_more}
 use Rattle.dxe_core.proofs.order.DriverOrder.add_counted.Goals as goal
 

@@ -1,7 +1,6 @@
 use Rattle.std.proofs.Common.{◌+◌, ◌≤◌, ap, drop, refl, subst, sym}
 use Rattle.dxe_dispatch.specs.Queue.{IsQueueFor, IsQueueOf, Queue, owed}
-use Rattle.dxe_dispatch.proofs.Machines.{stands_settled}
-use Rattle.dxe_dispatch.proofs.Scheduling.{still_made}
+use Rattle.dxe_dispatch.proofs.{Machines.stands_settled, Scheduling.still_made}
 use Rattle.dxe_dispatch.proofs.queue.DriverQueue.may_be_next.Goals as goal
 
 pub returns-clause-owes : goal.returns-clause-owes

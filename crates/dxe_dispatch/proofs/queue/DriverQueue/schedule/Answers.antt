@@ -1,7 +1,6 @@
 use Rattle.std.proofs.Common.{◌≡◌, ◌<◌, length, drop, subst, sym, ◌∷◌, []}
 use Rattle.boot_model.specs.declared.driver.Scheduled.{Scheduled}
-use Rattle.dxe_dispatch.specs.Queue.{Queue}
-use Rattle.dxe_dispatch.specs.Choosing.{Schedules}
+use Rattle.dxe_dispatch.specs.{Queue.Queue, Choosing.Schedules}
 use Rattle.dxe_dispatch.proofs.Scheduling.{one_scheduled}
 use Rattle.dxe_dispatch.proofs.queue.DriverQueue.schedule.Goals as goal
 

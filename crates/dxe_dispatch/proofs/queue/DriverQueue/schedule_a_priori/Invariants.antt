@@ -1,7 +1,6 @@
 use Rattle.std.proofs.Common.{◌≡◌, drop, length}
 use Rattle.boot_model.specs.DxeChoice.{a_priori_drivers}
-use Rattle.dxe_dispatch.specs.Choosing.{Schedules}
-use Rattle.dxe_dispatch.specs.Queue.{Queue}
+use Rattle.dxe_dispatch.specs.{Choosing.Schedules, Queue.Queue}
 use Rattle.dxe_dispatch.proofs.queue.DriverQueue.schedule_a_priori.Given as goal
 
 -- those that are left complete what is scheduled

@@ -1,8 +1,7 @@
 use Rattle.std.proofs.Common.{◌≡◌, length, reverse}
 use Rattle.pi_base.specs.Lists.{Each}
 use Rattle.boot_model.specs.DxeChoice.{schedule_of}
-use Rattle.dxe_dispatch.specs.Choosing.{HasFlagFor, Schedules}
-use Rattle.dxe_dispatch.specs.Queue.{Queue}
+use Rattle.dxe_dispatch.specs.{Choosing.HasFlagFor, Choosing.Schedules, Queue.Queue}
 use Rattle.dxe_dispatch.proofs.queue.DriverQueue.schedule_group.Given as goal
 
 -- those that are left complete what is scheduled

@@ -1,7 +1,6 @@
 use Rattle.std.proofs.Common.{◌∙◌, ap, reverse, subst}
 use Rattle.boot_model.specs.DxeChoice.{schedule_of}
-use Rattle.dxe_dispatch.specs.Choosing.{Schedules}
-use Rattle.dxe_dispatch.specs.Queue.{Queue}
+use Rattle.dxe_dispatch.specs.{Choosing.Schedules, Queue.Queue}
 use Rattle.dxe_dispatch.proofs.Filling.{found_group, group_drivers, group_flags, on_ok}
 use Rattle.dxe_dispatch.proofs.Scheduling.{still_for}
 use Rattle.dxe_dispatch.proofs.queue.DriverQueue.schedule_group_of.Goals as goal

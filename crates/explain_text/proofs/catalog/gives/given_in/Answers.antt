@@ -1,7 +1,6 @@
 use Rattle.std.proofs.Common.{[], List, ap, ◌∙◌}
 use Rattle.act_code.specs.declared.action.Action.{Action}
-use Rattle.pi_base.specs.Guids.{same_guid}
-use Rattle.pi_base.specs.Lists.{firsts}
+use Rattle.pi_base.specs.{Guids.same_guid, Lists.firsts}
 use Rattle.explain_text.specs.Gives.{named_in_all}
 use Rattle.explain_text.proofs.Named.{none_met}
 use Rattle.explain_text.proofs.catalog.gives.given_in.Goals as goal

@@ -1,6 +1,4 @@
-use Rattle.std.proofs.Common.{◌++◌, List, Option, OnOk, subst, sym}
-use Rattle.std.specs.Option.{option_to_list}
-use Rattle.std.proofs.lemmas.List.{append-nil}
+use Rattle.std.proofs.Common.{◌++◌, List, Option, OnOk, subst, sym, option_to_list, append-nil}
 use Rattle.pi_base.specs.declared.guid.Guid.{Guid}
 use Rattle.explain_text.specs.Gives.{AreMet}
 use Rattle.explain_text.proofs.catalog.gives.meet_action.Goals as goal

@@ -1,5 +1,4 @@
-use Rattle.std.proofs.Common.{◌++◌, List, subst, take}
-use Rattle.std.specs.Option.{option_to_list}
+use Rattle.std.proofs.Common.{◌++◌, List, subst, take, option_to_list}
 use Rattle.pi_base.specs.declared.guid.Guid.{Guid}
 use Rattle.act_code.specs.declared.action.Action.{Action}
 use Rattle.explain_text.specs.Gives.{AreMet, named_by, named_in_block}

@@ -1,6 +1,5 @@
 use Rattle.std.proofs.Common.{sym, ap, ◌∙◌}
-use Rattle.explain_text.specs.Title.{IsTitle}
-use Rattle.explain_text.specs.Lines.{catalog_lines}
+use Rattle.explain_text.specs.{Title.IsTitle, Lines.catalog_lines}
 use Rattle.explain_text.proofs.OneText.{one_list}
 use Rattle.explain_text.proofs.catalog.laws.one_catalog_text.Goals as goal
 

@@ -1,7 +1,6 @@
 use Rattle.std.proofs.Common.{◌≡◌, ◌++◌, ℕ, List, Option, take}
 use Rattle.pi_base.specs.Lists.{EachPair}
-use Rattle.explain_text.specs.Title.{IsTitle}
-use Rattle.explain_text.specs.Lines.{catalog_lines}
+use Rattle.explain_text.specs.{Title.IsTitle, Lines.catalog_lines}
 use Rattle.explain_text.proofs.catalog.lines.put_members.Given as goal
 
 abbrev pub invariant-modules : goal.invariant-modules

@@ -1,10 +1,6 @@
-use Rattle.std.proofs.Common.{Bool, ℕ, List, [], ◌++◌, ap, cond, flat_map, sym, ◌∙◌}
-use Rattle.std.proofs.lemmas.List.{append-nil}
-use Rattle.pi_base.specs.WordText.{guid_text}
-use Rattle.pi_base.specs.declared.guid.Guid.{Guid}
-use Rattle.explain_text.specs.Gives.{given_in}
-use Rattle.explain_text.specs.Lines.{gives_line}
-use Rattle.explain_text.specs.Words.{word_of}
+use Rattle.std.proofs.Common.{Bool, ℕ, List, [], ◌++◌, ap, cond, flat_map, sym, ◌∙◌, append-nil}
+use Rattle.pi_base.specs.{WordText.guid_text, declared.guid.Guid.Guid}
+use Rattle.explain_text.specs.{Gives.given_in, Lines.gives_line, Words.word_of}
 use Rattle.explain_text.specs.declared.keyword.Keyword.TheVariants as K
 use Rattle.explain_text.proofs.HeldText.{next_added, on_ok}
 use Rattle.explain_text.proofs.catalog.lines.put_script.Goals as goal

@@ -1,6 +1,5 @@
 use Rattle.std.proofs.Common.{◌==◌, ◌≤◌, ◌+◌, length, sym}
-use Rattle.fv_volume.specs.declared.sections.section.Section.{Section}
-use Rattle.fv_volume.specs.declared.sections.section_type.TheConstants.{USER_INTERFACE}
+use Rattle.fv_volume.specs.{declared.sections.section.Section.Section, declared.sections.section_type.TheConstants.USER_INTERFACE}
 use Rattle.explain_text.proofs.FirstFound.{found_holds}
 use Rattle.explain_text.proofs.catalog.title.text_in.Goals as goal
 

@@ -1,5 +1,4 @@
-use Rattle.explain_text.specs.File.{file_body}
-use Rattle.explain_text.specs.Title.{file_of}
+use Rattle.explain_text.specs.{File.file_body, Title.file_of}
 use Rattle.explain_text.proofs.OneTitle.{one_of}
 use Rattle.explain_text.proofs.catalog.title_law.one_title.Goals as goal
 

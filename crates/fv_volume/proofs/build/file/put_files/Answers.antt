@@ -1,10 +1,7 @@
 use Rattle.std.proofs.Common.{◌≡◌, ◌+◌, ◌++◌, ◌∷◌, [], length, map, take, replicate, sym, ap, ◌∙◌, arith, length-append}
 use Rattle.std.proofs.lemmas.List.{map-append}
-use Rattle.fv_volume.specs.Files.{file_bytes}
-use Rattle.fv_volume.specs.Building.{files_bytes}
-use Rattle.fv_volume.specs.Placing.{gap, laid}
-use Rattle.fv_volume.proofs.Placings.{appended}
-use Rattle.fv_volume.proofs.Sizes.{take_one, body_fits}
+use Rattle.fv_volume.specs.{Files.file_bytes, Building.files_bytes, Placing.gap, Placing.laid}
+use Rattle.fv_volume.proofs.{Placings.appended, Sizes.take_one, Sizes.body_fits}
 use Rattle.fv_volume.proofs.build.file.put_files.Goals as goal
 
 pub put_file-requires-clause-fits : goal.put_file-requires-clause-fits

@@ -1,5 +1,4 @@
-use Rattle.std.proofs.Common.{◌≡◌, [], ◌∷◌, ◌++◌, sym, ap, ◌∙◌, subst, append_assoc, append-nil}
-use Rattle.std.specs.Prelude.{OnOk}
+use Rattle.std.proofs.Common.{◌≡◌, [], ◌∷◌, ◌++◌, sym, ap, ◌∙◌, subst, append_assoc, append-nil, OnOk}
 use Rattle.act_code.specs.declared.action.Action.TheVariants.{Ret}
 use Rattle.pi_base.specs.declared.word.Word.TheVariants.{Success}
 use Rattle.fv_volume.specs.declared.build.generated.TheConstants.{PPIS}

@@ -1,6 +1,5 @@
 use Rattle.std.proofs.Common.{◌≡◌, ℕ, suc, ◌-◌, List, [], ◌∷◌, ◌++◌, map, ap, ◌∙◌, arith, append_assoc}
-use Rattle.fv_volume.specs.declared.build.new_file.NewFile.{NewFile}
-use Rattle.fv_volume.specs.Generated.{module_of, downward}
+use Rattle.fv_volume.specs.{declared.build.new_file.NewFile.NewFile, Generated.module_of, Generated.downward}
 use Rattle.fv_volume.proofs.build.generated.add_modules.Goals as goal
 
 -- one module more

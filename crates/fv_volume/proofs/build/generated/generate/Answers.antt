@@ -1,8 +1,5 @@
 use Rattle.std.proofs.Common.{◌≡◌, None, ◌++◌, ap, ◌∙◌}
-use Rattle.fv_volume.specs.FileSystems.{Ffs2}
-use Rattle.fv_volume.specs.Generated.{generated_files}
-use Rattle.fv_volume.specs.Building.{volume_fault}
-use Rattle.fv_volume.specs.Header.{plain}
+use Rattle.fv_volume.specs.{FileSystems.Ffs2, Generated.generated_files, Building.volume_fault, Header.plain}
 use Rattle.fv_volume.proofs.Modules.{none_against, only_memory}
 use Rattle.fv_volume.proofs.build.generated.generate.Goals as goal
 

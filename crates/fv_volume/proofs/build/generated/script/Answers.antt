@@ -1,7 +1,5 @@
 use Rattle.std.proofs.Common.{◌≡◌, List, [], ◌∷◌, ◌++◌, sym, ap, ◌∙◌, subst, arith}
-use Rattle.act_code.specs.declared.action.Action.{Action}
-use Rattle.act_code.specs.declared.script.Script.{Script}
-use Rattle.act_code.specs.Script.{IsInGrammar}
+use Rattle.act_code.specs.{declared.action.Action.Action, declared.script.Script.Script, Script.IsInGrammar}
 use Rattle.pi_base.specs.declared.phase.Phase.TheVariants.{Pei}
 use Rattle.fv_volume.specs.Generated.{actions_of}
 use Rattle.fv_volume.proofs.Modules.{in_grammar}

@@ -1,8 +1,6 @@
 use Rattle.std.proofs.Common.{◌≡◌, ◌+◌, ◌-◌, ◌++◌, length, map, take, replicate, sym, ap, ◌∙◌, arith, length-append}
-use Rattle.fv_volume.specs.Sections.{section_bytes, body_bytes}
-use Rattle.fv_volume.specs.Placing.{gap}
-use Rattle.fv_volume.proofs.Placings.{appended}
-use Rattle.fv_volume.proofs.Sizes.{take_one, body_more}
+use Rattle.fv_volume.specs.{Sections.section_bytes, Sections.body_bytes, Placing.gap}
+use Rattle.fv_volume.proofs.{Placings.appended, Sizes.take_one, Sizes.body_more}
 use Rattle.fv_volume.proofs.build.section.put_sections.Goals as goal
 
 pub loop-section-preserved : goal.loop-section-preserved

@@ -1,7 +1,6 @@
 use Rattle.std.proofs.Common.{◌≡◌, ◌+◌, length, take, sym, ap, ◌∙◌, arith, min}
 use Rattle.fv_volume.specs.Files.{bytes_in, file_size, file_bytes}
-use Rattle.fv_volume.specs.Placing.{gap}
-use Rattle.fv_volume.specs.Building.{need}
+use Rattle.fv_volume.specs.{Placing.gap, Building.need}
 use Rattle.fv_volume.proofs.Sizes.{saturated, take_one, size_of, length-file_with, length-files_more}
 use Rattle.fv_volume.proofs.build.size.need.Goals as goal
 

@@ -1,6 +1,5 @@
 use Rattle.std.proofs.Common.{◌≡◌, ◌+◌, length, take, sym, ap, ◌∙◌, min}
-use Rattle.fv_volume.specs.Sections.{body_bytes, section_size}
-use Rattle.fv_volume.specs.Placing.{gap}
+use Rattle.fv_volume.specs.{Sections.body_bytes, Sections.section_size, Placing.gap}
 use Rattle.fv_volume.proofs.Sizes.{saturated, take_one, length-body_more}
 use Rattle.fv_volume.proofs.build.size.sections_len.Goals as goal
 

@@ -1,6 +1,5 @@
 use Rattle.std.proofs.Common.{subst, sym, ap, ◌∙◌, arith}
-use Rattle.fv_volume.specs.Building.{fault_from}
-use Rattle.fv_volume.specs.Reading.{IsReadAs}
+use Rattle.fv_volume.specs.{Building.fault_from, Reading.IsReadAs}
 use Rattle.fv_volume.proofs.VolumesRead.{read_as}
 use Rattle.fv_volume.proofs.build.volume.build.Goals as goal
 

@@ -1,6 +1,5 @@
 use Rattle.std.proofs.Common.{◌≡◌, IfOk, subst}
-use Rattle.fv_volume.specs.declared.build.volume_header.VolumeForm.{VolumeForm}
-use Rattle.fv_volume.specs.Building.{built_as}
+use Rattle.fv_volume.specs.{declared.build.volume_header.VolumeForm.VolumeForm, Building.built_as}
 use Rattle.fv_volume.proofs.build.volume.build_volume3.Goals as goal
 
 pub returns-clause-built : goal.returns-clause-built

@@ -1,6 +1,5 @@
 use Rattle.std.proofs.Common.{◌≡◌, ◌+◌, ◌-◌, length, ap, ◌∙◌, arith, length-append}
-use Rattle.fv_volume.specs.Building.{files_bytes}
-use Rattle.fv_volume.specs.Front.{front_len}
+use Rattle.fv_volume.specs.{Building.files_bytes, Front.front_len}
 use Rattle.fv_volume.proofs.VolumesRead.{sound}
 use Rattle.fv_volume.proofs.Written.{Front, front_written, files_fit, all_written}
 use Rattle.fv_volume.proofs.build.volume.write.Goals as goal

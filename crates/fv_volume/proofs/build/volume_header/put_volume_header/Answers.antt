@@ -1,5 +1,4 @@
-use Rattle.fv_volume.proofs.Outcomes.{on_ok}
-use Rattle.fv_volume.proofs.Headers.{sealed}
+use Rattle.fv_volume.proofs.{Outcomes.on_ok, Headers.sealed}
 use Rattle.fv_volume.proofs.build.volume_header.put_volume_header.Goals as goal
 
 pub returns : goal.returns

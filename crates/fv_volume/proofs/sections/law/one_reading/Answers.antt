@@ -1,7 +1,5 @@
 use Rattle.std.proofs.Common.{◌≡◌, length, refl, sym, ◌∙◌, arith, Result, Err, []}
-use Rattle.fv_volume.specs.Stream.{met_at}
-use Rattle.fv_volume.specs.declared.sections.section.Section.{Section}
-use Rattle.fv_volume.specs.declared.sections.fault.SecCause.{SecCause}
+use Rattle.fv_volume.specs.{Stream.met_at, declared.sections.section.Section.Section, declared.sections.fault.SecCause.SecCause}
 use Rattle.fv_volume.proofs.OneStream.{one_leads, end_stops, fault_stops, fault_made, some_reading}
 use Rattle.fv_volume.proofs.sections.law.one_reading.Goals as goal
 

@@ -1,6 +1,5 @@
 use Rattle.std.proofs.Common.{ap, arith}
-use Rattle.gcd_map.specs.SpaceMap.{MapState}
-use Rattle.gcd_map.specs.AddressSpace.{with_change}
+use Rattle.gcd_map.specs.{SpaceMap.MapState, AddressSpace.with_change}
 use Rattle.gcd_map.proofs.Shown.{shows_change}
 use Rattle.gcd_map.proofs.map.GcdMap.change.Goals as goal
 

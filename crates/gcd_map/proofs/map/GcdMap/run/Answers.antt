@@ -1,6 +1,5 @@
 use Rattle.std.proofs.Common.{◌≢◌, rules}
-use Rattle.gcd_map.specs.declared.perform.Answer.TheVariants.{Refused}
-use Rattle.gcd_map.specs.declared.word.GcdWord.TheVariants.{Memory}
+use Rattle.gcd_map.specs.{declared.perform.Answer.TheVariants.Refused, declared.word.GcdWord.TheVariants.Memory}
 use Rattle.gcd_map.proofs.Runs.{run_more, commands_more}
 use Rattle.gcd_map.proofs.map.GcdMap.run.Goals as goal
 

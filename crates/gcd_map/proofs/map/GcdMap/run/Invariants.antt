@@ -1,6 +1,5 @@
 use Rattle.std.proofs.Common.{◌≡◌, map, take}
-use Rattle.gcd_map.specs.SpaceMap.{AfterEach}
-use Rattle.gcd_map.specs.Run.{IsRun}
+use Rattle.gcd_map.specs.{SpaceMap.AfterEach, Run.IsRun}
 use Rattle.gcd_map.proofs.map.GcdMap.run.Given as goal
 
 abbrev pub invariant-commands : goal.invariant-commands

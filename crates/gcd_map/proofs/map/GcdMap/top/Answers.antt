@@ -1,9 +1,7 @@
 use Rattle.std.proofs.Common.{◌≡◌, ◌^◌, Some, None, refl, ap, ◌∙◌, arith, rules}
 use Rattle.gcd_map.specs.AddressSpace.{state_at, free_of, with_change, allocate_change}
 use Rattle.gcd_map.specs.SpaceMap.{MapState}
-use Rattle.gcd_map.proofs.Highest.{IsTop}
-use Rattle.gcd_map.proofs.Tops.{tops}
-use Rattle.gcd_map.proofs.Stretches.{covers_fit}
+use Rattle.gcd_map.proofs.{Highest.IsTop, Tops.tops, Stretches.covers_fit}
 use Rattle.gcd_map.proofs.map.GcdMap.top.Goals as goal
 
 pub highest-requires-clause-fit : goal.highest-requires-clause-fit

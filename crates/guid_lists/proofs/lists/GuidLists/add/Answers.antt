@@ -1,5 +1,4 @@
-use Rattle.std.proofs.Common.{sym, ◌∙◌, ap, ◌≡◌, ℕ, List, []}
-use Rattle.std.specs.Prelude.{is_some}
+use Rattle.std.proofs.Common.{sym, ◌∙◌, ap, ◌≡◌, ℕ, List, [], is_some}
 use Rattle.guid_lists.specs.declared.lists.GuidLists.{GuidLists}
 use Rattle.guid_lists.specs.Lists.{list_of, with_number, HasInstead, HaveStill}
 use Rattle.guid_lists.proofs.Holding.{numbers_in, written, unchanged, on_ok, on_err}

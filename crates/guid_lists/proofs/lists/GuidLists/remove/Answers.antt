@@ -1,7 +1,5 @@
-use Rattle.std.proofs.Common.{sym, ◌∙◌, ap, ◌≡◌, ℕ, List}
-use Rattle.std.specs.Prelude.{is_some}
-use Rattle.guid_lists.specs.declared.lists.GuidLists.{GuidLists}
-use Rattle.guid_lists.specs.Lists.{list_of, without_number}
+use Rattle.std.proofs.Common.{sym, ◌∙◌, ap, ◌≡◌, ℕ, List, is_some}
+use Rattle.guid_lists.specs.{declared.lists.GuidLists.GuidLists, Lists.list_of, Lists.without_number}
 use Rattle.guid_lists.proofs.Holding.{numbers_in, written}
 use Rattle.guid_lists.proofs.lists.GuidLists.remove.Goals as goal
 

@@ -1,6 +1,5 @@
 use Rattle.std.proofs.Common.{◌∙◌, sym}
-use Rattle.store_model.specs.StateFacts.{IsDesc}
-use Rattle.store_model.specs.Service.Descriptor.{is_ppi, kind_at}
+use Rattle.store_model.specs.{StateFacts.IsDesc, Service.Descriptor.is_ppi, Service.Descriptor.kind_at}
 use Rattle.heap_store.proofs.ListTests.{all_end, all_on, all_stop}
 use Rattle.heap_store.proofs.OnWay.{each_at}
 use Rattle.heap_store.proofs.store.HeapStore.are_ppis.Goals as goal

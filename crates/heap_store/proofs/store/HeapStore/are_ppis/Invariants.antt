@@ -1,8 +1,6 @@
 use Rattle.std.proofs.Common.{◌≡◌, drop}
 use Rattle.std.specs.List.{list_all}
-use Rattle.store_model.specs.StoreState.{StoreState}
-use Rattle.store_model.specs.StoreCall.{AreDescs}
-use Rattle.store_model.specs.Service.Descriptor.{is_ppi, kind_at}
+use Rattle.store_model.specs.{StoreState.StoreState, StoreCall.AreDescs, Service.Descriptor.is_ppi, Service.Descriptor.kind_at}
 use Rattle.heap_store.specs.HeapState.{StandsFor}
 use Rattle.heap_store.proofs.store.HeapStore.are_ppis.Given as goal
 

@@ -1,6 +1,5 @@
 use Rattle.std.proofs.Common.{arith, ◌∙◌, sym, true, false}
-use Rattle.store_model.specs.StateFacts.{IsDesc}
-use Rattle.store_model.specs.Service.Descriptor.{is_callback, kind_at}
+use Rattle.store_model.specs.{StateFacts.IsDesc, Service.Descriptor.is_callback, Service.Descriptor.kind_at}
 use Rattle.heap_store.proofs.ListTests.{count_end, count_step, mapped_count}
 use Rattle.heap_store.proofs.OnWay.{each_at}
 use Rattle.heap_store.proofs.store.HeapStore.callbacks_in.Goals as goal

@@ -1,8 +1,5 @@
-use Rattle.std.proofs.Common.{◌≡◌, ◌≤◌, ◌+◌, drop, length}
-use Rattle.std.specs.Prelude.{filter}
-use Rattle.store_model.specs.StoreState.{StoreState}
-use Rattle.store_model.specs.StoreCall.{AreDescs}
-use Rattle.store_model.specs.Service.Descriptor.{is_callback, kind_at}
+use Rattle.std.proofs.Common.{◌≡◌, ◌≤◌, ◌+◌, drop, length, filter}
+use Rattle.store_model.specs.{StoreState.StoreState, StoreCall.AreDescs, Service.Descriptor.is_callback, Service.Descriptor.kind_at}
 use Rattle.heap_store.specs.HeapState.{StandsFor}
 use Rattle.heap_store.proofs.store.HeapStore.callbacks_in.Given as goal
 

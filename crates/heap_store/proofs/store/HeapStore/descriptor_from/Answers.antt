@@ -1,7 +1,6 @@
 use Rattle.std.proofs.Common.{◌≡◌, ◌∙◌, Some, ap, arith, sym, subst}
 use Rattle.pi_base.specs.declared.guid.Guid.{Guid}
-use Rattle.store_model.specs.declared.store_handle.GuidFrom.{GuidFrom}
-use Rattle.store_model.specs.Service.Descriptor.{guid_from}
+use Rattle.store_model.specs.{declared.store_handle.GuidFrom.GuidFrom, Service.Descriptor.guid_from}
 use Rattle.heap_store.specs.NewDescriptor.{IsDescriptorOf}
 use Rattle.phys_mem.specs.Regions.{bytes_at, rom_regions}
 use Rattle.pei_heap.proofs.Volumes.{read_long}

@@ -1,5 +1,4 @@
-use Rattle.std.proofs.Common.{◌∙◌, sym}
-use Rattle.std.specs.Prelude.{fold}
+use Rattle.std.proofs.Common.{◌∙◌, sym, fold}
 use Rattle.store_model.specs.Service.Install.{with_ppi}
 use Rattle.heap_store.proofs.Installs.{can_make, can_queue, install_row}
 use Rattle.heap_store.proofs.store.HeapStore.install_counted.Goals as goal

@@ -1,8 +1,6 @@
 use Rattle.std.proofs.Common.{◌≡◌, ◌∙◌, [], ◌∷◌, ap, refl, sym, subst}
 use Rattle.pi_base.specs.Lists.{Each}
-use Rattle.store_model.specs.declared.state.TheConstants.{CORE}
-use Rattle.store_model.specs.StateFacts.{IsDesc}
-use Rattle.store_model.specs.Service.Install.{install}
+use Rattle.store_model.specs.{declared.state.TheConstants.CORE, StateFacts.IsDesc, Service.Install.install}
 use Rattle.heap_store.proofs.CoreInstalls.{core_descs, core_enough, core_full, core_row, core_second, no_fault}
 use Rattle.heap_store.proofs.store.HeapStore.install_memory_ppi.Goals as goal
 

@@ -1,10 +1,7 @@
 use Rattle.std.proofs.Common.{◌≡◌, ◌+◌, ◌∙◌, length, arith, ap}
 use Rattle.store_model.specs.HeapImage.{heap_image}
-use Rattle.store_laws.specs.Fitting.{IsFittingHeap}
-use Rattle.store_laws.specs.Mapped.{layout_of}
-use Rattle.store_laws.specs.Word.{word_in}
-use Rattle.heap_store.proofs.NextHobs.{next_placed}
-use Rattle.heap_store.proofs.Walked.{base_added}
+use Rattle.store_laws.specs.{Fitting.IsFittingHeap, Mapped.layout_of, Word.word_in}
+use Rattle.heap_store.proofs.{NextHobs.next_placed, Walked.base_added}
 use Rattle.heap_store.proofs.store.HeapStore.push_base.Goals as goal
 
 pub overflow_add-offset : goal.overflow_add-offset

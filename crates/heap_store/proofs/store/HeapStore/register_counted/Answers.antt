@@ -1,5 +1,4 @@
-use Rattle.std.proofs.Common.{◌∙◌, sym}
-use Rattle.std.specs.Prelude.{fold}
+use Rattle.std.proofs.Common.{◌∙◌, sym, fold}
 use Rattle.store_model.specs.Service.Notify.{with_note}
 use Rattle.heap_store.proofs.Installs.{can_note, can_queue_new, notify_row}
 use Rattle.heap_store.proofs.store.HeapStore.register_counted.Goals as goal

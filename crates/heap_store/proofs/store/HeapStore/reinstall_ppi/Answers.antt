@@ -1,13 +1,9 @@
 use Rattle.std.proofs.Common.{◌≡◌, ◌∙◌, [], ◌∷◌, length, arith, ap, sym, subst}
 use Rattle.pi_base.specs.Lists.{Each}
-use Rattle.store_model.specs.StateFacts.{IsDesc}
-use Rattle.store_model.specs.Service.Install.{install_pairs}
-use Rattle.pei_heap.specs.Pairs.{CanQueueAll, queued}
-use Rattle.pei_heap.specs.Linked.{IsLinked}
-use Rattle.pei_heap.specs.Replaced.{with_renamed}
+use Rattle.store_model.specs.{StateFacts.IsDesc, Service.Install.install_pairs}
+use Rattle.pei_heap.specs.{Pairs.CanQueueAll, Pairs.queued, Linked.IsLinked, Replaced.with_renamed}
 use Rattle.pei_heap.proofs.Ends.{few_entries}
-use Rattle.heap_store.proofs.HandedIn.{new_ppi}
-use Rattle.heap_store.proofs.Installs.{can_requeue, reinstall_row}
+use Rattle.heap_store.proofs.{HandedIn.new_ppi, Installs.can_requeue, Installs.reinstall_row}
 use Rattle.heap_store.proofs.store.HeapStore.reinstall_ppi.Goals as goal
 
 pub is_ppi-requires : goal.is_ppi-requires

@@ -1,8 +1,6 @@
 use Rattle.std.proofs.Common.{arith}
-use Rattle.store_model.specs.declared.state.Body.TheVariants.{Bytes}
-use Rattle.store_model.specs.HeapImage.{heap_image}
-use Rattle.store_laws.specs.Bodies.{IsInside}
-use Rattle.store_laws.specs.Mapped.{layout_of}
+use Rattle.store_model.specs.{declared.state.Body.TheVariants.Bytes, HeapImage.heap_image}
+use Rattle.store_laws.specs.{Bodies.IsInside, Mapped.layout_of}
 use Rattle.heap_store.proofs.Rows.{pool_written}
 use Rattle.heap_store.proofs.store.HeapStore.write_pool.Goals as goal
 

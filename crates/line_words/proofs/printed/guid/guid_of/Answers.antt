@@ -1,6 +1,5 @@
 use Rattle.std.proofs.Common.{◌∙◌, sym, ap, option_map}
-use Rattle.line_words.proofs.GuidWords.{guid_not_none, guid_same}
-use Rattle.line_words.proofs.Comparisons.{not_same}
+use Rattle.line_words.proofs.{GuidWords.guid_not_none, GuidWords.guid_same, Comparisons.not_same}
 use Rattle.line_words.proofs.printed.guid.guid_of.Goals as goal
 
 pub returns-in_default : goal.returns-in_default

@@ -1,5 +1,5 @@
-use Rattle.std.proofs.Common.{◌≡◌, ◌+◌, ◌-◌, ◌∙◌, arith, length, take, drop, ap, sym}
-use Rattle.std.proofs.lemmas.List.{take_all, drop-drop, take_rest}
+use Rattle.std.proofs.Common.{◌≡◌, ◌+◌, ◌-◌, ◌∙◌, arith, length, take, drop, ap, sym, take_all, drop-drop}
+use Rattle.std.proofs.lemmas.List.{take_rest}
 use Rattle.line_words.proofs.LineFeeds.{front_lacks, feed_cut}
 use Rattle.line_words.proofs.printed.place.first_line.Goals as goal
 

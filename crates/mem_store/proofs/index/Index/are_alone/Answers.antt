@@ -1,7 +1,6 @@
 use Rattle.std.proofs.Common.{refl, sym, ◌∙◌}
 use Rattle.store_model.specs.StateFacts.{IsDesc}
-use Rattle.mem_store.proofs.Alone.{alone_end, alone_more}
-use Rattle.mem_store.proofs.Listed.{each_at}
+use Rattle.mem_store.proofs.{Alone.alone_end, Alone.alone_more, Listed.each_at}
 use Rattle.mem_store.proofs.index.Index.are_alone.Goals as goal
 
 pub row_of-row-requires : goal.row_of-row-requires

@@ -1,6 +1,5 @@
 use Rattle.std.proofs.Common.{◌≡◌, drop}
-use Rattle.store_model.specs.StoreState.{StoreState}
-use Rattle.store_model.specs.StoreCall.{AreDescs}
+use Rattle.store_model.specs.{StoreState.StoreState, StoreCall.AreDescs}
 use Rattle.heap_store.specs.HeapState as H
 use Rattle.mem_store.specs.Indexed.{all_rows, held}
 use Rattle.mem_store.proofs.Alone.{pairs_in}

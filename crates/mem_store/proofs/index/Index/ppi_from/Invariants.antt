@@ -1,6 +1,5 @@
 use Rattle.std.proofs.Common.{◌≡◌, ◌≤◌, ◌<◌, ℕ, false}
-use Rattle.mem_store.specs.Indexed.{held}
-use Rattle.mem_store.specs.Meeting.{meets}
+use Rattle.mem_store.specs.{Indexed.held, Meeting.meets}
 use Rattle.mem_store.proofs.index.Index.ppi_from.Given as goal
 
 abbrev pub invariant-notes : goal.invariant-notes

@@ -1,8 +1,6 @@
 use Rattle.std.proofs.Common.{subst}
 use Rattle.mem_store.specs.Serving.{After, RowsOfCore}
-use Rattle.mem_store.proofs.Kept.{refused}
-use Rattle.mem_store.proofs.Put.{core_says}
-use Rattle.mem_store.proofs.Saying.{facts_of}
+use Rattle.mem_store.proofs.{Kept.refused, Put.core_says, Saying.facts_of}
 use Rattle.mem_store.proofs.pei_store.MemStorePeiStore.core_install.Goals as goal
 
 pub put_core-requires : goal.put_core-requires

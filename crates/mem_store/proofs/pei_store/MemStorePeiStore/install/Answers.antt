@@ -1,9 +1,6 @@
 use Rattle.std.proofs.Common.{subst, sym}
-use Rattle.mem_store.specs.Serving.{After, RowsInstalled}
-use Rattle.mem_store.specs.Indexed.{Says}
-use Rattle.mem_store.proofs.Kept.{refused}
-use Rattle.mem_store.proofs.Put.{installed_says}
-use Rattle.mem_store.proofs.Saying.{facts_of}
+use Rattle.mem_store.specs.{Serving.After, Serving.RowsInstalled, Indexed.Says}
+use Rattle.mem_store.proofs.{Kept.refused, Put.installed_says, Saying.facts_of}
 use Rattle.mem_store.proofs.pei_store.MemStorePeiStore.install.Goals as goal
 
 pub put_ppis-requires : goal.put_ppis-requires

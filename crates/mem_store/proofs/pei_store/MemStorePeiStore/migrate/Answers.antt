@@ -1,5 +1,4 @@
-use Rattle.std.proofs.Common.{subst}
-use Rattle.std.specs.Prelude.{IfSome}
+use Rattle.std.proofs.Common.{subst, IfSome}
 use Rattle.mem_store.specs.Serving.{RowsSame}
 use Rattle.mem_store.proofs.Saying.{facts_of, same_says}
 use Rattle.mem_store.proofs.pei_store.MemStorePeiStore.migrate.Goals as goal

@@ -1,9 +1,6 @@
 use Rattle.std.proofs.Common.{subst, sym}
-use Rattle.mem_store.specs.Serving.{After, RowsNotified}
-use Rattle.mem_store.specs.Indexed.{Says}
-use Rattle.mem_store.proofs.Kept.{refused}
-use Rattle.mem_store.proofs.Put.{notified_says}
-use Rattle.mem_store.proofs.Saying.{facts_of}
+use Rattle.mem_store.specs.{Serving.After, Serving.RowsNotified, Indexed.Says}
+use Rattle.mem_store.proofs.{Kept.refused, Put.notified_says, Saying.facts_of}
 use Rattle.mem_store.proofs.pei_store.MemStorePeiStore.notify.Goals as goal
 
 pub put_notifications-requires : goal.put_notifications-requires

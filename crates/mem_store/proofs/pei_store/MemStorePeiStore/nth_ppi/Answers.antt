@@ -1,9 +1,6 @@
-use Rattle.std.proofs.Common.{ap, ◌∙◌, Some}
-use Rattle.std.specs.Prelude.{option_map, slice_get}
-use Rattle.mem_store.specs.Entries.{entries_of}
-use Rattle.mem_store.specs.Rows.{told_row}
-use Rattle.mem_store.proofs.Firings.{ppi_desc}
-use Rattle.mem_store.proofs.Saying.{facts_of}
+use Rattle.std.proofs.Common.{ap, ◌∙◌, Some, option_map, slice_get}
+use Rattle.mem_store.specs.{Entries.entries_of, Rows.told_row}
+use Rattle.mem_store.proofs.{Firings.ppi_desc, Saying.facts_of}
 use Rattle.mem_store.proofs.pei_store.MemStorePeiStore.nth_ppi.Goals as goal
 
 pub tell_descriptor-requires : goal.tell_descriptor-requires

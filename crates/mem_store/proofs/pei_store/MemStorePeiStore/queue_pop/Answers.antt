@@ -1,6 +1,5 @@
 use Rattle.store_model.specs.Service.Queue.{queue_pop}
-use Rattle.mem_store.proofs.Kept.{taken_on}
-use Rattle.mem_store.proofs.Saying.{facts_of}
+use Rattle.mem_store.proofs.{Kept.taken_on, Saying.facts_of}
 use Rattle.mem_store.proofs.pei_store.MemStorePeiStore.queue_pop.Goals as goal
 
 pub returns : goal.returns

@@ -1,9 +1,7 @@
 use Rattle.std.proofs.Common.{subst}
 use Rattle.store_model.specs.Service.Install.{place_of}
 use Rattle.mem_store.specs.Serving.{After, RowsReplaced}
-use Rattle.mem_store.proofs.Kept.{refused}
-use Rattle.mem_store.proofs.Put.{replaced_says, sweep_of_reinstall}
-use Rattle.mem_store.proofs.Saying.{facts_of}
+use Rattle.mem_store.proofs.{Kept.refused, Put.replaced_says, Put.sweep_of_reinstall, Saying.facts_of}
 use Rattle.mem_store.proofs.pei_store.MemStorePeiStore.reinstall.Goals as goal
 
 pub returns-in-Ok : goal.returns-in-Ok

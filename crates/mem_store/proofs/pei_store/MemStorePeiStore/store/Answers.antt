@@ -1,6 +1,5 @@
 use Rattle.store_model.specs.Service.Pool.{store}
-use Rattle.mem_store.proofs.Kept.{stored_on}
-use Rattle.mem_store.proofs.Saying.{facts_of}
+use Rattle.mem_store.proofs.{Kept.stored_on, Saying.facts_of}
 use Rattle.mem_store.proofs.pei_store.MemStorePeiStore.store.Goals as goal
 
 pub returns : goal.returns

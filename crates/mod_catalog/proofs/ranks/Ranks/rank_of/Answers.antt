@@ -1,5 +1,4 @@
-use Rattle.std.proofs.Common.{ℕ, List, Option, None, ap, ◌∙◌}
-use Rattle.std.specs.Prelude.{slice_index_or}
+use Rattle.std.proofs.Common.{ℕ, List, Option, None, ap, ◌∙◌, slice_index_or}
 use Rattle.mod_catalog.proofs.Bearers.{ranked_here, ranked_other, ranked_unknown}
 use Rattle.mod_catalog.proofs.ranks.Ranks.rank_of.Goals as goal
 

@@ -1,6 +1,5 @@
 use Rattle.std.proofs.Common.{◌≡◌, ◌<◌, refl, subst, ◌∙◌}
-use Rattle.mp_core.specs.declared.reply.MpWord.TheVariants.{Success}
-use Rattle.mp_core.specs.Machine.{IsMachine}
+use Rattle.mp_core.specs.{declared.reply.MpWord.TheVariants.Success, Machine.IsMachine}
 use Rattle.mp_core.specs.Past.{enable_disable_ap, if_success, with_enabled}
 use Rattle.mp_core.proofs.Standing.{enable_stands}
 use Rattle.mp_core.proofs.machine.Machine.enable_disable_ap.Goals as goal

@@ -1,11 +1,7 @@
 use Rattle.std.proofs.Common.{◌≡◌, List, sym, subst}
-use Rattle.mp_core.specs.declared.event.MpEvent.{MpEvent}
+use Rattle.mp_core.specs.{declared.event.MpEvent.MpEvent, declared.machine.Machine.Machine, declared.op.Op.Op, Calls.IsEvent, Calls.IsJob}
 use Rattle.mp_core.specs.declared.event.MpEvent.TheVariants as event
-use Rattle.mp_core.specs.declared.machine.Machine.{Machine}
-use Rattle.mp_core.specs.declared.op.Op.{Op}
-use Rattle.mp_core.specs.Calls.{IsEvent, IsJob}
-use Rattle.mp_core.specs.Machine.{Becomes, IsMachine}
-use Rattle.mp_core.specs.Past.{after}
+use Rattle.mp_core.specs.{Machine.Becomes, Machine.IsMachine, Past.after}
 use Rattle.mp_core.proofs.machine.Machine.event.Goals as goal
 
 -- what an event makes, where it is known which event it is

@@ -2,8 +2,7 @@ use Rattle.std.proofs.Common.{◌≡◌, false, ◌&&◌, sym, subst, ◌∙◌,
 use Rattle.std.proofs.lemmas.Bool.{and_from, and_left, and_right}
 use Rattle.std.specs.List.{list_any}
 use Rattle.pi_base.specs.Lists.{numbers}
-use Rattle.mp_core.specs.Past.{is_enabled_ap}
-use Rattle.mp_core.specs.Schedule.{is_busy}
+use Rattle.mp_core.specs.{Past.is_enabled_ap, Schedule.is_busy}
 use Rattle.mp_core.proofs.Searching.{any_here, any_more, any_filter}
 use Rattle.mp_core.proofs.machine.Machine.has_busy_ap.Goals as goal
 use Rattle.mp_core.proofs.machine.Machine.has_busy_ap.Goals.{else-is_enabled_ap-via-then-is_enabled_ap+else-is_busy, else-is_enabled_ap-via-else-is_enabled_ap}

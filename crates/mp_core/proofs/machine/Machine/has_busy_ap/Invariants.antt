@@ -1,10 +1,7 @@
 use Rattle.std.proofs.Common.{◌≡◌, ℕ, false, ◌&&◌}
 use Rattle.std.specs.List.{list_any}
 use Rattle.pi_base.specs.Lists.{numbers}
-use Rattle.mp_core.specs.Fair.{AreOrderly}
-use Rattle.mp_core.specs.Machine.{IsMachine}
-use Rattle.mp_core.specs.Past.{Past, is_enabled_ap}
-use Rattle.mp_core.specs.Schedule.{is_busy}
+use Rattle.mp_core.specs.{Fair.AreOrderly, Machine.IsMachine, Past.Past, Past.is_enabled_ap, Schedule.is_busy}
 use Rattle.mp_core.proofs.machine.Machine.has_busy_ap.Given as goal
 
 abbrev pub invariant-loop-p : goal.invariant-loop-p

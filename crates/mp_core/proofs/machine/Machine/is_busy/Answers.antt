@@ -1,6 +1,5 @@
 use Rattle.std.proofs.Common.{◌<◌, not, sym, ap, subst, ◌∙◌}
-use Rattle.mp_core.specs.Machine.{IsProcessor}
-use Rattle.mp_core.specs.Past.{is_empty}
+use Rattle.mp_core.specs.{Machine.IsProcessor, Past.is_empty}
 use Rattle.mp_core.proofs.Fairness.{is_busy-undone}
 use Rattle.mp_core.proofs.machine.Machine.is_busy.Goals as goal
 

@@ -1,13 +1,9 @@
 use borrow.Author.Count.{below_more}
-use Rattle.std.proofs.Common.{◌≡◌, ℕ, zero, suc, ◌+◌, ◌%◌, ◌^◌, ◌<◌, List, ◌∷◌, map, replicate, sym, refl, ap, subst, ◌∙◌, arith}
+use Rattle.std.proofs.Common.{◌≡◌, ℕ, zero, suc, ◌+◌, ◌%◌, ◌^◌, ◌<◌, List, ◌∷◌, map, replicate, sym, refl, ap, subst, ◌∙◌, arith, Bool, true, if◌then◌else◌, [], ◌++◌, length}
 use Rattle.std.proofs.Math.ListN.{get_or, get_or-append, length-append}
 use Rattle.std.proofs.Math.Seq.{get_or-append_seam}
-use Rattle.std.specs.Prelude.{Bool, true, if◌then◌else◌, [], ◌++◌, length}
 use Rattle.pi_base.specs.Lists.{Each, numbers}
-use Rattle.mp_core.specs.declared.op.Op.{Op}
-use Rattle.mp_core.specs.declared.processor.Processor.{Processor}
-use Rattle.mp_core.specs.Calls.{IsOp}
-use Rattle.mp_core.specs.Processor.{IsNew}
+use Rattle.mp_core.specs.{declared.op.Op.Op, declared.processor.Processor.Processor, Calls.IsOp, Processor.IsNew}
 use Rattle.mp_core.proofs.machine.Machine.new.Goals as goal
 
 zero_cells : (from count : ℕ) → replicate count 0 ≡ map (λ c. 0 % 2 ^ 64) (numbers from count)

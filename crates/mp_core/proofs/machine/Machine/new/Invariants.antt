@@ -1,6 +1,5 @@
 use Rattle.std.proofs.Common.{◌≡◌, ℕ, ◌<◌, length, get_or}
-use Rattle.mp_core.specs.declared.processor.Processor.{Processor}
-use Rattle.mp_core.specs.Processor.{IsNew}
+use Rattle.mp_core.specs.{declared.processor.Processor.Processor, Processor.IsNew}
 use Rattle.mp_core.proofs.machine.Machine.new.Given as goal
 
 abbrev pub invariant-loop : goal.invariant-loop

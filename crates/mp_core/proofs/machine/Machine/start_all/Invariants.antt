@@ -1,11 +1,8 @@
-use Rattle.std.proofs.Common.{◌≡◌, ℕ, length, false}
-use Rattle.std.specs.List.{filter, list_any}
+use Rattle.std.proofs.Common.{◌≡◌, ℕ, length, false, filter}
+use Rattle.std.specs.List.{list_any}
 use Rattle.pi_base.specs.Lists.{Each, numbers}
-use Rattle.mp_core.specs.Calls.{IsOp}
-use Rattle.mp_core.specs.Fair.{AreOrderly}
-use Rattle.mp_core.specs.Machine.{IsMachine}
+use Rattle.mp_core.specs.{Calls.IsOp, Fair.AreOrderly, Machine.IsMachine, Schedule.is_busy}
 use Rattle.mp_core.specs.Past.{Past, enabled_aps, is_enabled_ap, started}
-use Rattle.mp_core.specs.Schedule.{is_busy}
 use Rattle.mp_core.proofs.machine.Machine.start_all.Given as goal
 
 abbrev pub invariant-loop-p : goal.invariant-loop-p

@@ -1,6 +1,5 @@
 use Rattle.std.proofs.Common.{◌≡◌, sym, subst}
-use Rattle.mp_core.specs.declared.reply.MpWord.TheVariants.{Success}
-use Rattle.mp_core.specs.Machine.{IsMachine}
+use Rattle.mp_core.specs.{declared.reply.MpWord.TheVariants.Success, Machine.IsMachine}
 use Rattle.mp_core.specs.Past.{enabled_aps, if_success, started, startup_all_aps}
 use Rattle.mp_core.proofs.Orderly.{all_pass}
 use Rattle.mp_core.proofs.machine.Machine.startup_all_aps.Goals as goal

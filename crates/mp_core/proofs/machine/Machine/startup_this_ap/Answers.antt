@@ -1,10 +1,8 @@
 use Rattle.std.proofs.Common.{◌≡◌, ◌<◌, [], ◌∷◌, not, eqb, ltb, refl, sym, subst}
-use Rattle.mp_core.specs.declared.reply.MpWord.TheVariants.{Success, NotReady}
-use Rattle.mp_core.specs.Machine.{IsMachine}
+use Rattle.mp_core.specs.{declared.reply.MpWord.TheVariants.Success, declared.reply.MpWord.TheVariants.NotReady, Machine.IsMachine}
 use Rattle.mp_core.specs.Past.{is_enabled_ap, startup_this_ap, if_success, started}
 use Rattle.mp_core.specs.Schedule.{is_busy}
-use Rattle.mp_core.proofs.Orderly.{four_pass, idle_from}
-use Rattle.mp_core.proofs.Standing.{start_stands}
+use Rattle.mp_core.proofs.{Orderly.four_pass, Orderly.idle_from, Standing.start_stands}
 use Rattle.mp_core.proofs.machine.Machine.startup_this_ap.Goals as goal
 
 pub returns-in-Success-clause-after : goal.returns-in-Success-clause-after

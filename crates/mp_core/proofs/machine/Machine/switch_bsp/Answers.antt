@@ -1,7 +1,5 @@
 use Rattle.std.proofs.Common.{◌≡◌, ◌<◌, refl, subst}
-use Rattle.mp_core.specs.declared.machine.Machine.{Machine}
-use Rattle.mp_core.specs.declared.reply.MpWord.TheVariants.{Success}
-use Rattle.mp_core.specs.Machine.{IsMachine}
+use Rattle.mp_core.specs.{declared.machine.Machine.Machine, declared.reply.MpWord.TheVariants.Success, Machine.IsMachine}
 use Rattle.mp_core.specs.Past.{Past, switch_bsp, if_success, with_enabled}
 use Rattle.mp_core.proofs.Standing.{enable_stands}
 use Rattle.mp_core.proofs.machine.Machine.switch_bsp.Goals as goal

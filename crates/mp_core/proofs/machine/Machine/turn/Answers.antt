@@ -1,8 +1,5 @@
-use Rattle.std.proofs.Common.{◌≡◌, ◌<◌, ◌++◌, ◌∷◌, [], length, refl, subst, ◌∙◌, ap, arith, Some, Result, Ok, Err}
-use Rattle.std.proofs.lemmas.List.{get_or-set_same, set-set}
-use Rattle.std.specs.Result.{OnOk}
-use Rattle.mp_core.specs.declared.processor.Processor.{Processor}
-use Rattle.mp_core.specs.Processor.{Does}
+use Rattle.std.proofs.Common.{◌≡◌, ◌<◌, ◌++◌, ◌∷◌, [], length, refl, subst, ◌∙◌, ap, arith, Some, Result, Ok, Err, get_or-set_same, set-set, OnOk}
+use Rattle.mp_core.specs.{declared.processor.Processor.Processor, Processor.Does}
 use Rattle.mp_core.proofs.Standing.{turn_past}
 use Rattle.mp_core.proofs.Turning.{add_stands, put_stands, none_stands, cell_below}
 use Rattle.mp_core.proofs.machine.Machine.turn.Goals as goal

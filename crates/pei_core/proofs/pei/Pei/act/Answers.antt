@@ -1,11 +1,7 @@
-use Rattle.std.proofs.Common.{[], ◌∷◌, refl, sym, ap, ◌∙◌, subst}
-use Rattle.std.proofs.lemmas.List.{append-nil}
+use Rattle.std.proofs.Common.{[], ◌∷◌, refl, sym, ap, ◌∙◌, subst, append-nil}
 use Rattle.boot_io.proofs.PutsLaws.{appends_none}
 use Rattle.boot_model.specs.PeiStep.{Acts, in_case}
-use Rattle.pei_core.specs.declared.event.Again.TheVariants.{Nobody}
-use Rattle.pei_core.specs.Parts.{action_goal}
-use Rattle.pei_core.specs.Standing.{Has}
-use Rattle.pei_core.specs.Steps.{IsIdle}
+use Rattle.pei_core.specs.{declared.event.Again.TheVariants.Nobody, Parts.action_goal, Standing.Has, Steps.IsIdle}
 use Rattle.pei_core.proofs.Acting.{counted, counted_sound, counted_started, done, for_counted, fuel_left, left_core, own_leads, own_places, own_takes, takes_own}
 use Rattle.pei_core.proofs.Cases.{case_acts, cons_nil, part, went}
 use Rattle.pei_core.proofs.Going.{first_part, goes_on, led_quietly, quiet_goal, same_err, stepped_from, steps_fail, stepped_none, stepped_one, texts}

@@ -2,11 +2,9 @@ use Rattle.std.proofs.Common.{◌≡◌, refl, sym, ap, ◌∙◌, subst, Ok}
 use Rattle.boot_laws.proofs.ActionMoved.{EffectKeeps, effect_keeps}
 use Rattle.boot_model.specs.PeiAction.{Called, Own, Shadowed, Wrote, effect}
 use Rattle.phase_parts.specs.Writes.{written}
-use Rattle.pei_core.specs.Guids.{AreChangesOf, no_changes}
+use Rattle.pei_core.specs.{Guids.AreChangesOf, Guids.no_changes, declared.event.Again.TheVariants.Nobody, Standing.Has}
 use Rattle.pei_core.specs.Taken.{Does, changes_by, reply_in}
-use Rattle.pei_core.specs.declared.event.Again.TheVariants.{Nobody}
 use Rattle.pei_core.specs.Parts.{action_goal, reply_goal, shadow_goal}
-use Rattle.pei_core.specs.Standing.{Has}
 use Rattle.pei_core.proofs.Going.{leads_as, leads_want, led_quietly, none_put, quiet_goal, stepped_none, texts}
 use Rattle.pei_core.proofs.Owned.{changed_of_top, effect_prints, installed_are, leads_by, top_held, top_is, top_started, wrote, wrote_core}
 use Rattle.pei_core.proofs.SecondStarts.{nobody}

@@ -1,12 +1,9 @@
 use Rattle.std.proofs.Common.{refl, ap, sym, subst, ◌∙◌, ◌++◌, Ok, Err, arith}
 use Rattle.pi_base.specs.Lists.{Each}
-use Rattle.store_model.specs.StateFacts.{IsDesc}
-use Rattle.store_model.specs.Service.Descriptor.{offsets}
+use Rattle.store_model.specs.{StateFacts.IsDesc, Service.Descriptor.offsets}
 use Rattle.boot_io.proofs.PutsLaws.{puts_then}
 use Rattle.boot_io.specs.Sink as Sinks
-use Rattle.boot_model.specs.PeiStep.{report_lines}
-use Rattle.boot_model.specs.Reporting.{reports}
-use Rattle.boot_model.specs.Text.{line_text, text_of}
+use Rattle.boot_model.specs.{PeiStep.report_lines, Reporting.reports, Text.line_text, Text.text_of}
 use Rattle.pei_core.specs.Parts.{reply_goal}
 use Rattle.pei_core.proofs.Calls.{call_line, call_lines, came, new_volumes, replied_core, shown_are}
 use Rattle.pei_core.proofs.Going.{first_part, leads_fail, stepped, texts}

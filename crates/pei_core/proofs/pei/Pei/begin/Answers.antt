@@ -1,6 +1,5 @@
 use Rattle.std.proofs.Common.{refl, sym}
-use Rattle.pei_core.proofs.Opened.{first_family, first_states}
-use Rattle.pei_core.proofs.StartedSteps.{opening_runs_started}
+use Rattle.pei_core.proofs.{Opened.first_family, Opened.first_states, StartedSteps.opening_runs_started}
 use Rattle.pei_core.proofs.pei.Pei.begin.Goals as goal
 
 pub returns-clause-opening : goal.returns-clause-opening

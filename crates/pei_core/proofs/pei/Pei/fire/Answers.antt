@@ -1,13 +1,9 @@
 use Rattle.std.proofs.Common.{cond, refl, ap, sym, subst, ◌∙◌, []}
 use Rattle.boot_model.specs.PeiStep.{Fires, callback_line, callback_begun}
-use Rattle.pei_core.specs.Cores.{with_callback}
-use Rattle.pei_core.specs.declared.event.Again.TheVariants.{Nobody}
-use Rattle.pei_core.specs.Standing.{IsCoreOf}
-use Rattle.pei_core.specs.Steps.{IsIdle}
+use Rattle.pei_core.specs.{Cores.with_callback, declared.event.Again.TheVariants.Nobody, Standing.IsCoreOf, Steps.IsIdle}
 use Rattle.pei_core.proofs.Cases.{case_fires, part, some_none, went}
-use Rattle.pei_core.proofs.Fired.{fired_begun, fired_core}
+use Rattle.pei_core.proofs.{Fired.fired_begun, Fired.fired_core, SecondStarts.nobody}
 use Rattle.pei_core.proofs.Going.{first_part, led_quietly, quiet_goal, steps_fail, stepped_one, texts}
-use Rattle.pei_core.proofs.SecondStarts.{nobody}
 use Rattle.pei_core.proofs.pei.Pei.fire.Goals as goal
 
 pub returns-in_err-put_made-clause-row : goal.returns-in_err-put_made-clause-row

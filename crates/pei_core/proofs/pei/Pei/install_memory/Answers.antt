@@ -4,8 +4,7 @@ use Rattle.boot_model.specs.declared.line.Line.TheVariants as L
 use Rattle.boot_model.specs.PeiAction.{status_of}
 use Rattle.store_model.specs.Service.Install.{core_install}
 use Rattle.boot_laws.proofs.StoreMoved.{KeepsMoved, core_moved}
-use Rattle.pei_core.specs.declared.event.Again.TheVariants.{Nobody}
-use Rattle.pei_core.specs.Parts.{called_goal}
+use Rattle.pei_core.specs.{declared.event.Again.TheVariants.Nobody, Parts.called_goal}
 use Rattle.pei_core.proofs.Going.{first_part, leads_fail, led_as, led_quietly, none_more, part_as, stepped_one, texts}
 use Rattle.pei_core.proofs.Moving.{behind, behind_core, called_quiet, refusal_is, refused, refused_core}
 use Rattle.pei_core.proofs.SecondStarts.{nobody}

@@ -4,11 +4,7 @@ use Rattle.boot_model.specs.declared.line.Line.TheVariants as L
 use Rattle.boot_model.specs.PeiStep.{Moves, in_case, moved_to}
 use Rattle.boot_model.specs.Text.{line_text}
 use Rattle.store_model.specs.Service.Install.{core_install}
-use Rattle.pei_core.specs.declared.event.Again.TheVariants.{All}
-use Rattle.pei_core.specs.declared.event.Event.{Event}
-use Rattle.pei_core.specs.Parts.{called_goal}
-use Rattle.pei_core.specs.Standing.{Has}
-use Rattle.pei_core.specs.Steps.{IsIdle}
+use Rattle.pei_core.specs.{declared.event.Again.TheVariants.All, declared.event.Event.Event, Parts.called_goal, Standing.Has, Steps.IsIdle}
 use Rattle.pei_core.proofs.Cases.{case_moves, part, some_none, went}
 use Rattle.pei_core.proofs.Going.{first_part, goes_on, none_more, one_text, same_err, steps_fail, stepped_after, texts}
 use Rattle.pei_core.proofs.Moving.{call_prints, called_reported, migrate_line, moved, moved_core, moved_lets}

@@ -4,11 +4,7 @@ use Rattle.boot_model.specs.declared.line.Line.TheVariants as L
 use Rattle.boot_model.specs.declared.line.CallName.TheVariants as C
 use Rattle.boot_model.specs.declared.line.Extra.TheVariants as X
 use Rattle.boot_model.specs.PeimState.{IsPeimState, state_at}
-use Rattle.pei_core.specs.CoreCall.{PrintedPart}
-use Rattle.pei_core.specs.Parts.{shadow_goal}
-use Rattle.pei_core.specs.SecondStarts.{IsAgain}
-use Rattle.pei_core.specs.Standing.{IsCoreFor}
-use Rattle.pei_core.specs.declared.core_state.Core.{Core}
+use Rattle.pei_core.specs.{CoreCall.PrintedPart, Parts.shadow_goal, SecondStarts.IsAgain, Standing.IsCoreFor, declared.core_state.Core.Core}
 use Rattle.pei_core.proofs.Going.{first_part, leads_as, leads_fail, led_quietly, quiet_goal, stepped_one, texts}
 use Rattle.pei_core.proofs.Shadowing.{behind, registered_for, same_frames, same_start, shadow_core, shadowed_is, shadowed_lets, told}
 use Rattle.pei_core.proofs.pei.Pei.shadow.Goals as goal

@@ -1,14 +1,11 @@
 use Rattle.std.proofs.Common.{refl, sym, ap, subst, IsTrue}
 use Rattle.phase_parts.specs.Found.{blocks_of}
 use Rattle.pi_base.specs.declared.phase.Phase.TheVariants.{Pei}
-use Rattle.boot_model.specs.PeimState.{awaits_start, state_at}
-use Rattle.boot_model.specs.PeiStep.{started}
+use Rattle.boot_model.specs.{PeimState.awaits_start, PeimState.state_at, PeiStep.started}
 use Rattle.boot_trace.specs.StartLines.{started_lines}
 use Rattle.pei_core.specs.Standing.{IsCoreFor, StandsFor}
 use Rattle.pei_core.proofs.Begun.{begun, begun_for, is_there}
-use Rattle.pei_core.proofs.Going.{puts_to}
-use Rattle.pei_core.proofs.PeimStates.{state_is}
-use Rattle.pei_core.proofs.StartedSteps.{starts_run_started}
+use Rattle.pei_core.proofs.{Going.puts_to, PeimStates.state_is, StartedSteps.starts_run_started}
 use Rattle.pei_core.proofs.pei.Pei.start.Goals as goal
 
 pub returns-clause-row : goal.returns-clause-row

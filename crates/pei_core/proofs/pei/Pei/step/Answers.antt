@@ -1,6 +1,4 @@
-use Rattle.pei_core.proofs.Going.{texts}
-use Rattle.pei_core.proofs.Sounded.{names_are, steps_sound}
-use Rattle.pei_core.proofs.StartedSteps.{steps_run_started}
+use Rattle.pei_core.proofs.{Going.texts, Sounded.names_are, Sounded.steps_sound, StartedSteps.steps_run_started}
 use Rattle.pei_core.proofs.pei.Pei.step.Goals as goal
 
 pub step_by_case-requires-clause-made : goal.step_by_case-requires-clause-made

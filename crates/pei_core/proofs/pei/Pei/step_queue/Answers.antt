@@ -1,13 +1,10 @@
 use Rattle.std.proofs.Common.{refl, sym, subst, []}
 use Rattle.boot_laws.proofs.PeiCases.{Popped, popped_is}
 use Rattle.boot_model.specs.PeiStep.{Pops, dispatch_line, popped_to}
-use Rattle.pei_core.specs.declared.event.Again.TheVariants.{Nobody}
-use Rattle.pei_core.specs.Standing.{IsCoreOf}
-use Rattle.pei_core.specs.Steps.{IsIdle}
+use Rattle.pei_core.specs.{declared.event.Again.TheVariants.Nobody, Standing.IsCoreOf, Steps.IsIdle}
 use Rattle.pei_core.proofs.Cases.{case_pops, no_move, part, some_none, went}
-use Rattle.pei_core.proofs.Fired.{popped_core}
+use Rattle.pei_core.proofs.{Fired.popped_core, SecondStarts.nobody}
 use Rattle.pei_core.proofs.Going.{first_part, led_quietly, quiet_goal, steps_fail, stepped_one, texts}
-use Rattle.pei_core.proofs.SecondStarts.{nobody}
 use Rattle.pei_core.proofs.pei.Pei.step_queue.Goals as goal
 
 pub returns-in_err-put_made-in-Some-clause-row : goal.returns-in_err-put_made-in-Some-clause-row

@@ -1,6 +1,5 @@
 use Rattle.pei_dispatch.specs.declared.queue.PeiQueue.{PeiQueue}
-use Rattle.pei_dispatch.proofs.Places.{found_place, place_within}
-use Rattle.pei_dispatch.proofs.Views.{shows_again, shows_without}
+use Rattle.pei_dispatch.proofs.{Places.found_place, Places.place_within, Views.shows_again, Views.shows_without}
 use Rattle.pei_dispatch.proofs.queue.PeiQueue.again.Goals as goal
 
 pub again-requires : goal.again-requires

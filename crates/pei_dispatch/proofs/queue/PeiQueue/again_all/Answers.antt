@@ -2,8 +2,7 @@ use Rattle.std.proofs.Common.{◌≡◌, ◌<◌, ◌+◌, ◌&&◌, ℕ, List, 
 use Rattle.mod_catalog.specs.Parts.{has_number}
 use Rattle.pei_dispatch.specs.Queue.{parts_in}
 use Rattle.pei_dispatch.specs.View.{awaits_again, awaits_at, is_number_by, with_again}
-use Rattle.pei_dispatch.proofs.Awaiting.{one_more}
-use Rattle.pei_dispatch.proofs.Views.{again_more}
+use Rattle.pei_dispatch.proofs.{Awaiting.one_more, Views.again_more}
 use Rattle.pei_dispatch.proofs.queue.PeiQueue.again_all.Goals as goal
 
 pub parts-preserved : goal.parts-preserved

@@ -1,6 +1,5 @@
 use Rattle.std.proofs.Common.{◌≡◌, take, ◌&&◌}
-use Rattle.mod_catalog.specs.Parts.{has_number}
-use Rattle.mod_catalog.specs.declared.catalogue.Catalog.{Catalog}
+use Rattle.mod_catalog.specs.{Parts.has_number, declared.catalogue.Catalog.Catalog}
 use Rattle.pei_dispatch.specs.Queue.{HaveStarted, Shows, owed_by, parts_in}
 use Rattle.pei_dispatch.specs.View.{View, awaits_at, with_again}
 use Rattle.pei_dispatch.proofs.queue.PeiQueue.again_all.Given as goal

@@ -1,7 +1,6 @@
-use Rattle.std.specs.Option.{option_to_list}
+use Rattle.std.proofs.Common.{option_to_list}
 use Rattle.pei_dispatch.specs.declared.queue.PeiQueue.{PeiQueue}
-use Rattle.pei_dispatch.proofs.Notes.{noted_shows, noted_owes}
-use Rattle.pei_dispatch.proofs.Views.{stands_so}
+use Rattle.pei_dispatch.proofs.{Notes.noted_shows, Notes.noted_owes, Views.stands_so}
 use Rattle.pei_dispatch.proofs.queue.PeiQueue.changed.Goals as goal
 
 pub returns-clause-shows : goal.returns-clause-shows

@@ -1,10 +1,7 @@
-use Rattle.std.proofs.Common.{ap, sym, ◌∙◌}
-use Rattle.std.specs.Prelude.{find, slice_get}
-use Rattle.std.specs.Option.{option_and_then}
+use Rattle.std.proofs.Common.{ap, sym, ◌∙◌, find, slice_get, option_and_then}
 use Rattle.boot_model.specs.PeiChoice.{rotated}
 use Rattle.wait_index.specs.Index.{is_eligible_in, order_in}
-use Rattle.pei_dispatch.specs.View.{view_of}
-use Rattle.pei_dispatch.specs.declared.queue.PeiQueue.{PeiQueue}
+use Rattle.pei_dispatch.specs.{View.view_of, declared.queue.PeiQueue.PeiQueue}
 use Rattle.pei_dispatch.proofs.Views.{shows_settled, stands_so}
 use Rattle.pei_dispatch.proofs.queue.PeiQueue.choose.Goals as goal
 

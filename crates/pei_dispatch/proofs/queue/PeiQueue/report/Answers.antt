@@ -1,11 +1,8 @@
-use Rattle.std.proofs.Common.{arith, ◌≡◌, ◌+◌, ℕ, List, [], ◌∷◌, ◌++◌, get_or, take, length, ap, subst, sym, ◌∙◌, refl}
-use Rattle.std.proofs.lemmas.List.{append-nil, take_more, length-append}
+use Rattle.std.proofs.Common.{arith, ◌≡◌, ◌+◌, ℕ, List, [], ◌∷◌, ◌++◌, get_or, take, length, ap, subst, sym, ◌∙◌, refl, append-nil, length-append}
+use Rattle.std.proofs.lemmas.List.{take_more}
 use Rattle.boot_model.specs.PeiChoice.{pei_order, volume_order}
-use Rattle.pei_dispatch.specs.Queue.{Shows}
-use Rattle.pei_dispatch.specs.View.{with_volumes}
-use Rattle.pei_dispatch.proofs.Differing.{next_differs}
-use Rattle.pei_dispatch.proofs.Room.{order_more}
-use Rattle.pei_dispatch.proofs.Views.{shows_alike, volumes_more}
+use Rattle.pei_dispatch.specs.{Queue.Shows, View.with_volumes}
+use Rattle.pei_dispatch.proofs.{Differing.next_differs, Room.order_more, Views.shows_alike, Views.volumes_more}
 use Rattle.pei_dispatch.proofs.queue.PeiQueue.report.Goals as goal
 
 pub volumes-init : goal.volumes-init

@@ -1,14 +1,10 @@
-use Rattle.std.proofs.Common.{arith, ◌≡◌, ℕ, ◌≤◌, ◌<◌, List, [], ◌∷◌, ◌++◌, length, ap, sym, subst, ◌∙◌, refl}
-use Rattle.std.proofs.lemmas.List.{append-nil}
-use Rattle.pi_base.specs.Lists.{Each}
-use Rattle.pi_base.specs.declared.phase.Phase.TheVariants.{Pei}
+use Rattle.std.proofs.Common.{arith, ◌≡◌, ℕ, ◌≤◌, ◌<◌, List, [], ◌∷◌, ◌++◌, length, ap, sym, subst, ◌∙◌, refl, append-nil}
+use Rattle.pi_base.specs.{Lists.Each, declared.phase.Phase.TheVariants.Pei}
 use Rattle.mod_catalog.specs.declared.limits.TheConstants.{MOST_MODULES}
 use Rattle.phase_parts.specs.Parts.{ranked_parts, unranked_parts}
-use Rattle.boot_model.specs.Licence.{AllDiffer}
-use Rattle.boot_model.specs.PeiChoice.{volume_order}
+use Rattle.boot_model.specs.{Licence.AllDiffer, PeiChoice.volume_order}
 use Rattle.pei_dispatch.specs.declared.queue.PeiQueue.{PeiQueue}
-use Rattle.pei_dispatch.proofs.Room.{room_for, front_fits}
-use Rattle.pei_dispatch.proofs.Views.{order_with, shows_reported}
+use Rattle.pei_dispatch.proofs.{Room.room_for, Room.front_fits, Views.order_with, Views.shows_reported}
 use Rattle.pei_dispatch.proofs.queue.PeiQueue.report_one.Goals as goal
 
 pub push_ranked-requires-clause-room : goal.push_ranked-requires-clause-room

@@ -1,8 +1,6 @@
 use Rattle.std.proofs.Common.{◌≡◌, ◌+◌, length, ap, ◌∙◌, arith}
 use Rattle.store_model.specs.HeapImage.{guid_address, heap_image}
-use Rattle.store_laws.specs.Descriptors.{guid_read}
-use Rattle.store_laws.specs.Mapped.{layout_of}
-use Rattle.store_laws.specs.Word.{word_in}
+use Rattle.store_laws.specs.{Descriptors.guid_read, Mapped.layout_of, Word.word_in}
 use Rattle.pei_heap.proofs.Descriptors.{guid_of_state, has_guid, place_inside}
 use Rattle.pei_heap.proofs.links.descriptor.guid_of.Goals as goal
 

@@ -1,7 +1,6 @@
 use Rattle.std.proofs.Common.{◌≡◌, ◌+◌, length, ap, ◌∙◌, arith}
 use Rattle.store_model.specs.HeapImage.{heap_image}
-use Rattle.store_laws.specs.Mapped.{layout_of}
-use Rattle.store_laws.specs.Word.{word_in}
+use Rattle.store_laws.specs.{Mapped.layout_of, Word.word_in}
 use Rattle.pei_heap.proofs.Descriptors.{number_of_state, place_inside}
 use Rattle.pei_heap.proofs.links.descriptor.number_of.Goals as goal
 

@@ -1,8 +1,6 @@
-use Rattle.std.proofs.Common.{◌≡◌, ◌-◌, Some, None, length, ap, sym, ◌∙◌, arith, true≢false}
-use Rattle.std.specs.Prelude.{is_some}
+use Rattle.std.proofs.Common.{◌≡◌, ◌-◌, Some, None, length, ap, sym, ◌∙◌, arith, true≢false, is_some}
 use Rattle.phys_mem.specs.Regions.{bytes_at, rom_regions}
-use Rattle.store_model.specs.HeapImage.{heap_image}
-use Rattle.store_model.specs.MemoryReading.{rom_bytes}
+use Rattle.store_model.specs.{HeapImage.heap_image, MemoryReading.rom_bytes}
 use Rattle.store_laws.specs.Mapped.{layout_of}
 use Rattle.pei_heap.proofs.Descriptors.{guid_inside, guid_outside, in_volume}
 use Rattle.pei_heap.proofs.Volumes.{read_long, volumes_are}

@@ -1,8 +1,6 @@
 use Rattle.std.proofs.Common.{◌≡◌, ◌-◌, ◌≤◌, drop}
-use Rattle.store_model.specs.StoreState.{StoreState}
-use Rattle.store_model.specs.declared.store_handle.EntryList.{EntryList}
-use Rattle.store_laws.specs.Chain.{IsHeaded}
-use Rattle.store_laws.specs.Items.{items, first_address}
+use Rattle.store_model.specs.{StoreState.StoreState, declared.store_handle.EntryList.EntryList}
+use Rattle.store_laws.specs.{Chain.IsHeaded, Items.items, Items.first_address}
 use Rattle.pei_heap.proofs.links.node.nth_address.Given as goal
 
 abbrev pub invariant-nodes : goal.invariant-nodes

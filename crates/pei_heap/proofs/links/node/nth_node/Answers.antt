@@ -1,5 +1,4 @@
-use Rattle.std.proofs.Common.{Some, ap, sym, ◌∙◌}
-use Rattle.std.specs.Prelude.{option_map, slice_get}
+use Rattle.std.proofs.Common.{Some, ap, sym, ◌∙◌, option_map, slice_get}
 use Rattle.store_laws.specs.Items.{items}
 use Rattle.pei_heap.specs.Node.{node_of}
 use Rattle.pei_heap.proofs.NodeFields.{found_item, none_item}

@@ -1,12 +1,9 @@
 use Rattle.std.proofs.Common.{◌+◌, length, drop, ap, arith}
-use Rattle.store_model.specs.declared.store_handle.DescKind.TheVariants.{Ppi}
-use Rattle.store_model.specs.declared.store_handle.EntryList.TheVariants.{Ppis}
-use Rattle.store_model.specs.Service.Descriptor.{descriptors}
-use Rattle.store_model.specs.Service.Install.{pairs_of, row_of}
+use Rattle.store_model.specs.{declared.store_handle.DescKind.TheVariants.Ppi, declared.store_handle.EntryList.TheVariants.Ppis}
+use Rattle.store_model.specs.{Service.Descriptor.descriptors, Service.Install.pairs_of, Service.Install.row_of}
 use Rattle.store_model.specs.Service.Notify.{new_dispatches, notify_pairs}
-use Rattle.pei_heap.proofs.Finding.{drop_all}
+use Rattle.pei_heap.proofs.{Finding.drop_all, Walking.desc_of}
 use Rattle.pei_heap.proofs.Rows.{count_past, count_rows, entry_rows, few_more}
-use Rattle.pei_heap.proofs.Walking.{desc_of}
 use Rattle.pei_heap.proofs.links.pairs.count_new_pairs.Goals as goal
 
 pub returns-in-None : goal.returns-in-None

@@ -1,12 +1,8 @@
 use Rattle.std.proofs.Common.{◌≡◌, ◌≤◌, ◌+◌, ◌*◌, length, drop}
-use Rattle.store_model.specs.declared.store_handle.EntryList.TheVariants.{Ppis}
-use Rattle.store_model.specs.StoreState.{StoreState}
-use Rattle.store_model.specs.StoreCall.{AreDescs}
-use Rattle.store_model.specs.Service.Descriptor.{descriptors}
-use Rattle.store_model.specs.Service.Install.{pairs_of}
+use Rattle.store_model.specs.{declared.store_handle.EntryList.TheVariants.Ppis, StoreState.StoreState, StoreCall.AreDescs}
+use Rattle.store_model.specs.{Service.Descriptor.descriptors, Service.Install.pairs_of}
 use Rattle.store_model.specs.Service.Notify.{new_dispatches, notify_pairs}
-use Rattle.pei_heap.specs.Linked.{IsLinked}
-use Rattle.pei_heap.specs.Walk.{StandsAt}
+use Rattle.pei_heap.specs.{Linked.IsLinked, Walk.StandsAt}
 use Rattle.pei_heap.proofs.links.pairs.count_new_pairs.Given as goal
 
 abbrev pub invariant-ppis : goal.invariant-ppis

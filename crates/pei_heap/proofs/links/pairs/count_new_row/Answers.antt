@@ -1,11 +1,7 @@
 use Rattle.std.proofs.Common.{length, slice_index_or, ap, arith}
-use Rattle.store_model.specs.declared.store_handle.Desc.{Desc}
-use Rattle.store_model.specs.StateFacts.{IsDesc}
-use Rattle.store_model.specs.Service.Notify.{new_dispatches}
+use Rattle.store_model.specs.{declared.store_handle.Desc.Desc, StateFacts.IsDesc, Service.Notify.new_dispatches, Service.Install.row_of}
 use Rattle.store_laws.proofs.Lists.{each_behind}
-use Rattle.store_model.specs.Service.Install.{row_of}
-use Rattle.pei_heap.proofs.Finding.{drop_all, drop_get}
-use Rattle.pei_heap.proofs.Queueing.{not_queued}
+use Rattle.pei_heap.proofs.{Finding.drop_all, Finding.drop_get, Queueing.not_queued}
 use Rattle.pei_heap.proofs.Rows.{count_more, count_past, new_split, one_small}
 use Rattle.pei_heap.proofs.links.pairs.count_new_row.Goals as goal
 

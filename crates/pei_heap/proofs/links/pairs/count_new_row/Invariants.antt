@@ -1,8 +1,5 @@
 use Rattle.std.proofs.Common.{◌≡◌, ◌≤◌, ◌+◌, length, drop}
-use Rattle.store_model.specs.StoreState.{StoreState}
-use Rattle.store_model.specs.StateFacts.{IsDesc}
-use Rattle.store_model.specs.StoreCall.{AreDescs}
-use Rattle.store_model.specs.Service.Notify.{new_dispatches}
+use Rattle.store_model.specs.{StoreState.StoreState, StateFacts.IsDesc, StoreCall.AreDescs, Service.Notify.new_dispatches}
 use Rattle.pei_heap.specs.HeapMemory.{IsHeapOf}
 use Rattle.store_model.specs.Service.Install.{row_of}
 use Rattle.pei_heap.proofs.links.pairs.count_new_row.Given as goal

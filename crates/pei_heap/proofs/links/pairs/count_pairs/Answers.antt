@@ -1,6 +1,5 @@
 use Rattle.std.proofs.Common.{◌+◌, length, drop, slice_index_or, ap}
-use Rattle.store_model.specs.declared.store_handle.Desc.{Desc}
-use Rattle.store_model.specs.StateFacts.{IsDesc}
+use Rattle.store_model.specs.{declared.store_handle.Desc.Desc, StateFacts.IsDesc}
 use Rattle.store_model.specs.Service.Descriptor.{descriptors, offsets}
 use Rattle.store_model.specs.Service.Install.{install_pairs, pairs_of, row_of}
 use Rattle.store_laws.proofs.Lists.{each_behind}

@@ -1,7 +1,5 @@
 use Rattle.std.proofs.Common.{◌≡◌, ◌≤◌, ◌+◌, ◌*◌, length, drop}
-use Rattle.store_model.specs.StoreState.{StoreState}
-use Rattle.store_model.specs.StoreCall.{AreDescs}
-use Rattle.store_model.specs.Service.Descriptor.{descriptors, offsets}
+use Rattle.store_model.specs.{StoreState.StoreState, StoreCall.AreDescs, Service.Descriptor.descriptors, Service.Descriptor.offsets}
 use Rattle.store_model.specs.Service.Install.{install_pairs, pairs_of}
 use Rattle.pei_heap.specs.Linked.{IsLinked}
 use Rattle.pei_heap.proofs.links.pairs.count_pairs.Given as goal

@@ -1,14 +1,9 @@
 use Rattle.std.proofs.Common.{◌≡◌, ◌+◌, length, drop, ap, arith}
-use Rattle.store_model.specs.declared.store_handle.DescKind.TheVariants.{Dispatch}
-use Rattle.store_model.specs.declared.store_handle.EntryList.TheVariants.{Dispatches}
-use Rattle.store_model.specs.Service.Descriptor.{descriptors}
+use Rattle.store_model.specs.{declared.store_handle.DescKind.TheVariants.Dispatch, declared.store_handle.EntryList.TheVariants.Dispatches}
+use Rattle.store_model.specs.{Service.Descriptor.descriptors, Service.Install.row_of}
 use Rattle.store_laws.specs.Items.{item_of, items}
-use Rattle.store_model.specs.Service.Install.{row_of}
-use Rattle.pei_heap.proofs.Ends.{map_len}
-use Rattle.pei_heap.proofs.Finding.{drop_all}
-use Rattle.pei_heap.proofs.Queueing.{not_queued}
+use Rattle.pei_heap.proofs.{Ends.map_len, Finding.drop_all, Queueing.not_queued, Walking.desc_of}
 use Rattle.pei_heap.proofs.Rows.{count_more, count_past, one_small, row_at}
-use Rattle.pei_heap.proofs.Walking.{desc_of}
 use Rattle.pei_heap.proofs.links.pairs.count_row.Goals as goal
 
 pub notes-init : goal.notes-init

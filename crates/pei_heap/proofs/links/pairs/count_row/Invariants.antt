@@ -1,11 +1,7 @@
 use Rattle.std.proofs.Common.{◌≡◌, ◌≤◌, ◌+◌, length, drop}
-use Rattle.store_model.specs.declared.store_handle.EntryList.TheVariants.{Dispatches}
-use Rattle.store_model.specs.StoreState.{StoreState}
-use Rattle.store_model.specs.StateFacts.{IsDesc}
-use Rattle.store_model.specs.Service.Descriptor.{descriptors}
-use Rattle.pei_heap.specs.Linked.{IsLinked}
-use Rattle.store_model.specs.Service.Install.{row_of}
-use Rattle.pei_heap.specs.Walk.{StandsAt}
+use Rattle.store_model.specs.{declared.store_handle.EntryList.TheVariants.Dispatches, StoreState.StoreState, StateFacts.IsDesc}
+use Rattle.store_model.specs.{Service.Descriptor.descriptors, Service.Install.row_of}
+use Rattle.pei_heap.specs.{Linked.IsLinked, Walk.StandsAt}
 use Rattle.pei_heap.proofs.links.pairs.count_row.Given as goal
 
 abbrev pub invariant-notes : goal.invariant-notes

@@ -1,13 +1,9 @@
 use Rattle.std.proofs.Common.{◌≡◌, ◌≤◌, [], length, drop, ap, sym, subst, arith, ◌∙◌}
 use Rattle.std.proofs.lemmas.List.{nil_from_length}
-use Rattle.store_model.specs.declared.store_handle.DescKind.TheVariants.{Ppi}
-use Rattle.store_model.specs.declared.store_handle.EntryList.TheVariants.{Ppis}
-use Rattle.store_model.specs.StoreState.{free}
-use Rattle.store_model.specs.Service.Descriptor.{descriptors}
+use Rattle.store_model.specs.{declared.store_handle.DescKind.TheVariants.Ppi, declared.store_handle.EntryList.TheVariants.Ppis}
+use Rattle.store_model.specs.{StoreState.free, Service.Descriptor.descriptors, Service.Notify.new_dispatches, Service.Notify.notify_pairs}
 use Rattle.store_model.specs.Service.Install.{node_need, pairs_of, row_of}
-use Rattle.store_model.specs.Service.Notify.{new_dispatches, notify_pairs}
-use Rattle.pei_heap.specs.Linked.{IsLinked}
-use Rattle.pei_heap.specs.Pairs.{queued}
+use Rattle.pei_heap.specs.{Linked.IsLinked, Pairs.queued}
 use Rattle.pei_heap.proofs.Finding.{drop_all}
 use Rattle.pei_heap.proofs.Queueing.{at_stays, less_left, none_left, stands_on}
 use Rattle.pei_heap.proofs.Rows.{descs_now, entry_rows, new_row_now, notes_now, ppi_met, ppis_not, row_room}

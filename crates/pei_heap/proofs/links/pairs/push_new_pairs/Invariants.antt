@@ -1,12 +1,7 @@
 use Rattle.std.proofs.Common.{drop}
-use Rattle.store_model.specs.declared.store_handle.EntryList.TheVariants.{Ppis}
-use Rattle.store_model.specs.StoreState.{StoreState}
-use Rattle.store_model.specs.Service.Descriptor.{descriptors}
-use Rattle.store_model.specs.Service.Install.{pairs_of}
-use Rattle.store_model.specs.Service.Notify.{new_dispatches, notify_pairs}
-use Rattle.pei_heap.specs.Linked.{IsLinked}
-use Rattle.pei_heap.specs.Pairs.{CanQueueNew}
-use Rattle.pei_heap.specs.Walk.{StandsAt}
+use Rattle.store_model.specs.{declared.store_handle.EntryList.TheVariants.Ppis, StoreState.StoreState, Service.Descriptor.descriptors}
+use Rattle.store_model.specs.{Service.Install.pairs_of, Service.Notify.new_dispatches, Service.Notify.notify_pairs}
+use Rattle.pei_heap.specs.{Linked.IsLinked, Pairs.CanQueueNew, Walk.StandsAt}
 use Rattle.pei_heap.proofs.Queueing.{IsLeft}
 use Rattle.pei_heap.proofs.links.pairs.push_new_pairs.Given as goal
 

@@ -1,9 +1,6 @@
 use Rattle.std.proofs.Common.{slice_index_or, ap}
-use Rattle.store_model.specs.declared.store_handle.Desc.{Desc}
-use Rattle.store_model.specs.StateFacts.{IsDesc}
-use Rattle.store_model.specs.Service.Notify.{new_dispatches}
+use Rattle.store_model.specs.{declared.store_handle.Desc.Desc, StateFacts.IsDesc, Service.Notify.new_dispatches, Service.Install.row_of}
 use Rattle.store_laws.proofs.Lists.{each_behind}
-use Rattle.store_model.specs.Service.Install.{row_of}
 use Rattle.pei_heap.proofs.Finding.{drop_all, drop_get}
 use Rattle.pei_heap.proofs.Queueing.{desc_stays, less_left, none_left, pair_if}
 use Rattle.pei_heap.proofs.Rows.{new_is, new_split, ready}

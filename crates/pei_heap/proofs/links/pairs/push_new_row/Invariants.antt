@@ -1,9 +1,6 @@
 use Rattle.std.proofs.Common.{drop}
-use Rattle.store_model.specs.StoreState.{StoreState}
-use Rattle.store_model.specs.Service.Notify.{new_dispatches}
-use Rattle.pei_heap.specs.Linked.{IsLinked}
-use Rattle.pei_heap.specs.Pairs.{CanQueueNewRow}
-use Rattle.store_model.specs.Service.Install.{row_of}
+use Rattle.store_model.specs.{StoreState.StoreState, Service.Notify.new_dispatches, Service.Install.row_of}
+use Rattle.pei_heap.specs.{Linked.IsLinked, Pairs.CanQueueNewRow}
 use Rattle.pei_heap.proofs.Queueing.{IsLeft}
 use Rattle.pei_heap.proofs.links.pairs.push_new_row.Given as goal
 

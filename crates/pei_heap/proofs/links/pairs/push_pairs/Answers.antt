@@ -1,14 +1,10 @@
 use Rattle.std.proofs.Common.{◌≡◌, ◌≤◌, [], length, slice_index_or, ap, sym, subst, arith}
 use Rattle.std.proofs.lemmas.List.{nil_from_length}
-use Rattle.store_model.specs.declared.store_handle.Desc.{Desc}
-use Rattle.store_model.specs.declared.store_handle.DescKind.TheVariants.{Ppi}
-use Rattle.store_model.specs.StoreState.{free}
-use Rattle.store_model.specs.StateFacts.{IsDescOf}
-use Rattle.store_model.specs.Service.Descriptor.{descriptors, offsets}
+use Rattle.store_model.specs.{declared.store_handle.Desc.Desc, declared.store_handle.DescKind.TheVariants.Ppi, StoreState.free}
+use Rattle.store_model.specs.{StateFacts.IsDescOf, Service.Descriptor.descriptors, Service.Descriptor.offsets}
 use Rattle.store_model.specs.Service.Install.{install_pairs, node_need, pairs_of, row_of}
 use Rattle.store_laws.proofs.Lists.{each_behind}
-use Rattle.pei_heap.specs.Linked.{IsLinked}
-use Rattle.pei_heap.specs.Pairs.{queued}
+use Rattle.pei_heap.specs.{Linked.IsLinked, Pairs.queued}
 use Rattle.pei_heap.proofs.Finding.{drop_all, drop_get}
 use Rattle.pei_heap.proofs.Queueing.{at_stays, less_left, none_left}
 use Rattle.pei_heap.proofs.Rows.{row_now, row_room, rows_more}

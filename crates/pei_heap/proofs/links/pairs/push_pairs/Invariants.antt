@@ -1,9 +1,7 @@
 use Rattle.std.proofs.Common.{drop}
-use Rattle.store_model.specs.StoreState.{StoreState}
-use Rattle.store_model.specs.Service.Descriptor.{descriptors, offsets}
+use Rattle.store_model.specs.{StoreState.StoreState, Service.Descriptor.descriptors, Service.Descriptor.offsets}
 use Rattle.store_model.specs.Service.Install.{install_pairs, pairs_of}
-use Rattle.pei_heap.specs.Linked.{IsLinked}
-use Rattle.pei_heap.specs.Pairs.{CanQueueAll}
+use Rattle.pei_heap.specs.{Linked.IsLinked, Pairs.CanQueueAll}
 use Rattle.pei_heap.proofs.Queueing.{IsLeft}
 use Rattle.pei_heap.proofs.links.pairs.push_pairs.Given as goal
 

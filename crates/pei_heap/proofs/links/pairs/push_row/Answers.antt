@@ -1,14 +1,10 @@
 use Rattle.std.proofs.Common.{◌≡◌, length, drop, ap, sym, arith, ◌∙◌}
-use Rattle.store_model.specs.declared.store_handle.DescKind.TheVariants.{Dispatch}
-use Rattle.store_model.specs.declared.store_handle.EntryList.TheVariants.{Dispatches}
-use Rattle.store_model.specs.Service.Descriptor.{descriptors}
+use Rattle.store_model.specs.{declared.store_handle.DescKind.TheVariants.Dispatch, declared.store_handle.EntryList.TheVariants.Dispatches}
+use Rattle.store_model.specs.{Service.Descriptor.descriptors, Service.Install.row_of}
 use Rattle.store_laws.specs.Items.{item_of, items}
-use Rattle.store_model.specs.Service.Install.{row_of}
-use Rattle.pei_heap.proofs.Ends.{map_len}
-use Rattle.pei_heap.proofs.Finding.{drop_all}
+use Rattle.pei_heap.proofs.{Ends.map_len, Finding.drop_all, Walking.desc_of}
 use Rattle.pei_heap.proofs.Queueing.{less_left, none_left, pair_if, stands_on}
 use Rattle.pei_heap.proofs.Rows.{dispatches_not, ready, row_at}
-use Rattle.pei_heap.proofs.Walking.{desc_of}
 use Rattle.pei_heap.proofs.links.pairs.push_row.Goals as goal
 
 pub entry_from-requires : goal.entry_from-requires

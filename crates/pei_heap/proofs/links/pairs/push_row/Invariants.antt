@@ -1,11 +1,7 @@
 use Rattle.std.proofs.Common.{drop}
-use Rattle.store_model.specs.declared.store_handle.EntryList.TheVariants.{Dispatches}
-use Rattle.store_model.specs.StoreState.{StoreState}
-use Rattle.store_model.specs.Service.Descriptor.{descriptors}
-use Rattle.pei_heap.specs.Linked.{IsLinked}
-use Rattle.pei_heap.specs.Pairs.{CanQueueRow}
+use Rattle.store_model.specs.{declared.store_handle.EntryList.TheVariants.Dispatches, StoreState.StoreState, Service.Descriptor.descriptors}
+use Rattle.pei_heap.specs.{Linked.IsLinked, Pairs.CanQueueRow, Walk.StandsAt}
 use Rattle.store_model.specs.Service.Install.{row_of}
-use Rattle.pei_heap.specs.Walk.{StandsAt}
 use Rattle.pei_heap.proofs.Queueing.{IsLeft}
 use Rattle.pei_heap.proofs.links.pairs.push_row.Given as goal
 

@@ -1,10 +1,8 @@
 use Rattle.std.proofs.Common.{◌≡◌, ◌-◌, ap, refl, ◌∙◌, arith}
 use Rattle.store_model.specs.declared.store_handle.DescKind.TheVariants.{Ppi, Dispatch}
-use Rattle.store_model.specs.declared.store_handle.EntryList.TheVariants.{Pendings}
-use Rattle.store_model.specs.HeapImage.{heap_image}
+use Rattle.store_model.specs.{declared.store_handle.EntryList.TheVariants.Pendings, HeapImage.heap_image}
 use Rattle.store_model.specs.Service.Descriptor.{guid_at, number_at}
-use Rattle.store_laws.specs.Changes.{without_first}
-use Rattle.store_laws.specs.Mapped.{layout_of}
+use Rattle.store_laws.specs.{Changes.without_first, Mapped.layout_of}
 use Rattle.pei_heap.proofs.Queue.{desc_is, first_is, first_pair, headed, no_pair, note_fits, pop_is, same_firing}
 use Rattle.pei_heap.proofs.links.popping.pop.Goals as goal
 

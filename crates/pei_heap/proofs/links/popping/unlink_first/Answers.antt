@@ -1,10 +1,7 @@
 use Rattle.std.proofs.Common.{◌≡◌, ◌-◌, length, ap, sym, ◌∙◌, arith, subst}
 use Rattle.store_model.specs.HeapImage.{heap_image}
-use Rattle.store_laws.specs.Changes.{without_first}
-use Rattle.store_laws.specs.Mapped.{layout_of}
-use Rattle.store_laws.specs.Word.{word_in}
-use Rattle.pei_heap.specs.declared.links.heads.Heads.{Heads}
-use Rattle.pei_heap.specs.Linked.{IsLinked}
+use Rattle.store_laws.specs.{Changes.without_first, Mapped.layout_of, Word.word_in}
+use Rattle.pei_heap.specs.{declared.links.heads.Heads.Heads, Linked.IsLinked}
 use Rattle.pei_heap.proofs.Queue.{first_at, first_inside, unlinked}
 use Rattle.pei_heap.proofs.links.popping.unlink_first.Goals as goal
 

@@ -1,11 +1,7 @@
 use Rattle.std.proofs.Common.{◌≡◌, ◌+◌, Some, length, ap, sym, ◌∙◌, arith, subst}
-use Rattle.store_model.specs.StoreState.{next_body}
-use Rattle.store_model.specs.HeapImage.{heap_image, links_bytes}
-use Rattle.store_model.specs.Service.Install.{with_node}
+use Rattle.store_model.specs.{StoreState.next_body, HeapImage.heap_image, HeapImage.links_bytes, Service.Install.with_node}
 use Rattle.store_laws.specs.Mapped.{layout_of}
-use Rattle.pei_heap.specs.declared.links.heads.Heads.{Heads}
-use Rattle.pei_heap.specs.Linked.{AreHeads}
-use Rattle.pei_heap.specs.NewEntry.{with_entry, with_last_node}
+use Rattle.pei_heap.specs.{declared.links.heads.Heads.Heads, Linked.AreHeads, NewEntry.with_entry, NewEntry.with_last_node}
 use Rattle.pei_heap.proofs.Ends.{few_entries, still_heads}
 use Rattle.pei_heap.proofs.Pushed.{AreLinked, node_room, pushed, tail_inside}
 use Rattle.pei_heap.proofs.links.pushing.push.Goals as goal

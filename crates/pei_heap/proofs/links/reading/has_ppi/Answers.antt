@@ -1,10 +1,7 @@
 use Rattle.std.proofs.Common.{◌+◌, drop, refl, arith}
 use Rattle.pi_base.specs.Guids.{same_guid}
-use Rattle.store_model.specs.declared.state.Entry.{Entry}
-use Rattle.store_model.specs.declared.store_handle.DescKind.TheVariants.{Ppi}
-use Rattle.store_model.specs.declared.store_handle.EntryList.TheVariants.{Ppis}
-use Rattle.store_model.specs.Service.Descriptor.{guid_at}
-use Rattle.store_model.specs.Service.Install.{has_ppi}
+use Rattle.store_model.specs.{declared.state.Entry.Entry, declared.store_handle.DescKind.TheVariants.Ppi}
+use Rattle.store_model.specs.{declared.store_handle.EntryList.TheVariants.Ppis, Service.Descriptor.guid_at, Service.Install.has_ppi}
 use Rattle.pei_heap.proofs.Finding.{any_end, any_no, any_yes, drop_all}
 use Rattle.pei_heap.proofs.Walking.{desc_of}
 use Rattle.pei_heap.proofs.links.reading.has_ppi.Goals as goal

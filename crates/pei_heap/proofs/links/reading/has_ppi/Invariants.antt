@@ -1,12 +1,9 @@
 use Rattle.std.proofs.Common.{◌≡◌, drop}
 use Rattle.std.specs.List.{list_any}
 use Rattle.pi_base.specs.Guids.{same_guid}
-use Rattle.store_model.specs.declared.store_handle.EntryList.TheVariants.{Ppis}
-use Rattle.store_model.specs.StoreState.{StoreState}
-use Rattle.store_model.specs.Service.Descriptor.{guid_at}
+use Rattle.store_model.specs.{declared.store_handle.EntryList.TheVariants.Ppis, StoreState.StoreState, Service.Descriptor.guid_at}
 use Rattle.store_model.specs.Service.Install.{has_ppi}
-use Rattle.pei_heap.specs.Linked.{IsLinked}
-use Rattle.pei_heap.specs.Walk.{StandsAt}
+use Rattle.pei_heap.specs.{Linked.IsLinked, Walk.StandsAt}
 use Rattle.pei_heap.proofs.links.reading.has_ppi.Given as goal
 
 abbrev pub invariant-ppis : goal.invariant-ppis

@@ -1,6 +1,5 @@
 use Rattle.std.proofs.Common.{refl, subst, sym}
-use Rattle.store_model.specs.HeapImage.{heap_image}
-use Rattle.store_model.specs.StoreCall.{IsNodeIn}
+use Rattle.store_model.specs.{HeapImage.heap_image, StoreCall.IsNodeIn}
 use Rattle.store_laws.specs.Mapped.{layout_of}
 use Rattle.pei_heap.specs.Walk.{IsBehind}
 use Rattle.pei_heap.proofs.Tellings.{behind_inside, behind_is}

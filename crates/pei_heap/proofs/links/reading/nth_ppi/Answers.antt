@@ -1,14 +1,9 @@
-use Rattle.std.proofs.Common.{◌+◌, drop, refl, arith, ap, ◌∙◌}
-use Rattle.std.specs.Prelude.{filter, slice_get}
+use Rattle.std.proofs.Common.{◌+◌, drop, refl, arith, ap, ◌∙◌, filter, slice_get}
 use Rattle.pi_base.specs.Guids.{same_guid}
-use Rattle.store_model.specs.declared.state.Entry.{Entry}
-use Rattle.store_model.specs.declared.store_handle.DescKind.TheVariants.{Ppi}
-use Rattle.store_model.specs.declared.store_handle.EntryList.TheVariants.{Ppis}
-use Rattle.store_model.specs.Service.Descriptor.{guid_at}
-use Rattle.store_model.specs.Service.Reading.{ppis_of}
+use Rattle.store_model.specs.{declared.state.Entry.Entry, declared.store_handle.DescKind.TheVariants.Ppi}
+use Rattle.store_model.specs.{declared.store_handle.EntryList.TheVariants.Ppis, Service.Descriptor.guid_at, Service.Reading.ppis_of}
 use Rattle.pei_heap.proofs.Finding.{drop_all, nth_end, nth_here, nth_on, nth_past}
-use Rattle.pei_heap.proofs.Tellings.{nth_none, nth_some}
-use Rattle.pei_heap.proofs.Walking.{desc_of}
+use Rattle.pei_heap.proofs.{Tellings.nth_none, Tellings.nth_some, Walking.desc_of}
 use Rattle.pei_heap.proofs.links.reading.nth_ppi.Goals as goal
 use Rattle.pei_heap.proofs.links.reading.nth_ppi.Goals.{then-has_guid+else-left-eq0, else-has_guid}
 

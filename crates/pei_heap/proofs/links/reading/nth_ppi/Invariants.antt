@@ -1,12 +1,8 @@
-use Rattle.std.proofs.Common.{◌≡◌, drop}
-use Rattle.std.specs.Prelude.{filter, slice_get}
+use Rattle.std.proofs.Common.{◌≡◌, drop, filter, slice_get}
 use Rattle.pi_base.specs.Guids.{same_guid}
-use Rattle.store_model.specs.declared.store_handle.EntryList.TheVariants.{Ppis}
-use Rattle.store_model.specs.StoreState.{StoreState}
-use Rattle.store_model.specs.Service.Descriptor.{guid_at}
+use Rattle.store_model.specs.{declared.store_handle.EntryList.TheVariants.Ppis, StoreState.StoreState, Service.Descriptor.guid_at}
 use Rattle.store_model.specs.Service.Reading.{ppis_of}
-use Rattle.pei_heap.specs.Linked.{IsLinked}
-use Rattle.pei_heap.specs.Walk.{StandsAt}
+use Rattle.pei_heap.specs.{Linked.IsLinked, Walk.StandsAt}
 use Rattle.pei_heap.proofs.links.reading.nth_ppi.Given as goal
 
 abbrev pub invariant-ppis : goal.invariant-ppis

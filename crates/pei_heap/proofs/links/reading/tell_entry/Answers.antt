@@ -1,10 +1,7 @@
-use Rattle.std.proofs.Common.{Some, ap, sym, ◌∙◌}
-use Rattle.std.specs.Prelude.{option_map}
+use Rattle.std.proofs.Common.{Some, ap, sym, ◌∙◌, option_map}
 use Rattle.store_model.specs.Service.Reading.{entry_told}
 use Rattle.pei_heap.specs.Walk.{entries_in, kind_in}
-use Rattle.pei_heap.proofs.Nth.{get_next}
-use Rattle.pei_heap.proofs.Tellings.{got_none, told_is}
-use Rattle.pei_heap.proofs.Walking.{desc_of}
+use Rattle.pei_heap.proofs.{Nth.get_next, Tellings.got_none, Tellings.told_is, Walking.desc_of}
 use Rattle.pei_heap.proofs.links.reading.tell_entry.Goals as goal
 
 pub returns-in-None : goal.returns-in-None

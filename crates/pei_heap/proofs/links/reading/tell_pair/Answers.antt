@@ -3,10 +3,8 @@ use Rattle.store_model.specs.HeapImage.{heap_image}
 use Rattle.store_model.specs.declared.store_handle.DescKind.TheVariants.{Ppi, Dispatch}
 use Rattle.store_model.specs.declared.store_handle.EntryList.TheVariants.{Pendings}
 use Rattle.store_model.specs.Service.Descriptor.{guid_at, number_at}
-use Rattle.store_laws.specs.Items.{first_address, items}
-use Rattle.store_laws.specs.Mapped.{layout_of}
-use Rattle.pei_heap.proofs.Nth.{get_next}
-use Rattle.pei_heap.proofs.Queue.{desc_is}
+use Rattle.store_laws.specs.{Items.first_address, Items.items, Mapped.layout_of}
+use Rattle.pei_heap.proofs.{Nth.get_next, Queue.desc_is}
 use Rattle.pei_heap.proofs.Tellings.{no_pending, pair_at, pair_told}
 use Rattle.pei_heap.proofs.Walking.{headed_at, item_at, none_at}
 use Rattle.pei_heap.proofs.links.reading.tell_pair.Goals as goal

@@ -1,7 +1,6 @@
 use Rattle.std.proofs.Common.{◌≡◌, ◌+◌, ◌==◌, drop, refl, sym, true, false, arith}
 use Rattle.std.proofs.lemmas.Bool.Decides.{nat_tests}
-use Rattle.store_model.specs.declared.state.Entry.{Entry}
-use Rattle.store_model.specs.declared.store_handle.EntryList.TheVariants.{Ppis}
+use Rattle.store_model.specs.{declared.state.Entry.Entry, declared.store_handle.EntryList.TheVariants.Ppis}
 use Rattle.store_model.specs.Service.Install.{is_installed, place_of}
 use Rattle.pei_heap.proofs.Finding.{any_end, any_no, any_yes, drop_all}
 use Rattle.pei_heap.proofs.Named.{installed_is, place_here, place_past}

@@ -1,10 +1,8 @@
 use Rattle.std.proofs.Common.{◌≡◌, ◌==◌, ◌+◌, drop}
 use Rattle.std.specs.List.{list_any}
-use Rattle.store_model.specs.declared.store_handle.EntryList.TheVariants.{Ppis}
-use Rattle.store_model.specs.StoreState.{StoreState}
+use Rattle.store_model.specs.{declared.store_handle.EntryList.TheVariants.Ppis, StoreState.StoreState}
 use Rattle.store_model.specs.Service.Install.{is_installed, place_of}
-use Rattle.pei_heap.specs.Linked.{IsLinked}
-use Rattle.pei_heap.specs.Walk.{StandsAt}
+use Rattle.pei_heap.specs.{Linked.IsLinked, Walk.StandsAt}
 use Rattle.pei_heap.proofs.links.renaming.find_ppi.Given as goal
 
 abbrev pub invariant-ppis : goal.invariant-ppis

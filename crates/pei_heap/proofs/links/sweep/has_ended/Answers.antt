@@ -1,5 +1,4 @@
-use Rattle.std.proofs.Common.{◌≤◌, arith}
-use Rattle.std.proofs.lemmas.Bool.Decides.{nat_tests}
+use Rattle.std.proofs.{Common.◌≤◌, Common.arith, lemmas.Bool.Decides.nat_tests}
 use Rattle.pei_heap.proofs.Matches.{no_pairs}
 use Rattle.pei_heap.proofs.links.sweep.has_ended.Goals as goal
 

@@ -1,10 +1,8 @@
 use Rattle.std.proofs.Common.{◌+◌, drop, refl, arith}
-use Rattle.store_model.specs.declared.store_handle.DescKind.TheVariants.{Callback}
-use Rattle.store_model.specs.declared.store_handle.EntryList.TheVariants.{Callbacks}
+use Rattle.store_model.specs.{declared.store_handle.DescKind.TheVariants.Callback, declared.store_handle.EntryList.TheVariants.Callbacks}
 use Rattle.store_model.specs.Service.Descriptor.{guid_at}
 use Rattle.pei_heap.proofs.Matches.{match_at, match_none, match_past, still_there}
-use Rattle.pei_heap.proofs.Nth.{get_next}
-use Rattle.pei_heap.proofs.Walking.{desc_of}
+use Rattle.pei_heap.proofs.{Nth.get_next, Walking.desc_of}
 use Rattle.pei_heap.proofs.links.sweep.match_from.Goals as goal
 
 pub returns-in-None : goal.returns-in-None

@@ -1,11 +1,7 @@
 use Rattle.std.proofs.Common.{◌≡◌, ℕ}
-use Rattle.store_model.specs.declared.store_handle.EntryList.TheVariants.{Callbacks}
-use Rattle.store_model.specs.declared.store_handle.Sweep.{Sweep}
-use Rattle.store_model.specs.StoreState.{StoreState}
-use Rattle.store_model.specs.Service.Sweep.{first_firing, pairs_with}
-use Rattle.pei_heap.specs.HeapMemory.{IsHeapOf}
-use Rattle.pei_heap.specs.Matching.{AreCallbacks, IsRow}
-use Rattle.pei_heap.specs.Walk.{StandsAt}
+use Rattle.store_model.specs.{declared.store_handle.EntryList.TheVariants.Callbacks, declared.store_handle.Sweep.Sweep}
+use Rattle.store_model.specs.{StoreState.StoreState, Service.Sweep.first_firing, Service.Sweep.pairs_with}
+use Rattle.pei_heap.specs.{HeapMemory.IsHeapOf, Matching.AreCallbacks, Matching.IsRow, Walk.StandsAt}
 use Rattle.pei_heap.proofs.links.sweep.match_from.Given as goal
 
 abbrev pub invariant-notes : goal.invariant-notes

@@ -3,9 +3,7 @@ use Rattle.store_model.specs.declared.store_handle.DescKind.TheVariants.{Ppi}
 use Rattle.store_model.specs.declared.store_handle.EntryList.TheVariants.{Callbacks, Ppis}
 use Rattle.store_model.specs.Service.Sweep.{next_match}
 use Rattle.store_laws.proofs.Sweeps.{none_here}
-use Rattle.pei_heap.proofs.Matches.{pair_fires, still_there}
-use Rattle.pei_heap.proofs.Nth.{get_next}
-use Rattle.pei_heap.proofs.Walking.{desc_of}
+use Rattle.pei_heap.proofs.{Matches.pair_fires, Matches.still_there, Nth.get_next, Walking.desc_of}
 use Rattle.pei_heap.proofs.links.sweep.next_pair.Goals as goal
 
 pub ppis-init : goal.ppis-init

@@ -1,12 +1,8 @@
 use Rattle.std.proofs.Common.{◌≡◌}
-use Rattle.store_model.specs.declared.store_handle.EntryList.TheVariants.{Ppis}
-use Rattle.store_model.specs.StoreState.{StoreState}
-use Rattle.store_model.specs.StateFacts.{IsSweepOf}
+use Rattle.store_model.specs.{declared.store_handle.EntryList.TheVariants.Ppis, StoreState.StoreState, StateFacts.IsSweepOf}
 use Rattle.store_model.specs.Service.Sweep.{first_firing, next_match, pairs_left}
 use Rattle.store_laws.specs.Sweeps.{standing}
-use Rattle.pei_heap.specs.Linked.{IsLinked}
-use Rattle.pei_heap.specs.Matching.{AreCallbacks}
-use Rattle.pei_heap.specs.Walk.{StandsAt}
+use Rattle.pei_heap.specs.{Linked.IsLinked, Matching.AreCallbacks, Walk.StandsAt}
 use Rattle.pei_heap.proofs.links.sweep.next_pair.Given as goal
 
 abbrev pub invariant-ppis : goal.invariant-ppis

@@ -1,8 +1,7 @@
 use Rattle.std.proofs.Common.{◌≡◌, length, arith, ◌∙◌}
 use Rattle.store_laws.specs.Items.{item_of, items}
 use Rattle.store_model.specs.declared.store_handle.EntryList.TheVariants.{Ppis}
-use Rattle.pei_heap.proofs.Ends.{map_len}
-use Rattle.pei_heap.proofs.Matches.{last_from}
+use Rattle.pei_heap.proofs.{Ends.map_len, Matches.last_from}
 use Rattle.pei_heap.proofs.links.sweep.ppi_address.Goals as goal
 
 pub returns-then-place-heads : goal.returns-then-place-heads

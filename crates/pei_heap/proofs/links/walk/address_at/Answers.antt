@@ -1,6 +1,5 @@
 use Rattle.store_model.specs.HeapImage.{heap_image}
-use Rattle.store_laws.specs.Items.{items}
-use Rattle.store_laws.specs.Mapped.{layout_of}
+use Rattle.store_laws.specs.{Items.items, Mapped.layout_of}
 use Rattle.pei_heap.proofs.Walking.{from_get, from_none, headed_at}
 use Rattle.pei_heap.proofs.links.walk.address_at.Goals as goal
 

@@ -1,7 +1,6 @@
 use Rattle.std.proofs.Common.{refl}
 use Rattle.store_model.specs.HeapImage.{heap_image}
-use Rattle.store_laws.specs.Items.{first_address, items}
-use Rattle.store_laws.specs.Mapped.{layout_of}
+use Rattle.store_laws.specs.{Items.first_address, Items.items, Mapped.layout_of}
 use Rattle.pei_heap.proofs.Nth.{get_next, within}
 use Rattle.pei_heap.proofs.Walking.{behind_base, headed_at, item_at, met, no_more, none_at}
 use Rattle.pei_heap.proofs.links.walk.entry_from.Goals as goal

@@ -1,5 +1,4 @@
-use Rattle.std.proofs.Common.{◌≡◌, ◌-◌, ◌++◌, ◌≤◌, ◌∙◌, List, ℕ, ap, arith, append-nil, length, subst, sym}
-use Rattle.std.specs.Prelude.{Some, flat_map}
+use Rattle.std.proofs.Common.{◌≡◌, ◌-◌, ◌++◌, ◌≤◌, ◌∙◌, List, ℕ, ap, arith, append-nil, length, subst, sym, Some, flat_map}
 use Rattle.pi_base.specs.Lists.{numbers}
 use Rattle.mod_catalog.specs.declared.limits.TheConstants.{MOST_MODULES}
 use Rattle.phase_parts.specs.Parts.{wanted_from}

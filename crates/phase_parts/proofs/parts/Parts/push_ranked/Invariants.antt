@@ -1,5 +1,4 @@
-use Rattle.std.proofs.Common.{◌≡◌, ◌-◌, ◌++◌}
-use Rattle.std.specs.Prelude.{Some, flat_map}
+use Rattle.std.proofs.Common.{◌≡◌, ◌-◌, ◌++◌, Some, flat_map}
 use Rattle.pi_base.specs.Lists.{numbers}
 use Rattle.phase_parts.specs.Parts.{wanted_from}
 use Rattle.phase_parts.proofs.parts.Parts.push_ranked.Given as goal

@@ -1,10 +1,7 @@
-use Rattle.std.proofs.Common.{◌≡◌, ◌<◌, ◌≤◌, List, ◌-◌, ◌∙◌, ap, get_or, length, subst, set}
-use Rattle.std.specs.Prelude.{reverse}
+use Rattle.std.proofs.Common.{◌≡◌, ◌<◌, ◌≤◌, List, ◌-◌, ◌∙◌, ap, get_or, length, subst, set, reverse}
 use Rattle.std.specs.List.{refill}
 use Rattle.boot_model.specs.declared.frame.Frame.{Frame}
-use Rattle.phase_parts.specs.declared.stack.Frames.TheInside.{Inside}
-use Rattle.phase_parts.specs.Frames.{answered}
-use Rattle.phase_parts.specs.Writes.{written}
+use Rattle.phase_parts.specs.{declared.stack.Frames.TheInside.Inside, Frames.answered, Writes.written}
 use Rattle.phase_parts.proofs.Topmost.{none_stands, top_changed, top_within}
 use Rattle.phase_parts.proofs.stack.Frames.answer.Goals.{in-Some, in_default}
 use Rattle.phase_parts.proofs.stack.Frames.answer.Goals as goal

@@ -1,5 +1,4 @@
-use Rattle.std.proofs.Common.{◌<◌, [], ◌∷◌, ◌∙◌, ap, sym, subst, length, arith}
-use Rattle.std.specs.Prelude.{reverse}
+use Rattle.std.proofs.Common.{◌<◌, [], ◌∷◌, ◌∙◌, ap, sym, subst, length, arith, reverse}
 use Rattle.std.proofs.lemmas.List.{length-reverse, reverse-append}
 use Rattle.phase_parts.proofs.stack.Frames.begin.Goals as goal
 

@@ -1,5 +1,4 @@
-use Rattle.std.proofs.Common.{◌∙◌, ap}
-use Rattle.std.specs.Prelude.{reverse}
+use Rattle.std.proofs.Common.{◌∙◌, ap, reverse}
 use Rattle.phase_parts.proofs.Topmost.{top_ended}
 use Rattle.phase_parts.proofs.stack.Frames.end.Goals as goal
 

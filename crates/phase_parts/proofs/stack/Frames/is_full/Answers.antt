@@ -1,5 +1,4 @@
-use Rattle.std.proofs.Common.{◌∙◌, ap, length, sym}
-use Rattle.std.specs.Prelude.{nat_le}
+use Rattle.std.proofs.Common.{◌∙◌, ap, length, sym, nat_le}
 use Rattle.std.proofs.lemmas.List.{length-reverse}
 use Rattle.phase_parts.proofs.Room.{as_many_stand}
 use Rattle.phase_parts.proofs.stack.Frames.is_full.Goals as goal

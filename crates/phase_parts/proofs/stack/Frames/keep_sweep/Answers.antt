@@ -1,5 +1,4 @@
-use Rattle.std.proofs.Common.{◌≡◌, ◌<◌, ◌≤◌, List, ◌-◌, ◌∙◌, Some, ap, get_or, length, set, subst}
-use Rattle.std.specs.Prelude.{reverse}
+use Rattle.std.proofs.Common.{◌≡◌, ◌<◌, ◌≤◌, List, ◌-◌, ◌∙◌, Some, ap, get_or, length, set, subst, reverse}
 use Rattle.std.specs.List.{refill}
 use Rattle.boot_model.specs.declared.frame.Frame.{Frame}
 use Rattle.phase_parts.specs.declared.stack.Frames.TheInside.{Inside}

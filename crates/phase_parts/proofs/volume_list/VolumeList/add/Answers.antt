@@ -1,12 +1,8 @@
-use Rattle.std.proofs.Common.{◌≡◌, ◌<◌, ◌++◌, ℕ, List, Option, length, sym, ◌∙◌, subst, ap}
-use Rattle.std.specs.Prelude.{IfSome}
+use Rattle.std.proofs.Common.{◌≡◌, ◌<◌, ◌++◌, ℕ, List, Option, length, sym, ◌∙◌, subst, ap, IfSome}
 use Rattle.boot_model.specs.Reporting.{newcomers}
-use Rattle.mod_catalog.specs.declared.catalogue.Catalog.{Catalog}
-use Rattle.mod_catalog.specs.Parts.{family}
-use Rattle.mod_catalog.specs.WellFormed.{IsWellFormed}
+use Rattle.mod_catalog.specs.{declared.catalogue.Catalog.Catalog, Parts.family, WellFormed.IsWellFormed}
 use Rattle.phase_parts.specs.Known.{AreInCatalog, AreKnown, MayCome, with_new}
-use Rattle.phase_parts.proofs.Families.{family_differs, family_in_catalog}
-use Rattle.phase_parts.proofs.Newcomers.{new_family}
+use Rattle.phase_parts.proofs.{Families.family_differs, Families.family_in_catalog, Newcomers.new_family}
 use Rattle.phase_parts.proofs.volume_list.VolumeList.add.Goals as goal
 
 may_come : (catalog : Catalog) (list numbers : List ℕ) (number : ℕ) → IsWellFormed catalog → AreKnown catalog list → number < length catalog.volumes → numbers ≡ family catalog number

@@ -1,9 +1,7 @@
 use Rattle.std.proofs.Common.{◌≡◌, drop}
 use Rattle.pi_base.specs.Lists.{Each}
-use Rattle.store_model.specs.StateFacts.{IsDesc}
-use Rattle.store_model.specs.Service.{OfEach}
-use Rattle.phase_parts.specs.Known.{AreKnown}
-use Rattle.phase_parts.specs.Reported.{with_reports}
+use Rattle.store_model.specs.{StateFacts.IsDesc, Service.OfEach}
+use Rattle.phase_parts.specs.{Known.AreKnown, Reported.with_reports}
 use Rattle.phase_parts.proofs.volume_list.VolumeList.report.Given as goal
 
 -- the volumes so far, and those that the PPIs left tell of, make the whole

@@ -1,6 +1,5 @@
-use Rattle.std.proofs.Common.{subst}
+use Rattle.std.proofs.Common.{subst, nat_cmp}
 use Rattle.std.specs.BTreeMap.{insert_entry}
-use Rattle.std.specs.Ordering.{nat_cmp}
 use Rattle.pi_base.specs.GuidMap.{entries_of, IsPut}
 use Rattle.pi_base.proofs.Numbered.{put, stands}
 use Rattle.pi_base.proofs.guid_map.GuidMap.insert.Goals as goal

@@ -2,8 +2,7 @@ use Rattle.std.proofs.Common.{Some, subst, sym, ◌∙◌}
 use Rattle.boot_model.specs.declared.phase_end.PeiEnd.{PeiEnd}
 use Rattle.store_model.specs.HandleState.{HandleState}
 use Rattle.recorded_boot.specs.Behind.{FinishesTo, FollowsBehind}
-use Rattle.recorded_boot.proofs.PeiOrder.{OrderBoot}
-use Rattle.recorded_boot.proofs.Calls.{handed_off, pei_closes}
+use Rattle.recorded_boot.proofs.{PeiOrder.OrderBoot, Calls.handed_off, Calls.pei_closes}
 use Rattle.recorded_boot.proofs.follow.following.follow_behind.Goals as goal
 
 pub follow_drivers-requires-clause-state : goal.follow_drivers-requires-clause-state

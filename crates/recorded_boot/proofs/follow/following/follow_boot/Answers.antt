@@ -3,8 +3,7 @@ use Rattle.pi_base.specs.declared.phase.Phase.TheVariants.{Pei}
 use Rattle.pei_dispatch.specs.Choices.{NamesPeims}
 use Rattle.recorded_boot.specs.ByOrder.{NamesBy}
 use Rattle.recorded_boot.proofs.PeiOrder.{OrderBoot, PeiBar, lets_peim, opening, peims}
-use Rattle.recorded_boot.proofs.Calls.{pei_stays}
-use Rattle.recorded_boot.proofs.OrderRuns.{due_of, run_of}
+use Rattle.recorded_boot.proofs.{Calls.pei_stays, OrderRuns.due_of, OrderRuns.run_of}
 use Rattle.recorded_boot.proofs.follow.following.follow_boot.Goals as goal
 
 pub boot_pei-requires-clause-opening : goal.boot_pei-requires-clause-opening

@@ -3,8 +3,7 @@ use Rattle.boot_model.specs.DxeRun.{dxe_opening}
 use Rattle.pei_dispatch.specs.Ends.{pei_starts}
 use Rattle.recorded_boot.specs.Drivers.{HasRun, let_by, named_by}
 use Rattle.recorded_boot.proofs.PeiOrder.{OrderBoot, along, comes}
-use Rattle.recorded_boot.proofs.DxeOrder.{Handed}
-use Rattle.recorded_boot.proofs.Calls.{counts, dxe_finishes}
+use Rattle.recorded_boot.proofs.{DxeOrder.Handed, Calls.counts, Calls.dxe_finishes}
 use Rattle.recorded_boot.proofs.follow.following.follow_drivers.Goals as goal
 
 pub run_drivers-requires-clause-state : goal.run_drivers-requires-clause-state

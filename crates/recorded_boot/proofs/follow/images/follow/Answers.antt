@@ -1,6 +1,5 @@
 use Rattle.std.proofs.Common.{subst}
-use Rattle.mod_catalog.specs.Catalogue.{IsCatalogue}
-use Rattle.mod_catalog.specs.ImageFault.{IsImageFault}
+use Rattle.mod_catalog.specs.{Catalogue.IsCatalogue, ImageFault.IsImageFault}
 use Rattle.boot_core.proofs.SomeVolume.{some_volume}
 use Rattle.recorded_boot.proofs.Faults.{told_fault}
 use Rattle.recorded_boot.proofs.follow.images.follow.Goals as goal

@@ -1,7 +1,6 @@
 use Rattle.std.proofs.Common.{◌≡◌, [], IfOk, List, subst, ◌∙◌, ap}
 use Rattle.pi_base.specs.declared.guid.Guid.{Guid}
-use Rattle.recorded_boot.specs.Against.{is_installed}
-use Rattle.recorded_boot.specs.Code.{lacking_from}
+use Rattle.recorded_boot.specs.{Against.is_installed, Code.lacking_from}
 use Rattle.recorded_boot.proofs.Pushing.{lacking_is}
 use Rattle.recorded_boot.proofs.follow.lacking.lacking.Goals as goal
 

@@ -2,8 +2,7 @@ use Rattle.std.proofs.Common.{◌≡◌, ◌≤◌, ◌-◌, arith, Bool, List, 
 use Rattle.std.proofs.Math.Seq.{take-length}
 use Rattle.pi_base.specs.declared.guid.Guid.{Guid}
 use Rattle.depex_code.specs.declared.opcode.Opcode.{Opcode}
-use Rattle.recorded_boot.specs.Against.{is_installed}
-use Rattle.recorded_boot.specs.Code.{lacking_from, more_lacking}
+use Rattle.recorded_boot.specs.{Against.is_installed, Code.lacking_from, Code.more_lacking}
 use Rattle.recorded_boot.proofs.follow.lacking.lacking_in.Goals as goal
 
 -- one opcode on

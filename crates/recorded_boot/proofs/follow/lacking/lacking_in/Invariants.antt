@@ -1,7 +1,6 @@
 use Rattle.std.proofs.Common.{◌≡◌, [], length}
 use Rattle.store_model.specs.StoreState.{StoreState}
-use Rattle.recorded_boot.specs.Against.{is_installed}
-use Rattle.recorded_boot.specs.Code.{lacking_from}
+use Rattle.recorded_boot.specs.{Against.is_installed, Code.lacking_from}
 use Rattle.recorded_boot.proofs.follow.lacking.lacking_in.Given as goal
 
 -- what was found, with what the opcodes that are left add, is the whole

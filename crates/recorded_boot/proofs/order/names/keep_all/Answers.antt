@@ -1,11 +1,8 @@
 use Rattle.std.proofs.Common.{◌≡◌, ◌<◌, ◌+◌, ℕ, zero, suc, List, [], ◌∷◌, Some, Err, length, get_or, refl, sym, ap, subst, arith, slice_get}
-use Rattle.std.proofs.lemmas.Result.{err_from_is_err_and}
-use Rattle.std.proofs.lemmas.Option.{slice_get_read}
+use Rattle.std.proofs.{lemmas.Result.err_from_is_err_and, lemmas.Option.slice_get_read}
 use Rattle.pi_base.specs.Lists.{Each}
-use Rattle.mod_catalog.specs.declared.catalogue.Catalog.{Catalog}
-use Rattle.mod_catalog.specs.declared.catalogue.Module.{Module}
-use Rattle.recorded_boot.specs.declared.order.names.NamesFault.{NamesFault}
-use Rattle.recorded_boot.specs.Named.{AreNames, IsFirstWithTwins}
+use Rattle.mod_catalog.specs.{declared.catalogue.Catalog.Catalog, declared.catalogue.Module.Module}
+use Rattle.recorded_boot.specs.{declared.order.names.NamesFault.NamesFault, Named.AreNames, Named.IsFirstWithTwins}
 use Rattle.recorded_boot.specs.Taking.{Fails, IsKept}
 use Rattle.recorded_boot.proofs.Building.{no_twins, none_named, refused, one_more_named}
 use Rattle.recorded_boot.proofs.order.names.keep_all.Goals as goal

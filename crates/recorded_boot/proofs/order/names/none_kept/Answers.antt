@@ -1,6 +1,5 @@
 use Rattle.std.proofs.Common.{◌≡◌, ◌+◌, ℕ, Bool, true, if◌then◌else◌, List, [], ◌∷◌, ◌++◌, length, length-append, sym, ap, subst, ◌∙◌}
-use Rattle.pi_base.specs.declared.guid.Guid.{Guid}
-use Rattle.pi_base.specs.Lists.{Each}
+use Rattle.pi_base.specs.{declared.guid.Guid.Guid, Lists.Each}
 use Rattle.pi_base.proofs.ListFacts.{each_append}
 use Rattle.recorded_boot.specs.Taking.{NoneIsKept}
 use Rattle.recorded_boot.proofs.order.names.none_kept.Goals as goal

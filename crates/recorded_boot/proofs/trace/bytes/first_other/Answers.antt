@@ -1,6 +1,5 @@
 use Rattle.std.proofs.Common.{length, drop, ◌∙◌, arith}
-use Rattle.std.proofs.lemmas.Bool.Decides.{Decides-eqb}
-use Rattle.std.proofs.lemmas.Slice.Eq.{starts_is}
+use Rattle.std.proofs.{lemmas.Bool.Decides.Decides-eqb, lemmas.Slice.Eq.starts_is}
 use Rattle.recorded_boot.proofs.Places.{all_same, get_there, place_within, same_on}
 use Rattle.recorded_boot.proofs.trace.bytes.first_other.Goals as goal
 

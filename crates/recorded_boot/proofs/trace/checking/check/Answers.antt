@@ -1,12 +1,9 @@
 use Rattle.std.proofs.Common.{◌≢◌, ℕ, List, Err, sym, subst}
 use Rattle.boot_plan.specs.declared.plan.Plan.{Plan}
 use Rattle.mod_catalog.specs.declared.image_fault.ImageCause.TheVariants as I
-use Rattle.mod_catalog.specs.declared.image_fault.ImageFault.{ImageFault}
-use Rattle.mod_catalog.specs.Catalogue.{IsCatalogue}
-use Rattle.mod_catalog.specs.ImageFault.{IsImageFault}
-use Rattle.recorded_boot.specs.declared.trace.checking.CheckFault.{CheckFault}
+use Rattle.mod_catalog.specs.{declared.image_fault.ImageFault.ImageFault, Catalogue.IsCatalogue, ImageFault.IsImageFault}
+use Rattle.recorded_boot.specs.{declared.trace.checking.CheckFault.CheckFault, Checking.Checks, Checking.IsFaultTold}
 use Rattle.recorded_boot.specs.declared.trace.checking.CheckFault.TheVariants.{Image, Twins, Memory}
-use Rattle.recorded_boot.specs.Checking.{Checks, IsFaultTold}
 use Rattle.boot_core.proofs.SomeVolume.{some_volume}
 use Rattle.recorded_boot.proofs.trace.checking.check.Goals as goal
 

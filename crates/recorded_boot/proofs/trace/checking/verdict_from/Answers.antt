@@ -1,10 +1,8 @@
 use Rattle.std.proofs.Common.{◌<◌, ◌≤◌, ◌^◌, ◌-◌, ℕ, List, length, Result, Ok, Err, arith, subst, sym}
-use Rattle.boot_model.specs.FreeRun.{AreFreeLines}
-use Rattle.boot_model.specs.declared.line.Line.{Line}
+use Rattle.boot_model.specs.{FreeRun.AreFreeLines, declared.line.Line.Line}
 use Rattle.recorded_boot.specs.declared.trace.parted.Parted.{Parted}
 use Rattle.recorded_boot.specs.declared.trace.parted.Parted.TheVariants.{Off, Memory}
-use Rattle.recorded_boot.specs.declared.trace.spelled.Spelled.{Spelled}
-use Rattle.recorded_boot.specs.FollowingText.{Follows, IsShort}
+use Rattle.recorded_boot.specs.{declared.trace.spelled.Spelled.Spelled, FollowingText.Follows, FollowingText.IsShort}
 use Rattle.recorded_boot.proofs.trace.checking.verdict_from.Goals as goal
 
 -- what was followed along is the text

@@ -1,7 +1,5 @@
 use Rattle.dxe_dispatch.proofs.Chosen.{StepLaws}
-use Rattle.recorded_boot.proofs.Going.{Laws}
-use Rattle.recorded_boot.proofs.TextRuns.{TextRun}
-use Rattle.recorded_boot.proofs.WholeTexts.{TextBoot, text_follows}
+use Rattle.recorded_boot.proofs.{Going.Laws, TextRuns.TextRun, WholeTexts.TextBoot, WholeTexts.text_follows}
 use Rattle.recorded_boot.proofs.trace.following.follow_boot.Goals as goal
 
 pub boot_by_choice-booted-requires-clause-opening : goal.boot_by_choice-booted-requires-clause-opening

@@ -1,6 +1,5 @@
 use Rattle.std.proofs.Common.{◌≡◌, Some, ap, sym, ◌∙◌}
-use Rattle.recorded_boot.specs.Starts.{start_of}
-use Rattle.recorded_boot.specs.declared.order.line.Start.{Start}
+use Rattle.recorded_boot.specs.{Starts.start_of, declared.order.line.Start.Start}
 use Rattle.recorded_boot.proofs.Reading.{start_told}
 use Rattle.recorded_boot.proofs.trace.text_start.module_start.Goals as goal
 

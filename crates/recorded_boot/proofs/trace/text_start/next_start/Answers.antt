@@ -1,5 +1,4 @@
-use Rattle.recorded_boot.specs.Spelled.{left}
-use Rattle.recorded_boot.specs.StartLine.{phase_start}
+use Rattle.recorded_boot.specs.{Spelled.left, StartLine.phase_start}
 use Rattle.recorded_boot.proofs.Reading.{line_of_next, line_there}
 use Rattle.recorded_boot.proofs.trace.text_start.next_start.Goals as goal
 

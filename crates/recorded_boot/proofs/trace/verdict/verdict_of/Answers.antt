@@ -1,11 +1,8 @@
 use Rattle.std.proofs.Common.{◌≢◌, List, sym, ◌∙◌, subst}
 use Rattle.boot_io.specs.Faults.{IsPrefix}
-use Rattle.boot_model.specs.FreeRun.{AreFreeLines}
-use Rattle.boot_model.specs.declared.line.Line.{Line}
-use Rattle.recorded_boot.specs.Spelled.{met, whole}
-use Rattle.recorded_boot.proofs.Telling.{met_begins}
-use Rattle.recorded_boot.specs.Verdict.{IsFirstOff}
-use Rattle.recorded_boot.proofs.FirstOff.{off_at_its_line, off_behind_the_whole}
+use Rattle.boot_model.specs.{FreeRun.AreFreeLines, declared.line.Line.Line}
+use Rattle.recorded_boot.specs.{Spelled.met, Spelled.whole, Verdict.IsFirstOff}
+use Rattle.recorded_boot.proofs.{Telling.met_begins, FirstOff.off_at_its_line, FirstOff.off_behind_the_whole}
 use Rattle.recorded_boot.proofs.trace.verdict.verdict_of.Goals as goal
 
 pub returns-in-Ok-2 : goal.returns-in-Ok-2

@@ -1,8 +1,5 @@
 use Rattle.std.proofs.Common.{◌≡◌, zero, ◌+◌, ◌≤◌, ◌++◌, [], length}
-use Rattle.source_words.specs.declared.depex.walk.Stage.TheVariants.{Due}
-use Rattle.source_words.specs.Tokens.{tokens}
-use Rattle.source_words.specs.Cause.{tree_cause}
-use Rattle.source_words.specs.Emission.{emitted}
+use Rattle.source_words.specs.{declared.depex.walk.Stage.TheVariants.Due, Tokens.tokens, Cause.tree_cause, Emission.emitted}
 use Rattle.source_words.proofs.depex.tree.code_of.Given as goal
 
 -- the words so far are gone through

@@ -1,7 +1,5 @@
-use Rattle.std.proofs.Common.{◌≡◌, ◌∙◌, ◌∷◌, [], ◌-◌, ◌<◌, ap, sym, arith, length}
-use Rattle.std.proofs.lemmas.List.{length-append}
-use Rattle.source_words.specs.Operands.{registers_within}
-use Rattle.source_words.specs.Words.{words}
+use Rattle.std.proofs.Common.{◌≡◌, ◌∙◌, ◌∷◌, [], ◌-◌, ◌<◌, ap, sym, arith, length, length-append}
+use Rattle.source_words.specs.{Operands.registers_within, Words.words}
 use Rattle.source_words.proofs.RegisterLists.{in_front, first_step, no_step, too_many, all_read}
 use Rattle.source_words.proofs.script.list.few_registers.Goals as goal
 

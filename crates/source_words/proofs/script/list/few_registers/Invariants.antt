@@ -1,6 +1,5 @@
 use Rattle.std.proofs.Common.{◌≡◌, ◌-◌, ◌≤◌, length}
-use Rattle.source_words.specs.Words.{words}
-use Rattle.source_words.specs.Operands.{registers_within}
+use Rattle.source_words.specs.{Words.words, Operands.registers_within}
 use Rattle.source_words.proofs.RegisterLists.{in_front}
 use Rattle.source_words.proofs.script.list.few_registers.Given as goal
 

@@ -1,7 +1,4 @@
-use Rattle.store_laws.proofs.Popping.{pairs_are_popped}
-use Rattle.store_laws.proofs.Renaming.{ppis_are_renamed}
-use Rattle.store_laws.proofs.Pools.{pools_are_written}
-use Rattle.store_laws.proofs.BootMode.{boot_modes_are_written}
+use Rattle.store_laws.proofs.{Popping.pairs_are_popped, Renaming.ppis_are_renamed, Pools.pools_are_written, BootMode.boot_modes_are_written}
 use Rattle.store_laws.proofs.heap.change_laws.bodies_changed.Goals as goal
 
 pub returns : goal.returns

@@ -1,6 +1,4 @@
-use Rattle.store_laws.proofs.Front.{first_images}
-use Rattle.store_laws.proofs.Linking.{nodes_are_texts}
-use Rattle.store_laws.proofs.Padding.{hobs_are_added}
+use Rattle.store_laws.proofs.{Front.first_images, Linking.nodes_are_texts, Padding.hobs_are_added}
 use Rattle.store_laws.proofs.heap.hob_laws.hobs_added.Goals as goal
 
 pub returns : goal.returns

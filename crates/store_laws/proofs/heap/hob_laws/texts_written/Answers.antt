@@ -1,5 +1,4 @@
-use Rattle.store_laws.proofs.Skipping.{writes_are_joined}
-use Rattle.store_laws.proofs.Padding.{tails_are_zero}
+use Rattle.store_laws.proofs.{Skipping.writes_are_joined, Padding.tails_are_zero}
 use Rattle.store_laws.proofs.heap.hob_laws.texts_written.Goals as goal
 
 pub returns : goal.returns

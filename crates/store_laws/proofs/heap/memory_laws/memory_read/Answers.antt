@@ -1,6 +1,4 @@
-use Rattle.store_laws.proofs.Outside.{roms_are_apart}
-use Rattle.store_laws.proofs.Peeking.{memory_is_read}
-use Rattle.store_laws.proofs.Words.{first_memories, heaps_are_read}
+use Rattle.store_laws.proofs.{Outside.roms_are_apart, Peeking.memory_is_read, Words.first_memories, Words.heaps_are_read}
 use Rattle.store_laws.proofs.heap.memory_laws.memory_read.Goals as goal
 
 pub returns : goal.returns

@@ -1,5 +1,4 @@
-use Rattle.store_laws.proofs.HeapHobs.{hobs_are_told, hob_places_are_inside}
-use Rattle.store_laws.proofs.Volumes.{volumes_are_told}
+use Rattle.store_laws.proofs.{HeapHobs.hobs_are_told, HeapHobs.hob_places_are_inside, Volumes.volumes_are_told}
 use Rattle.store_laws.proofs.heap.read_laws.hobs_told.Goals as goal
 
 pub returns : goal.returns

@@ -1,6 +1,5 @@
 use Rattle.store_laws.proofs.Nodes.{next_is_read, descriptor_is_read, second_is_read, number_is_read, nodes_are_inside}
-use Rattle.store_laws.proofs.Chains.{chains_are_lists}
-use Rattle.store_laws.proofs.Short.{lists_are_short}
+use Rattle.store_laws.proofs.{Chains.chains_are_lists, Short.lists_are_short}
 use Rattle.store_laws.proofs.heap.read_laws.nodes_read.Goals as goal
 
 pub returns : goal.returns

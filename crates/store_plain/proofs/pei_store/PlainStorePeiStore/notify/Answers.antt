@@ -1,6 +1,5 @@
 use Rattle.pi_base.specs.Lists.{Each}
-use Rattle.store_model.specs.StateFacts.{IsDesc}
-use Rattle.store_model.specs.Service.Notify.{notify}
+use Rattle.store_model.specs.{StateFacts.IsDesc, Service.Notify.notify}
 use Rattle.store_laws.proofs.Services.{all_keep}
 use Rattle.store_plain.proofs.Rows.{row_with}
 use Rattle.store_plain.proofs.pei_store.PlainStorePeiStore.notify.Goals as goal

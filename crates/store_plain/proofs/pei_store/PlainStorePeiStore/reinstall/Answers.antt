@@ -1,5 +1,4 @@
-use Rattle.store_model.specs.StateFacts.{IsDesc}
-use Rattle.store_model.specs.Service.Install.{reinstall}
+use Rattle.store_model.specs.{StateFacts.IsDesc, Service.Install.reinstall}
 use Rattle.store_laws.proofs.Services.{all_keep}
 use Rattle.store_plain.proofs.Rows.{row_with}
 use Rattle.store_plain.proofs.pei_store.PlainStorePeiStore.reinstall.Goals as goal

@@ -1,7 +1,6 @@
 use Rattle.std.proofs.Common.{◌≡◌, ◌+◌, drop, length, subst, ◌∙◌, arith}
 use Rattle.store_model.specs.Service.Notify.{with_note}
-use Rattle.store_plain.specs.PlainState.{state_of}
-use Rattle.store_plain.specs.Nodes.{HasNodes, HasEntries}
+use Rattle.store_plain.specs.{PlainState.state_of, Nodes.HasNodes, Nodes.HasEntries}
 use Rattle.store_plain.proofs.Folds.{fold_on, one_less, none_less}
 use Rattle.store_plain.proofs.store.PlainStore.add_notes.Goals as goal
 

@@ -1,8 +1,6 @@
-use Rattle.std.proofs.Common.{◌≡◌, ℕ, ◌+◌, drop, length}
-use Rattle.std.specs.Prelude.{fold}
+use Rattle.std.proofs.Common.{◌≡◌, ℕ, ◌+◌, drop, length, fold}
 use Rattle.store_model.specs.Service.Notify.{with_note}
-use Rattle.store_plain.specs.PlainState.{state_of}
-use Rattle.store_plain.specs.Nodes.{HasNodes, HasEntries}
+use Rattle.store_plain.specs.{PlainState.state_of, Nodes.HasNodes, Nodes.HasEntries}
 use Rattle.store_plain.proofs.store.PlainStore.add_notes.Given as goal
 
 abbrev pub invariant-descs : goal.invariant-descs

@@ -1,8 +1,6 @@
-use Rattle.std.proofs.Common.{◌≡◌, ◌+◌, ◌≤◌, drop, length}
-use Rattle.std.specs.Prelude.{fold, vec_len, vec_capacity}
+use Rattle.std.proofs.Common.{◌≡◌, ◌+◌, ◌≤◌, drop, length, fold, vec_len, vec_capacity}
 use Rattle.store_model.specs.Service.Install.{with_pending}
-use Rattle.store_plain.specs.PlainState.{state_of}
-use Rattle.store_plain.specs.Nodes.{HasNodes}
+use Rattle.store_plain.specs.{PlainState.state_of, Nodes.HasNodes}
 use Rattle.store_plain.proofs.store.PlainStore.add_pendings.Given as goal
 
 abbrev pub invariant-pairs : goal.invariant-pairs

@@ -1,7 +1,6 @@
 use Rattle.std.proofs.Common.{◌≡◌, ◌+◌, drop, length, subst, ◌∙◌, arith}
 use Rattle.store_model.specs.Service.Install.{with_ppi}
-use Rattle.store_plain.specs.PlainState.{state_of}
-use Rattle.store_plain.specs.Nodes.{HasNodes}
+use Rattle.store_plain.specs.{PlainState.state_of, Nodes.HasNodes}
 use Rattle.store_plain.proofs.Folds.{fold_on, one_less, none_less}
 use Rattle.store_plain.proofs.store.PlainStore.add_ppis.Goals as goal
 

@@ -1,9 +1,7 @@
 use Rattle.std.proofs.Common.{ap, ◌∙◌, replicate}
-use Rattle.hob_codec.specs.HobValue.{AllocationHob}
-use Rattle.hob_codec.specs.HobBytes.{joined, fields_of}
+use Rattle.hob_codec.specs.{HobValue.AllocationHob, HobBytes.joined, HobBytes.fields_of}
 use Rattle.store_model.specs.HeapImage.{body_bytes}
-use Rattle.store_plain.specs.PlainState.{state_of}
-use Rattle.store_plain.specs.Peeking.{byte_of}
+use Rattle.store_plain.specs.{PlainState.state_of, Peeking.byte_of}
 use Rattle.store_plain.proofs.store.PlainStore.body_byte.Goals as goal
 
 pub returns-in-Allocation : goal.returns-in-Allocation

@@ -1,5 +1,4 @@
-use Rattle.std.proofs.Common.{◌≡◌, ◌+◌, drop}
-use Rattle.std.specs.Prelude.{sum_by}
+use Rattle.std.proofs.Common.{◌≡◌, ◌+◌, drop, sum_by}
 use Rattle.store_model.specs.StoreState.{hob_len, body_from}
 use Rattle.store_plain.proofs.store.PlainStore.descriptor_at.Given as goal
 

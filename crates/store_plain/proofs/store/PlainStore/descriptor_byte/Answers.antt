@@ -1,6 +1,5 @@
 use Rattle.std.proofs.Common.{ap, ◌∙◌, ◌++◌}
-use Rattle.store_plain.specs.Peeking.{byte_of}
-use Rattle.store_plain.specs.Words.{words_bytes}
+use Rattle.store_plain.specs.{Peeking.byte_of, Words.words_bytes}
 use Rattle.store_plain.proofs.Heap.{long_is, short_is}
 use Rattle.store_plain.proofs.store.PlainStore.descriptor_byte.Goals as goal
 

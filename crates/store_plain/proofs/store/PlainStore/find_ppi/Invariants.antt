@@ -1,5 +1,4 @@
-use Rattle.std.proofs.Common.{◌≡◌, drop}
-use Rattle.std.specs.Prelude.{filter, slice_get}
+use Rattle.std.proofs.Common.{◌≡◌, drop, filter, slice_get}
 use Rattle.pi_base.specs.Guids.{same_guid}
 use Rattle.store_model.specs.Service.Descriptor.{guid_at}
 use Rattle.store_plain.specs.PlainState.{state_of}

@@ -1,6 +1,5 @@
 use Rattle.std.proofs.Common.{ap, ◌∙◌}
-use Rattle.hob_codec.specs.HobValue.{HandoffHob}
-use Rattle.hob_codec.specs.HobBytes.{hob_bytes}
+use Rattle.hob_codec.specs.{HobValue.HandoffHob, HobBytes.hob_bytes}
 use Rattle.store_plain.specs.Peeking.{byte_of}
 use Rattle.store_plain.proofs.store.PlainStore.handoff_byte.Goals as goal
 

@@ -1,11 +1,8 @@
 use Rattle.std.proofs.Common.{◌≡◌, ◌<◌, ◌+◌, ◌-◌, ◌++◌, drop, get_or, length, subst, ap, sym, ◌∙◌, arith}
-use Rattle.store_model.specs.StoreState.{hob_len}
-use Rattle.store_model.specs.HeapImage.{hobs_bytes, header_bytes}
-use Rattle.store_plain.specs.PlainState.{state_of}
-use Rattle.store_plain.specs.Peeking.{byte_of}
+use Rattle.store_model.specs.{StoreState.hob_len, HeapImage.hobs_bytes, HeapImage.header_bytes}
+use Rattle.store_plain.specs.{PlainState.state_of, Peeking.byte_of}
 use Rattle.store_laws.specs.Fitting.{IsSpelled}
-use Rattle.store_laws.proofs.Fits.{all_fit}
-use Rattle.store_laws.proofs.Items.{each_place}
+use Rattle.store_laws.proofs.{Fits.all_fit, Items.each_place}
 use Rattle.store_plain.proofs.Heap.{byte_here, byte_later, sum_is}
 use Rattle.store_plain.proofs.store.PlainStore.hobs_byte.Goals as goal
 

@@ -1,9 +1,6 @@
-use Rattle.std.proofs.Common.{◌≡◌, ◌+◌, ◌-◌, ◌++◌, ◌≤◌, drop}
-use Rattle.std.specs.Prelude.{sum_by}
-use Rattle.store_model.specs.StoreState.{hob_len}
-use Rattle.store_model.specs.HeapImage.{hobs_bytes, header_bytes}
-use Rattle.store_plain.specs.PlainState.{state_of}
-use Rattle.store_plain.specs.Peeking.{byte_of}
+use Rattle.std.proofs.Common.{◌≡◌, ◌+◌, ◌-◌, ◌++◌, ◌≤◌, drop, sum_by}
+use Rattle.store_model.specs.{StoreState.hob_len, HeapImage.hobs_bytes, HeapImage.header_bytes}
+use Rattle.store_plain.specs.{PlainState.state_of, Peeking.byte_of}
 use Rattle.store_plain.proofs.store.PlainStore.hobs_byte.Given as goal
 
 abbrev pub invariant-hobs : goal.invariant-hobs

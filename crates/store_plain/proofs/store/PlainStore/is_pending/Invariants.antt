@@ -1,5 +1,4 @@
-use Rattle.std.proofs.Common.{◌≡◌, ◌==◌, drop}
-use Rattle.std.specs.Prelude.{◌||◌}
+use Rattle.std.proofs.Common.{◌≡◌, ◌==◌, drop, ◌||◌}
 use Rattle.std.specs.List.{list_any}
 use Rattle.store_plain.proofs.store.PlainStore.is_pending.Given as goal
 

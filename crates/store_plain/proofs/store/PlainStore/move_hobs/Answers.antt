@@ -1,7 +1,5 @@
-use Rattle.std.proofs.Common.{◌≡◌, ◌+◌, ◌++◌, take, drop, length, get_or, ap, ◌∙◌, arith, length-set}
-use Rattle.std.specs.Prelude.{slice_set, sum_by}
-use Rattle.store_model.specs.StoreState.{hob_len, range_of}
-use Rattle.store_model.specs.Migration.{moved_body, moved_hobs}
+use Rattle.std.proofs.Common.{◌≡◌, ◌+◌, ◌++◌, take, drop, length, get_or, ap, ◌∙◌, arith, length-set, slice_set, sum_by}
+use Rattle.store_model.specs.{StoreState.hob_len, StoreState.range_of, Migration.moved_body, Migration.moved_hobs}
 use Rattle.store_plain.specs.PlainState.{state_of}
 use Rattle.store_plain.proofs.Moves.{moved_like, moved_more, rest_sum, same_then}
 use Rattle.store_plain.proofs.store.PlainStore.move_hobs.Goals as goal

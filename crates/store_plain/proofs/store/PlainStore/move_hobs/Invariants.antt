@@ -1,9 +1,6 @@
-use Rattle.std.proofs.Common.{◌≡◌, ◌+◌, ◌++◌, drop, take, length}
-use Rattle.std.specs.Prelude.{sum_by}
-use Rattle.store_model.specs.StoreState.{hob_len, range_of}
-use Rattle.store_model.specs.Migration.{moved_hobs}
-use Rattle.store_plain.specs.PlainState.{state_of}
-use Rattle.store_plain.specs.Moves.{SameLists}
+use Rattle.std.proofs.Common.{◌≡◌, ◌+◌, ◌++◌, drop, take, length, sum_by}
+use Rattle.store_model.specs.{StoreState.hob_len, StoreState.range_of, Migration.moved_hobs}
+use Rattle.store_plain.specs.{PlainState.state_of, Moves.SameLists}
 use Rattle.store_plain.proofs.store.PlainStore.move_hobs.Given as goal
 
 abbrev pub invariant-hobs : goal.invariant-hobs

@@ -1,9 +1,7 @@
 use Rattle.std.proofs.Common.{◌+◌, ◌<◌, length, ap, ◌∙◌, arith, Some, sym}
-use Rattle.store_model.specs.declared.store_handle.Firing.{Firing}
-use Rattle.store_model.specs.declared.store_handle.Sweep.{Sweep}
+use Rattle.store_model.specs.{declared.store_handle.Firing.Firing, declared.store_handle.Sweep.Sweep}
 use Rattle.store_plain.specs.PlainState.{state_of}
-use Rattle.store_laws.proofs.Named.{callback_is_entry}
-use Rattle.store_laws.proofs.Sweeps.{got, fires_at}
+use Rattle.store_laws.proofs.{Named.callback_is_entry, Sweeps.got, Sweeps.fires_at}
 use Rattle.store_plain.proofs.store.PlainStore.next_firing.Goals as goal
 
 pub firing-requires-clause-entry : goal.firing-requires-clause-entry

@@ -1,8 +1,6 @@
-use Rattle.std.proofs.Common.{◌≡◌, ◌+◌, drop}
+use Rattle.std.proofs.Common.{◌≡◌, ◌+◌, drop, ◌==◌}
 use Rattle.std.specs.List.{list_any}
-use Rattle.std.specs.Prelude.{◌==◌}
-use Rattle.store_model.specs.Service.Descriptor.{descriptors}
-use Rattle.store_model.specs.Service.Install.{place_of}
+use Rattle.store_model.specs.{Service.Descriptor.descriptors, Service.Install.place_of}
 use Rattle.store_plain.proofs.store.PlainStore.place_of.Given as goal
 
 abbrev pub invariant-ppis : goal.invariant-ppis

@@ -1,8 +1,7 @@
 use Rattle.std.proofs.Common.{sym}
 use Rattle.store_model.specs.StateFacts.{IsPending}
 use Rattle.store_plain.specs.PlainState.{state_of}
-use Rattle.store_laws.proofs.Items.{each_at}
-use Rattle.store_laws.proofs.Named.{pending_is_entry}
+use Rattle.store_laws.proofs.{Items.each_at, Named.pending_is_entry}
 use Rattle.store_plain.proofs.store.PlainStore.pop_pending.Goals as goal
 
 pub firing-firing-requires-clause-entry : goal.firing-firing-requires-clause-entry

@@ -1,5 +1,4 @@
-use Rattle.std.proofs.Common.{◌≡◌, take, length}
-use Rattle.std.specs.Prelude.{map}
+use Rattle.std.proofs.Common.{◌≡◌, take, length, map}
 use Rattle.pi_base.specs.Lists.{numbers}
 use Rattle.store_model.specs.MemoryReading.{heap_byte}
 use Rattle.store_plain.specs.PlainState.{state_of}

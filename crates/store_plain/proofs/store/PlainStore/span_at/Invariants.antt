@@ -1,7 +1,5 @@
-use Rattle.std.proofs.Common.{◌≡◌, ◌+◌, drop}
-use Rattle.std.specs.Prelude.{sum_by}
-use Rattle.store_model.specs.StoreState.{hob_len}
-use Rattle.store_model.specs.Service.Reading.{span_from}
+use Rattle.std.proofs.Common.{◌≡◌, ◌+◌, drop, sum_by}
+use Rattle.store_model.specs.{StoreState.hob_len, Service.Reading.span_from}
 use Rattle.store_plain.proofs.store.PlainStore.span_at.Given as goal
 
 abbrev pub invariant-hobs : goal.invariant-hobs

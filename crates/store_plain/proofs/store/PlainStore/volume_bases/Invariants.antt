@@ -1,9 +1,7 @@
-use Rattle.std.proofs.Common.{◌≡◌, ◌++◌, ◌==◌, drop}
-use Rattle.std.specs.Prelude.{map, filter}
+use Rattle.std.proofs.Common.{◌≡◌, ◌++◌, ◌==◌, drop, map, filter}
 use Rattle.pi_base.specs.Field.{little_number}
 use Rattle.hob_codec.specs.declared.kind.TheConstants.{VOLUME}
-use Rattle.store_model.specs.HeapImage.{body_bytes}
-use Rattle.store_model.specs.Service.Reading.{fv_bases}
+use Rattle.store_model.specs.{HeapImage.body_bytes, Service.Reading.fv_bases}
 use Rattle.store_plain.specs.PlainState.{state_of}
 use Rattle.store_plain.proofs.store.PlainStore.volume_bases.Given as goal
 

@@ -1,7 +1,6 @@
 use Rattle.std.proofs.Common.{◌≡◌, ◌+◌, ap, sym, ◌∙◌, arith, Some, false, nat_lt, length}
 use Rattle.std.proofs.lemmas.Bool.Decides.{nat_tests}
-use Rattle.store_model.specs.declared.state.Body.TheVariants.{Bytes}
-use Rattle.store_model.specs.Service.Pool.{written}
+use Rattle.store_model.specs.{declared.state.Body.TheVariants.Bytes, Service.Pool.written}
 use Rattle.store_plain.specs.PlainState.{state_of}
 use Rattle.store_laws.proofs.Places.{body_of_hob, changed_hob, sum_of_changed}
 use Rattle.store_plain.proofs.store.PlainStore.write_pool.Goals as goal

@@ -1,6 +1,5 @@
 use Rattle.std.proofs.Common.{◌+◌, ap, sym, ◌∙◌}
-use Rattle.store_model.specs.declared.state.Body.TheVariants.{Node}
-use Rattle.store_model.specs.Service.Queue.{zeroed}
+use Rattle.store_model.specs.{declared.state.Body.TheVariants.Node, Service.Queue.zeroed}
 use Rattle.store_plain.specs.PlainState.{state_of}
 use Rattle.store_laws.proofs.Places.{body_of_hob, changed_hob, sum_of_changed}
 use Rattle.store_plain.proofs.store.PlainStore.zero_node.Goals as goal

@@ -1,8 +1,7 @@
 use Rattle.std.proofs.Common.{◌≡◌, refl}
 use Rattle.boot_model.specs.declared.line.ExpressionWord.TheVariants as V
-use Rattle.boot_model.specs.Text.{expression_text}
+use Rattle.boot_model.specs.{Text.expression_text, declared.line.ExpressionWord.ExpressionWord}
 use Rattle.trace_reader.specs.Readable.{IsExpression}
-use Rattle.boot_model.specs.declared.line.ExpressionWord.{ExpressionWord}
 use Rattle.trace_reader.proofs.expression_word.ExpressionWordField.read.Goals as goal
 
 none_of : (c : goal.In-None) (value : ExpressionWord) → IsExpression value × (c.args.word.now ≡ expression_text value) → ⊥

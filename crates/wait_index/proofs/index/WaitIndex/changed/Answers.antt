@@ -1,7 +1,5 @@
-use Rattle.std.proofs.Common.{◌∙◌, ap, sym, subst, refl, arith, length, ℕ, List}
-use Rattle.std.specs.Prelude.{filter}
-use Rattle.wait_index.specs.Index.{watchers_at}
-use Rattle.wait_index.specs.Rouse.{IsRoused, is_asked}
+use Rattle.std.proofs.Common.{◌∙◌, ap, sym, subst, refl, arith, length, ℕ, List, filter}
+use Rattle.wait_index.specs.{Index.watchers_at, Rouse.IsRoused, Rouse.is_asked}
 use Rattle.wait_index.proofs.Watched.{has_set, judged_still, watched_still, asked_few}
 use Rattle.wait_index.proofs.index.WaitIndex.changed.Goals as goal
 

@@ -1,11 +1,7 @@
 use Rattle.std.proofs.Common.{◌<◌, ◌∙◌, ℕ, ap, subst, arith, length, get_or, List}
 use Rattle.mod_catalog.specs.Parts.{part_at}
 use Rattle.pi_base.specs.declared.phase.Phase.{Phase}
-use Rattle.wait_index.specs.Discovery.{opens, HaveCome}
-use Rattle.wait_index.specs.Index.{order_in}
-use Rattle.wait_index.specs.Installed.{is_there}
-use Rattle.wait_index.specs.Verdict.{verdict_of}
-use Rattle.wait_index.specs.Places.{order_of}
+use Rattle.wait_index.specs.{Discovery.opens, Discovery.HaveCome, Index.order_in, Installed.is_there, Verdict.verdict_of, Places.order_of}
 use Rattle.wait_index.proofs.Discoveries.{is_new, each_at, come_more, index_from, take_all}
 use Rattle.wait_index.proofs.index.WaitIndex.discover.Goals as goal
 

@@ -1,5 +1,4 @@
-use Rattle.std.proofs.Common.{List, ℕ, ap, ◌∙◌}
-use Rattle.std.specs.Prelude.{slice_get}
+use Rattle.std.proofs.Common.{List, ℕ, ap, ◌∙◌, slice_get}
 use Rattle.phase_parts.proofs.Got.{got}
 use Rattle.wait_index.proofs.index.WaitIndex.module_at.Goals as goal
 

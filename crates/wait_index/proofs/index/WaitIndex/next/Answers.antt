@@ -2,10 +2,7 @@ use Rattle.std.proofs.Common.{◌∙◌, ◌&&◌, ◌||◌, ap, subst}
 use Rattle.mod_catalog.specs.Parts.{part_at}
 use Rattle.boot_model.specs.PeiChoice.{rotated}
 use Rattle.wait_index.specs.Index.{is_eligible_in, order_in, again_in, waits_in, is_open_in}
-use Rattle.wait_index.specs.Installed.{is_there}
-use Rattle.wait_index.specs.PlaceFlags.{either, IsFirst}
-use Rattle.wait_index.specs.Places.{is_due}
-use Rattle.wait_index.specs.Verdict.{verdict_of}
+use Rattle.wait_index.specs.{Installed.is_there, PlaceFlags.either, PlaceFlags.IsFirst, Places.is_due, Verdict.verdict_of}
 use Rattle.wait_index.proofs.Choice.{find_same, marks_due, next_behind, next_in_front}
 use Rattle.wait_index.proofs.index.WaitIndex.next.Goals as goal
 

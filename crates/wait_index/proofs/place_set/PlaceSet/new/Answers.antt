@@ -1,5 +1,4 @@
-use Rattle.std.proofs.Common.{ℕ, ◌≡◌, ◌∙◌, false, true, ap, sym}
-use Rattle.std.specs.Prelude.{length}
+use Rattle.std.proofs.Common.{ℕ, ◌≡◌, ◌∙◌, false, true, ap, sym, length}
 use Rattle.std.proofs.lemmas.List.{length-replicate}
 use Rattle.wait_index.specs.PlaceFlags.{flag}
 use Rattle.wait_index.proofs.Flags.{none_set, count_none}

@@ -1,6 +1,5 @@
 use Rattle.std.proofs.Common.{◌≡◌, ◌||◌, ℕ, Bool, true, false, List, ◌∷◌, Some, refl, ap, ◌∙◌}
-use Rattle.pi_base.specs.declared.guid.Guid.{Guid}
-use Rattle.pi_base.specs.GuidMap.{value_of}
+use Rattle.pi_base.specs.{declared.guid.Guid.Guid, GuidMap.value_of}
 use Rattle.depex_code.specs.declared.opcode.Opcode.{Opcode}
 use Rattle.wait_index.specs.declared.watch.Watch.{Watch}
 use Rattle.wait_index.specs.Watching.{Covers, code_pushes, opcode_pushes}

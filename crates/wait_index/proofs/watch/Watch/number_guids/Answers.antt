@@ -1,7 +1,5 @@
 use Rattle.std.proofs.Common.{◌≡◌, [], ℕ, List, refl, sym, subst, get_or, take, ◌+◌, Some}
-use Rattle.pi_base.specs.declared.guid.Guid.{Guid}
-use Rattle.pi_base.specs.GuidMap.{value_of}
-use Rattle.pi_base.specs.Lists.{EachPair}
+use Rattle.pi_base.specs.{declared.guid.Guid.Guid, GuidMap.value_of, Lists.EachPair}
 use Rattle.wait_index.proofs.Making.{slots_more}
 use Rattle.wait_index.proofs.watch.Watch.number_guids.Goals as goal
 

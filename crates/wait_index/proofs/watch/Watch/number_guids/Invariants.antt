@@ -1,7 +1,5 @@
 use Rattle.std.proofs.Common.{◌≡◌, ℕ, Some, take}
-use Rattle.pi_base.specs.declared.guid.Guid.{Guid}
-use Rattle.pi_base.specs.GuidMap.{value_of}
-use Rattle.pi_base.specs.Lists.{EachPair}
+use Rattle.pi_base.specs.{declared.guid.Guid.Guid, GuidMap.value_of, Lists.EachPair}
 use Rattle.wait_index.specs.Watching.{IsNumbering}
 use Rattle.wait_index.proofs.watch.Watch.number_guids.Given as goal
 

@@ -1,7 +1,5 @@
 use Rattle.std.proofs.Common.{◌≡◌, ◌≤◌, ◌-◌, ◌||◌, ℕ, Bool, true, false, List, ◌∷◌, Some, length, get_or, take, drop, refl, sym, ap, ◌∙◌}
-use Rattle.pi_base.specs.declared.guid.Guid.{Guid}
-use Rattle.pi_base.specs.declared.phase.Phase.{Phase}
-use Rattle.pi_base.specs.GuidMap.{value_of}
+use Rattle.pi_base.specs.{declared.guid.Guid.Guid, declared.phase.Phase.Phase, GuidMap.value_of}
 use Rattle.depex_code.specs.declared.opcode.Opcode.{Opcode}
 use Rattle.mod_catalog.specs.declared.catalogue.Module.{Module}
 use Rattle.wait_index.specs.declared.watch.Watch.{Watch}

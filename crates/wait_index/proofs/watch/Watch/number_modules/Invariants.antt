@@ -1,6 +1,5 @@
 use Rattle.std.proofs.Common.{◌≡◌, ℕ, Some, length, true, false}
-use Rattle.pi_base.specs.declared.guid.Guid.{Guid}
-use Rattle.pi_base.specs.GuidMap.{value_of}
+use Rattle.pi_base.specs.{declared.guid.Guid.Guid, GuidMap.value_of}
 use Rattle.wait_index.specs.Watching.{IsNumbering, modules_push}
 use Rattle.wait_index.proofs.watch.Watch.number_modules.Given as goal
 

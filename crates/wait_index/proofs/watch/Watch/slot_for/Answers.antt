@@ -1,10 +1,7 @@
 use Rattle.std.proofs.Common.{◌≡◌, ℕ, Bool, true, false, if◌then◌else◌, List, [], ◌∷◌, ◌++◌, Some, None, refl, sym, ap, ◌∙◌}
-use Rattle.pi_base.specs.declared.guid.Guid.{Guid}
-use Rattle.pi_base.specs.Guids.{same_guid}
-use Rattle.pi_base.specs.GuidMap.{value_of, IsPut}
+use Rattle.pi_base.specs.{declared.guid.Guid.Guid, Guids.same_guid, GuidMap.value_of, GuidMap.IsPut}
 use Rattle.wait_index.specs.declared.watch.Watch.{Watch}
-use Rattle.wait_index.proofs.Numbering.{numbered_more}
-use Rattle.wait_index.proofs.Truth.{one_guid, same_self}
+use Rattle.wait_index.proofs.{Numbering.numbered_more, Truth.one_guid, Truth.same_self}
 use Rattle.wait_index.proofs.watch.Watch.slot_for.Goals as goal
 
 pub returns-clause-numbering : goal.returns-clause-numbering

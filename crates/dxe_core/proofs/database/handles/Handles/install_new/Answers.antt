@@ -1,15 +1,12 @@
-use Rattle.std.proofs.Common.{◌≡◌, ◌+◌, ◌<◌, false, [], ◌∷◌, ◌++◌, None, sym, ap, ◌∙◌, subst, arith}
-use Rattle.std.specs.Prelude.{insert}
+use Rattle.std.proofs.Common.{◌≡◌, ◌+◌, ◌<◌, false, [], ◌∷◌, ◌++◌, None, sym, ap, ◌∙◌, subst, arith, insert}
 use Rattle.std.proofs.lemmas.List.Edits.{insert_end}
 use Rattle.pi_base.proofs.ListFacts.{each_more}
-use Rattle.store_model.specs.declared.interface.Interface.{Interface}
+use Rattle.store_model.specs.{declared.interface.Interface.Interface, HandleFacts.IsHandleState, HandleFacts.WasMade}
 use Rattle.store_model.specs.HandleState.{HandleState, is_on, placed}
-use Rattle.store_model.specs.HandleFacts.{IsHandleState, WasMade}
 use Rattle.store_model.proofs.HandleFacts.{facts_are_kept}
 use Rattle.guid_lists.specs.Lists.{with_number}
 use Rattle.dxe_core.specs.Index.{handles_with}
-use Rattle.dxe_core.proofs.Firsts.{first_fails, unequal}
-use Rattle.dxe_core.proofs.HandlesWith.{held_placed, placed_last}
+use Rattle.dxe_core.proofs.{Firsts.first_fails, Firsts.unequal, HandlesWith.held_placed, HandlesWith.placed_last}
 use Rattle.dxe_core.proofs.Indexes.{holders_rise, index_changes}
 use Rattle.dxe_core.proofs.database.handles.Handles.install_new.Goals as goal
 

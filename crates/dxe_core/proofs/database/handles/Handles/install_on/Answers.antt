@@ -1,16 +1,11 @@
 use Rattle.std.proofs.Common.{◌≡◌, Ok, Err, refl, sym, ap, ◌∙◌, subst}
 use Rattle.pi_base.specs.declared.word.Word.TheVariants.{InvalidParameter}
-use Rattle.store_model.specs.declared.interface.Interface.{Interface}
+use Rattle.store_model.specs.{declared.interface.Interface.Interface, HandleFacts.IsHandleState}
 use Rattle.store_model.specs.HandleState.{HandleState, install_on, placed}
-use Rattle.store_model.specs.HandleFacts.{IsHandleState}
 use Rattle.guid_lists.specs.Lists.{with_number}
-use Rattle.dxe_core.specs.Index.{handles_with}
-use Rattle.dxe_core.specs.Rows.{IsRow}
-use Rattle.dxe_core.proofs.Stretches.{not_live, placed_is}
-use Rattle.dxe_core.proofs.Firsts.{each_fails}
-use Rattle.dxe_core.proofs.HandlesWith.{held_placed}
-use Rattle.dxe_core.proofs.HandleRows.{install_dead, install_again}
-use Rattle.dxe_core.proofs.Indexes.{holders_rise, index_changes}
+use Rattle.dxe_core.specs.{Index.handles_with, Rows.IsRow}
+use Rattle.dxe_core.proofs.{Stretches.not_live, Stretches.placed_is, Firsts.each_fails, HandlesWith.held_placed}
+use Rattle.dxe_core.proofs.{HandleRows.install_dead, HandleRows.install_again, Indexes.holders_rise, Indexes.index_changes}
 use Rattle.dxe_core.proofs.Done.{any_of_place, memory_row, Free, free_by, on_done, on_ok_row, on_kept}
 use Rattle.dxe_core.proofs.database.handles.Handles.install_on.Goals as goal
 use Rattle.dxe_core.proofs.database.handles.Handles.install_on.Goals.{then-stretch-via-then-stretch, then-stretch-via-else-stretch+then-is_some}

@@ -1,11 +1,8 @@
-use Rattle.std.proofs.Common.{◌≡◌, Err, Ok, sym, ap, ◌∙◌, subst, arith}
-use Rattle.std.specs.Prelude.{slice_set}
+use Rattle.std.proofs.Common.{◌≡◌, Err, Ok, sym, ap, ◌∙◌, subst, arith, slice_set}
 use Rattle.std.proofs.lemmas.Result.{err_from_is_err_and}
 use Rattle.store_model.specs.HandleState.{HandleState, is_on_with, with_value, reinstall_interface}
 use Rattle.store_model.specs.HandleFacts.{IsHandleState}
-use Rattle.dxe_core.specs.Index.{handles_with}
-use Rattle.dxe_core.specs.Places.{IsPlaceWith}
-use Rattle.dxe_core.specs.Rows.{IsRow}
+use Rattle.dxe_core.specs.{Index.handles_with, Places.IsPlaceWith, Rows.IsRow}
 use Rattle.dxe_core.proofs.HandlesWith.{held_valued}
 use Rattle.dxe_core.proofs.Done.{Found, reinstalled, reinstall_kept, unchanged, valued_is}
 use Rattle.dxe_core.proofs.database.handles.Handles.reinstall.Goals as goal

@@ -3,12 +3,8 @@ use Rattle.std.proofs.lemmas.Result.{err_from_is_err_and}
 use Rattle.store_model.specs.HandleState.{HandleState, is_on_with, without, uninstall_interface}
 use Rattle.store_model.specs.HandleFacts.{IsHandleState}
 use Rattle.guid_lists.specs.Lists.{without_number}
-use Rattle.dxe_core.specs.Index.{handles_with}
-use Rattle.dxe_core.specs.Places.{IsPlaceWith}
-use Rattle.dxe_core.specs.Rows.{IsRow}
-use Rattle.dxe_core.proofs.Firsts.{removed}
-use Rattle.dxe_core.proofs.HandlesWith.{held_without}
-use Rattle.dxe_core.proofs.Indexes.{holders_rise, index_changes}
+use Rattle.dxe_core.specs.{Index.handles_with, Places.IsPlaceWith, Rows.IsRow}
+use Rattle.dxe_core.proofs.{Firsts.removed, HandlesWith.held_without, Indexes.holders_rise, Indexes.index_changes}
 use Rattle.dxe_core.proofs.Done.{Found, unchanged, uninstalled, uninstall_kept}
 use Rattle.dxe_core.proofs.database.handles.Handles.uninstall.Goals as goal
 

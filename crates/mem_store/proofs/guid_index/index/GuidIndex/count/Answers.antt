@@ -1,6 +1,5 @@
 use Rattle.std.proofs.Common.{ap, ◌∙◌, length, List}
-use Rattle.mem_store.specs.declared.guid_index.index.Indexed.{Indexed}
-use Rattle.mem_store.specs.Entries.{entries_of}
+use Rattle.mem_store.specs.{declared.guid_index.index.Indexed.Indexed, Entries.entries_of}
 use Rattle.mem_store.proofs.Having.{count_is}
 use Rattle.mem_store.proofs.guid_index.index.GuidIndex.count.Goals as goal
 

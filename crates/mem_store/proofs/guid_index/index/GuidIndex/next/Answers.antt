@@ -1,8 +1,7 @@
 use Rattle.std.proofs.Common.{ap, sym, subst, ◌∙◌, arith, length, List}
 use Rattle.guid_lists.specs.Places.{IsFirstFrom}
 use Rattle.guid_lists.proofs.Placing.{found_in, first_is}
-use Rattle.mem_store.specs.declared.guid_index.index.Indexed.{Indexed}
-use Rattle.mem_store.specs.Entries.{has_at}
+use Rattle.mem_store.specs.{declared.guid_index.index.Indexed.Indexed, Entries.has_at}
 use Rattle.mem_store.proofs.Having.{has_past, risen}
 use Rattle.mem_store.proofs.guid_index.index.GuidIndex.next.Goals as goal
 

@@ -1,9 +1,6 @@
-use Rattle.std.proofs.Common.{◌≡◌, sym, ◌∙◌, ap, length, List, Some, None}
-use Rattle.std.specs.Prelude.{slice_get}
-use Rattle.std.specs.Option.{option_and_then}
+use Rattle.std.proofs.Common.{◌≡◌, sym, ◌∙◌, ap, length, List, Some, None, slice_get, option_and_then}
 use Rattle.guid_lists.specs.Places.{places}
-use Rattle.mem_store.specs.declared.guid_index.index.Indexed.{Indexed}
-use Rattle.mem_store.specs.Entries.{entries_of, has_at}
+use Rattle.mem_store.specs.{declared.guid_index.index.Indexed.Indexed, Entries.entries_of, Entries.has_at}
 use Rattle.mem_store.proofs.Having.{nth_is}
 use Rattle.mem_store.proofs.guid_index.index.GuidIndex.nth.Goals as goal
 

@@ -1,8 +1,7 @@
 use Rattle.std.proofs.Common.{◌≡◌, sym, subst, ◌∙◌, length, ◌++◌, ◌∷◌, [], List}
 use Rattle.guid_lists.specs.Lists.{HasInstead, list_of, with_number}
 use Rattle.guid_lists.specs.Places.{AreAt}
-use Rattle.mem_store.specs.declared.guid_index.index.Indexed.{Indexed}
-use Rattle.mem_store.specs.Entries.{has_at}
+use Rattle.mem_store.specs.{declared.guid_index.index.Indexed.Indexed, Entries.has_at}
 use Rattle.mem_store.proofs.Having.{pushed, risen}
 use Rattle.mem_store.proofs.guid_index.index.GuidIndex.push.Goals as goal
 

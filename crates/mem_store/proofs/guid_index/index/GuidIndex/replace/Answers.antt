@@ -1,8 +1,6 @@
-use Rattle.std.proofs.Common.{◌≡◌, sym, subst, ◌∙◌, ap, length, List, Some}
-use Rattle.std.specs.Prelude.{slice_get, slice_set}
+use Rattle.std.proofs.Common.{◌≡◌, sym, subst, ◌∙◌, ap, length, List, Some, slice_get, slice_set}
 use Rattle.guid_lists.specs.Places.{AreAt}
-use Rattle.mem_store.specs.declared.guid_index.index.Indexed.{Indexed}
-use Rattle.mem_store.specs.Entries.{has_at}
+use Rattle.mem_store.specs.{declared.guid_index.index.Indexed.Indexed, Entries.has_at}
 use Rattle.mem_store.proofs.Having.{replaced, risen}
 use Rattle.mem_store.proofs.guid_index.index.GuidIndex.replace.Goals as goal
 

@@ -1,8 +1,7 @@
 use Rattle.std.proofs.Common.{◌≡◌, ℕ, Bool, Option, Some, ap, sym, ◌∙◌, slice_get, rules}
 use Rattle.pi_base.specs.declared.phase.Phase.{Phase}
 use Rattle.mod_catalog.specs.declared.catalogue.Catalog.{Catalog}
-use Rattle.recorded_boot.specs.declared.order.line.AskedStart.{AskedStart}
-use Rattle.recorded_boot.specs.declared.order.lines.StartOrder.{StartOrder}
+use Rattle.recorded_boot.specs.{declared.order.line.AskedStart.AskedStart, declared.order.lines.StartOrder.StartOrder}
 use Rattle.recorded_boot.specs.ByOrder.{is_start_of, lets_asked, lets_by}
 use Rattle.recorded_boot.proofs.follow.by_order.ByOrder.lets.Goals as goal
 

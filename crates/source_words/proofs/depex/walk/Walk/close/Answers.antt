@@ -1,6 +1,5 @@
 use Rattle.std.proofs.Common.{◌≡◌, ◌+◌, ◌-◌, arith}
-use Rattle.source_words.proofs.Depths.{closes}
-use Rattle.source_words.proofs.Codes.{written}
+use Rattle.source_words.proofs.{Depths.closes, Codes.written}
 use Rattle.source_words.proofs.depex.walk.Walk.close.Goals as goal
 
 pub returns : goal.returns
