@@ -8,6 +8,7 @@ from collections.abc import Callable, Iterable
 from dataclasses import dataclass
 from functools import partial
 from pathlib import Path
+from typing import Any
 
 from made_volumes import PEIM, RAW_FILE, a_priori, body_of, file, filled, fitting, guid, in_bytes
 from meeting_guids import meeting_guids
@@ -123,11 +124,16 @@ def other_notifications(kind: str, count: int) -> list[list[str]]:
     return peims_of(registered, blocks=[[]]) + [peim(10000 + n, installed + [install(1)] * room) for n in range(count // room)]
 
 
-def in_turn(fuel: int) -> list[list[str]]:
-    """After the move `notify` of eight and `install` of eight in turn, of two GUIDs, until the fuel is spent."""
+def reinstalled_to_another() -> list[str]:
+    """A PPI that is installed, and reinstalled under another GUID."""
+    return [set_to(0, 0), desc(1, PPI, guid(6, 0), 0), install(1), desc(2, PPI, guid(6, 1), 0), "reinstall r1 r2"]
+
+
+def in_turn(fuel: int, first: list[str] | None = None) -> list[list[str]]:
+    """After the move, and these actions, `notify` of eight and `install` of eight in turn, of two GUIDs, until the fuel is spent."""
     front = [set_to(0, 0), desc(1, CALLBACK, guid(2, 0), 1), desc(2, PPI, guid(2, 1), 0)]
     pair = [notify(*[1] * 8), install(*[2] * 8)]
-    return [peim(0, install_memory(256 * MIB)), *peims_of(pair * (fuel // 2 + 1), 1, front, [[]])]
+    return [peim(0, install_memory(256 * MIB) + (first or [])), *peims_of(pair * (fuel // 2 + 1), 1, front, [[]])]
 
 
 def ppis(count: int) -> list[list[str]]:
@@ -136,12 +142,34 @@ def ppis(count: int) -> list[list[str]]:
                                           (desc(1, PPI, guid(2, n), 0), install(1))]) for first in range(0, count, room)]
 
 
+def ppis_and_locates(count: int) -> list[list[str]]:
+    """After the move so many PPIs of as many GUIDs, then as many locates of the last."""
+    return [peim(90000, install_memory(256 * MIB)), *ppis(count), *peims_of([locate(guid(2, count - 1))] * count, count)]
+
+
+def reinstalls_of_the_last(count: int) -> list[list[str]]:
+    """After the move so many PPIs, then as many reinstalls of the last of them."""
+    again = [set_to(0, 0), locate(guid(2, count - 1)), desc(6, PPI, guid(2, count - 1), 0)]
+    return [peim(90000, install_memory(256 * MIB)), *ppis(count), *peims_of(["reinstall r4 r6", "reinstall r6 r4"] * (count // 2), count, again)]
+
+
+def toggles(waiters: int) -> list[list[str]]:
+    """PEIMs that wait for two GUIDs, of which one comes and goes as often as there are waiters."""
+    waiting = [peim(n, [], f"{guid(2, 0)} AND {guid(2, 1)}") for n in range(waiters)]
+    front = [set_to(0, 0), desc(1, PPI, guid(2, 0), 0), desc(2, PPI, guid(2, 2), 0), install(1)]
+    return waiting + peims_of(["reinstall r1 r2", "reinstall r2 r1"] * (waiters // 2), waiters, front)
+
+
 def hand_off() -> list[str]:
     return peim(0, install_memory(RAM_LEN) + install_ppi("dxe-ipl-ppi") + [f"hob 5 {struct.pack('<QQ', BASE, 0).hex()}"])
 
 
 def install_protocol(name: str) -> str:
     return f"install new r2 {name} r1"
+
+
+def locate_protocol(name: str) -> str:
+    return f"locate r2 r3 {name}"
 
 
 def drivers_in_line(count: int) -> list[list[str]]:
@@ -165,6 +193,29 @@ def protocols(names: list[str]) -> list[list[str]]:
     return [hand_off()] + [driver(n, "true", [set_to(1, 0), *installed[n : n + room]]) for n in range(0, len(names), room)]
 
 
+def protocol_notifications(count: int, names: int) -> list[list[str]]:
+    """A driver's notifications of so many GUIDs in turn, and another driver's installs of a GUID that none of them names."""
+    room = 1000
+    noted = [f"notify {guid(5, n % names)} block 1" for n in range(count)]
+    listening = [[f"file driver {guid(4, first)}", "depex dxe true", *script("dxe", noted[first : first + room], [])] for first in range(0, count, room)]
+    return [hand_off(), *listening, *(driver(count + at, "true", files) for at, files in enumerate(installs_of(guid(6, 0), count, room)))]
+
+
+def installs_of(name: str, count: int, room: int) -> list[list[str]]:
+    """So many installs of a protocol, each on a handle of its own, in scripts of so many."""
+    return [[set_to(1, 0)] + [install_protocol(name)] * min(room, count - first) for first in range(0, count, room)]
+
+
+def one_handle(count: int) -> list[list[str]]:
+    """A handle of so many protocols, of which the first is taken off and put on again as often."""
+    put = [[set_to(1, 0), install_protocol(guid(5, 0))]] if count else []
+    put += [[f"install on r2 {guid(5, n)} r1" for n in range(first, min(first + 1000, count))] for first in range(1, count, 1000)]
+    turn = [f"uninstall r2 {guid(5, 0)} r1", f"install on r2 {guid(5, 0)} r1"]
+    turns = [turn * 500] * (count // 1000)
+    blocks = [*put, *turns]
+    return [hand_off(), *(driver(n, "true", [locate_protocol(guid(5, 1)), *actions] if n else actions) for n, actions in enumerate(blocks))]
+
+
 def many_files() -> bytes:
     """16,384 files of 4,088 bytes in 64 MiB, of which 4,096 are PEIMs with an expression."""
     expression = body_of("depex pei memory-ppi\n").ljust(24, b"\0")
@@ -176,11 +227,11 @@ def large_scripts(count: int) -> list[list[str]]:
     return [[f"file peim {guid(1, n)}", *script("pei", [f"log {'a' * 60}"] * (MOST_ACTIONS - 1))] for n in range(count)]
 
 
-def hob_list(count: int) -> bytes:
-    """A hand-off HOB, a CPU of 48 bits, and so many HOBs of 4 KiB of system memory, none of which touches another."""
+def hob_list(places: Iterable[int]) -> bytes:
+    """A hand-off HOB, a CPU of 48 bits, and HOBs of 4 KiB of system memory at these places, none of which touches another."""
     hand = struct.pack("<HHIII5Q", 1, 56, 0, 9, 0, 0, 0, 0, 0, 0)
     cpu = struct.pack("<HHIBB6x", 6, 16, 0, 48, 16)
-    resource = b"".join(struct.pack("<HHI16sIIQQ", 3, 48, 0, bytes(16), 0, 0, n * 0x2000, 0x1000) for n in range(count))
+    resource = b"".join(struct.pack("<HHI16sIIQQ", 3, 48, 0, bytes(16), 0, 0, n * 0x2000, 0x1000) for n in places)
     return hand + cpu + resource + struct.pack("<HHI", 0xFFFF, 8, 0)
 
 
@@ -214,37 +265,57 @@ def nothing(_: Path) -> None:
     pass
 
 
-def write_gcd(folder: Path, count: int) -> None:
-    (folder / "hobs").write_bytes(hob_list(count))
+def write_gcd(folder: Path, places: Iterable[int]) -> None:
+    (folder / "hobs").write_bytes(hob_list(places))
     (folder / "commands").write_text("top system 12 0x1000\n", encoding="ascii")
 
 
+def gcd_row(order: str, places: Iterable[int], size: int) -> Row:
+    return Row(f"gcd of HOBs {order}, {size:,}", "pitools", ["gcd", "hobs", "commands"], lambda folder: write_gcd(folder, places), f"gcd {order}", size)
+
+
+def family(name: str, files: Callable[[int], list[list[str]]], smallest: int, **more: Any) -> list[Row]:
+    """Rows of one work at n, 2n, 4n and 8n."""
+    return [booted(name, lambda n=size: files(n), size, **more) for size in (smallest, 2 * smallest, 4 * smallest, 8 * smallest)]
+
+
 def rows() -> list[Row]:
+    after = dict(ram=256 * MIB)
     found = [Row("refused words", "piboot", ["boot"], nothing)]
     found += [booted("one PEIM in so many KiB of RAM", lambda: logs(1, 1), size, ram=size * KIB) for size in (4, 65536, 262144)]
-    found += [booted("PEIMs of ten logs", lambda n=size: logs(n, 10), size) for size in (64, 1024, 4096)]
-    found += [booted("a tree of PEIMs", lambda n=size: tree(n), size) for size in (1024, 4096)]
-    found += [booted("a line of PEIMs", lambda n=size: line(n), size) for size in (1024, 4096)]
-    found += [booted("logs", lambda n=size: logs(n // 1000, 1000), size) for size in (64000, 256000)]
-    found += [booted("set", lambda n=size: sets(n), size) for size in (225000, 900000)]
-    found += [booted("shadowed PEIMs, each with 100 set", lambda n=size: shadowed(n, 100), size) for size in (256, 1024, 4095)]
-    found += [booted("shadowed PEIMs", lambda n=size: shadowed(n, 0), size) for size in (1024, 4095)]
-    found += [booted("installs with a locate each", lambda n=size: installs_and_locates(n), size) for size in (1000, 3000, 10000)]
-    found += [booted("callbacks of other GUIDs, and as many installs", lambda n=size: other_notifications(CALLBACK, n), size) for size in (1000, 4000)]
-    found += [booted("dispatch notifications of others, and as many installs", lambda n=size: other_notifications(DISPATCH, n), size) for size in (1000, 4000)]
-    turns = (1000, 10000, 100000, 800000)
-    found += [booted("notify and install of eight in turn, fuel", lambda n=size: in_turn(n), size, 256 * MIB, fuel=size) for size in turns]
-    found += [booted("PPIs", lambda n=size: ppis(n), size) for size in (2500, 10000)]
-    found += [booted("drivers in a line", lambda n=size: drivers_in_line(n), size) for size in (1000, 4000)]
-    found += [booted("drivers, each AFTER another", lambda n=size: drivers_after(n), size) for size in (1000, 4000)]
-    found += [booted("drivers, each requested by another", lambda n=size: drivers_on_request(n), size) for size in (1000, 4000)]
-    found += [booted("protocols", lambda n=size: protocols([guid(5, number) for number in range(n)]), size) for size in (1000, 4000)]
-    found += [booted("protocols whose GUIDs meet in a hash table", lambda n=size: protocols(meeting_guids(n)), size) for size in (1000, 4000)]
-    found += [Row(f"generate {size}", "piboot", ["generate", str(size)], nothing, "generate", size) for size in (256, 1024, 4096)]
+    found += family("PEIMs of ten logs", lambda n: logs(n, 10), 512)
+    found += family("a tree of PEIMs", tree, 512)
+    found += family("a line of PEIMs", line, 512)
+    found += family("logs", lambda n: logs(n // 1000, 1000), 32000)
+    found += family("set", sets, 112500)
+    found += family("shadowed PEIMs, each with 100 set", lambda n: shadowed(n, 100), 256)
+    found += family("shadowed PEIMs", lambda n: shadowed(n, 0), 256)
+    found += family("installs with a locate each", installs_and_locates, 1250)
+    found += family("callbacks of other GUIDs, and as many installs", lambda n: other_notifications(CALLBACK, n), 500)
+    found += family("dispatch notifications of others, and as many installs", lambda n: other_notifications(DISPATCH, n), 500)
+    for size in (1000, 10000, 100000, 800000):
+        found.append(booted("notify and install of eight in turn, fuel", lambda n=size: in_turn(n), size, fuel=size, **after))
+    for size in (1000, 2000, 4000, 8000):
+        behind = "the same after one reinstall to another GUID, fuel"
+        found.append(booted(behind, lambda n=size: in_turn(n, reinstalled_to_another()), size, fuel=size, **after))
+    found += family("installs with a locate each after one such reinstall", lambda n: [peim(90000, reinstalled_to_another()), *installs_and_locates(n)], 1250)
+    found += family("PPIs", ppis, 1250)
+    found += family("PPIs, and as many locates of the last", ppis_and_locates, 8000, **after)
+    found += family("reinstalls of the last of as many PPIs", reinstalls_of_the_last, 1000, **after)
+    found += family("a PPI that comes and goes for as many waiting PEIMs", toggles, 250)
+    found += family("drivers in a line", drivers_in_line, 500)
+    found += family("drivers, each AFTER another", drivers_after, 500)
+    found += family("drivers, each requested by another", drivers_on_request, 500)
+    found += family("protocols", lambda n: protocols([guid(5, number) for number in range(n)]), 1000)
+    found += family("protocols whose GUIDs meet in a hash table", lambda n: protocols(meeting_guids(n)), 1000)
+    found += family("notifications of one protocol, and as many installs of another", lambda n: protocol_notifications(n, 1), 8000)
+    found += family("notifications of as many protocols, and as many installs of another", lambda n: protocol_notifications(n, n), 8000)
+    found += family("a handle of so many protocols, its first taken off and put on again", one_handle, 1000)
+    found += [Row(f"generate {size}", "piboot", ["generate", str(size)], nothing, "generate", size) for size in (512, 1024, 2048, 4096)]
     found += [audited("16,384 files in 64 MiB", many_files), audited("256 scripts of 64 KiB", lambda: fitting(text_of(large_scripts(250))))]
     found += [audited("4 million a priori names of nobody", lambda: a_priori(4000000, 0)), audited("4 million of 4,096 PEIMs", lambda: a_priori(4000000, 4096))]
-    for size in (1000, 5000, 10000, 21800):
-        found.append(Row(f"gcd of HOBs, {size:,}", "pitools", ["gcd", "hobs", "commands"], lambda folder, n=size: write_gcd(folder, n), "gcd", size))
-    found += [booted("check a line of PEIMs", lambda n=size: line(n), size, verb="check") for size in (1024, 4096)]
-    found += [booted("check installs with a locate each", lambda n=size: installs_and_locates(n), size, verb="check") for size in (2500, 10000)]
+    found += [gcd_row("from the front", range(size), size) for size in (2725, 5450, 10900, 21800)]
+    found += [gcd_row("from the back", range(size - 1, -1, -1), size) for size in (2725, 5450, 10900, 21800)]
+    found += family("check a line of PEIMs", line, 512, verb="check")
+    found += family("check installs with a locate each", installs_and_locates, 1250, verb="check")
     return found
