@@ -26,7 +26,8 @@ discovers count = record quiet { discovered = count }
 abbrev pub IsDiscoveredDriver : Catalog → DxeMachine → ℕ → Type 0
 IsDiscoveredDriver catalog m number = has_number (discovered_order catalog m) number ≡ true
 
--- what an event leaves: the volumes that it discovered stand behind those that there were, and their a priori drivers behind the queue; so does the driver that it requested, one of a discovered volume; nothing has started
+-- what an event leaves: the volumes that it discovered are after those that there were, and their a priori drivers after the queue; so does the driver that it
+-- requested, one of a discovered volume; nothing has started
 pub record EventLeaves (catalog : Catalog) (event : Event) (m later : DxeMachine) : Type 0 where
   pub volumes : List ℕ
   pub count : event.discovered ≡ length volumes

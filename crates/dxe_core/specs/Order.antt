@@ -64,7 +64,7 @@ pub record IsOrderOf (catalog : Catalog) (volumes : List ℕ) (order : Drivers) 
   pub afters_are : (name : Guid) → afters_of order name ≡ givers after_of catalog (drivers_of catalog volumes) name
   pub asking_are : (name : Guid) → asking_of order name ≡ askers catalog (drivers_of catalog volumes) name
 
--- what is kept of some volumes has become that of these volumes and others behind them: one that is new, and each nested in it that is
+-- what is kept of some volumes has become that of these volumes and others after them: one that is new, and each nested in it that is
 abbrev pub OrderGrows : Catalog → Drivers → ℕ → Drivers → Type 0
 OrderGrows catalog old volume new =
     (volumes : List ℕ) → IsOrderOf catalog volumes old → IsOrderOf catalog (volumes ++ newcomers catalog volumes (Some volume)) new

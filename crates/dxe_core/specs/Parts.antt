@@ -17,7 +17,7 @@ use Rattle.dxe_core.specs.Standing.{DxeCore, IsCoreOf, IsFor, StandsFor}
 use Rattle.dxe_core.specs.Steps.{CoreCall, HasOver, HasStepped, StepsTo, texts_of}
 use Rattle.boot_trace.specs.Printing.{Texts}
 
--- this notification of a frame's sweep begins next, with that sweep behind it, or none does
+-- this notification of a frame's sweep begins next, with that sweep after it, or none does
 abbrev pub FiresNext : Option (ProtocolNote × ProtocolSweep) → DxeMachine → DriverFrame → Type 0
 FiresNext next m top = option_and_then (next_note m) top.sweep ≡ next
 
@@ -25,7 +25,7 @@ FiresNext next m top = option_and_then (next_note m) top.sweep ≡ next
 abbrev pub next_of_top : DxeMachine → List DriverFrame → Option (ProtocolNote × ProtocolSweep)
 next_of_top m frames = option_and_then (next_note m) (top_sweep frames)
 
--- a script runs, and so it goes on
+-- a script runs, and so it continues
 pub record GoesOnWith (next : Option (ProtocolNote × ProtocolSweep)) (m : DxeMachine) : Type 0 where
   pub top : DriverFrame
   pub below : List DriverFrame
@@ -36,7 +36,7 @@ pub record GoesOnWith (next : Option (ProtocolNote × ProtocolSweep)) (m : DxeMa
 abbrev pub RunsScript : DxeMachine → Type 0
 RunsScript m = GoesOnWith None m
 
--- a step where no notification begins, from each machine that the core beside its store stands for, and in which drivers wait for their request
+-- a step if no notification begins, from each machine that the core beside its store stands for, and in which drivers wait for their request
 abbrev pub StepsScript : {M : Type 0} → (M → StoreState → Type 0) → M → Catalog → CoreCall → Result Stepped Halt → Type 0
 StepsScript stands store catalog call result =
     (m : DxeMachine) (fuel : ℕ) → IsFor catalog fuel call.before → StandsFor stands store catalog call.before m → WaitForRequest catalog m → RunsScript m
@@ -48,7 +48,7 @@ StepsFired next catalog call result =
     (m : DxeMachine) (fuel : ℕ) → IsCoreOf catalog call.before m → GoesOnWith (Some next) m
     → StepsTo (HasOver catalog call.later m) catalog fuel m (texts_of call) result
 
--- an action of DXE's own stands next in the top frame's script
+-- an action of DXE's own is next in the top frame's script
 pub record TakesOwn (action : Action) (m : DxeMachine) : Type 0 where
   pub top : DriverFrame
   pub below : List DriverFrame
@@ -57,7 +57,7 @@ pub record TakesOwn (action : Action) (m : DxeMachine) : Type 0 where
   pub fits : IsScriptAction Dxe action
   pub within : top.position < MOST_ACTIONS
 
--- the machine behind an action of its top frame
+-- the machine after an action of its top frame
 abbrev pub acted_to : Catalog → DxeMachine → DriverFrame → List DriverFrame → Action → DxeMachine
 acted_to catalog m top below action = after_dxe_effect m top below (dxe_effect catalog m top action)
 

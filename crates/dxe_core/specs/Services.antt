@@ -13,7 +13,7 @@ pub record Services : Type 0 where
   pub order : Drivers
   pub requested : List Bool
 
--- the flag of a module; one behind the flags has none
+-- the flag of a module; one after the flags has none
 abbrev pub flag_at : List Bool → ℕ → Bool
 flag_at flags number = unwrap_or (slice_get flags number) false
 

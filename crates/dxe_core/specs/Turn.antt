@@ -7,6 +7,6 @@ use Rattle.boot_trace.specs.Printing.{ArePut, ArePutInPart, Texts}
 abbrev pub Printed : DxeMachine → DxeMachine → Texts → Type 0
 Printed m later t = ArePut m.lines later.lines t
 
--- a part of their text was put
+-- a part of their text was written
 abbrev pub PrintedPart : DxeMachine → DxeMachine → Texts → Type 0
 PrintedPart m later t = ArePutInPart m.lines later.lines t

@@ -102,7 +102,7 @@ impl Dxe {
         }
     }
 
-    /// A driver starts, by its licence, where no script runs.
+    /// A driver starts, by its licence, if no script runs.
     pub fn start<S: Sink>(
         &mut self,
         catalog: &Catalog,
@@ -131,7 +131,7 @@ impl Dxe {
         self.services.handles()
     }
 
-    /// The handles, for whoever goes on behind DXE.
+    /// The handles, for whoever continues after DXE.
     pub fn into_handles(self) -> Handles
         ensures { result ≡ self.services.handles }
     {
@@ -164,7 +164,7 @@ impl Dxe {
         self.frames.top().is_none()
     }
 
-    /// The module whose script runs. None where none does.
+    /// The module whose script runs. None if none does.
     pub fn running(&self) -> Option<u32>
         ensures { result ≡ option_map (λ frame. frame.module_number) (top_of self.now.frames) }
     {

@@ -61,7 +61,7 @@ impl Notes {
         self.places.next(guid, from)
     }
 
-    /// Adds a notification behind the others. Where memory is wanting they stay as they were.
+    /// Adds a notification after the others. If memory runs out, they stay as they were.
     pub(crate) fn push(&mut self, note: ProtocolNote) -> Result<(), OutOfMemory>
         ensures ok { OnOk result (self.new ≡ self.old ++ note ∷ []) }
         ensures err { OnErr result (self.new ≡ self.old) }

@@ -59,7 +59,7 @@ impl DxeServices {
         ensures made { IfOk result (AreServicesFor catalog.now) }
         ensures counted { IfOk result (AreCounted 0) }
     {
-        // The flags first: less is dropped where memory ends.
+        // The flags first: less is dropped if memory ends.
         let requested = flags_down(alloc, catalog.modules.len())?;
         let order = DriverOrder::discover(alloc, catalog, bases)?;
         Ok(DxeServices {
@@ -77,7 +77,7 @@ impl DxeServices {
         &self.handles
     }
 
-    /// The handles, for whoever goes on behind DXE.
+    /// The handles, for whoever continues after DXE.
     pub fn into_handles(self) -> Handles
         ensures { result ≡ self.handles }
     {

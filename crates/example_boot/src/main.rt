@@ -60,7 +60,7 @@ fn put_count(rt: &HostRuntime) -> io::Result<()> {
     println!(rt; "{lines} lines, status {status}")
 }
 
-// A GUID, behind a space.
+// A GUID, after a space.
 fn put_guid(rt: &HostRuntime, guid: &Guid) -> io::Result<()> {
     io::writer(rt).write_all(b" ")?;
     io::writer(rt).write_all(guid.to_text().as_slice())

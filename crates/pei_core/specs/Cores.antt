@@ -1,5 +1,4 @@
--- The core behind what it does: a callback or a dispatch notification begins, a module registers for shadow, or starts.
--- Own.
+-- The core after what it does: a callback or a dispatch notification begins, a module registers for shadow, or starts. Own.
 use Rattle.std.specs.Prelude.{ℕ, ◌+◌, ◌-◌, ◌^◌, min, List, [], ◌∷◌, slice_set, Some, None}
 use Rattle.pi_base.specs.{declared.word.Word.Word, declared.word.Word.TheVariants.Success, declared.word.Word.TheVariants.AlreadyStarted}
 use Rattle.store_model.specs.{declared.store_handle.Firing.Firing, declared.store_handle.Sweep.Sweep}

@@ -69,7 +69,7 @@ action_goal catalog m frame below action = record {
   gone = taken_guid m.store frame action;
 }
 
--- where a reply leads, in the state behind the call
+-- where a reply leads, in the state after the call
 abbrev pub reply_goal : Catalog → PeiMachine → Frame → List Frame → Reply → StoreState → Goal
 reply_goal catalog m frame below reply new = record {
   to = after_call catalog m frame below (L.Call reply.name reply.status reply.extra) (reply_in reply frame.registers new);
@@ -81,7 +81,7 @@ reply_goal catalog m frame below reply new = record {
 abbrev pub shadow_goal : PeiMachine → Frame → List Frame → Goal
 shadow_goal m frame below = record { to = shadowed m frame below; there = []; gone = None }
 
--- the event led there: the machine is there, its lines were put, and the event says what it changed
+-- the event led there: the machine is there, its lines were written, and the event says what it changed
 pub record LedTo (Stands : PeiMachine → Type 0) (m : PeiMachine) (goal : Goal) (t : Texts) (event : Event) : Type 0 where
   pub there : event.changes.there.items ≡ goal.there
   pub gone : event.changes.gone ≡ goal.gone
@@ -89,7 +89,7 @@ pub record LedTo (Stands : PeiMachine → Type 0) (m : PeiMachine) (goal : Goal)
   pub volumes : length goal.to.reported ≡ length m.reported + event.volumes
   pub stepped : HasStepped Stands m goal.to t
 
--- an event, by its answer; memory is wanting only where the store takes it
+-- an event, by its answer; memory runs out only when the store takes it
 abbrev pub LeadsThere : Bool → (PeiMachine → Type 0) → PeiMachine → Goal → Texts → Result Event Halt → Type 0
 LeadsThere memory Stands m goal t (Ok event) = LedTo Stands m goal t event
 LeadsThere memory Stands m goal t (Err H.Sink) = PrintedPart m goal.to t
@@ -100,7 +100,7 @@ abbrev pub InstallsMemory : {M : Type 0} → Bool → (M → StoreState → Type
 InstallsMemory memory stands call result =
     (m : PeiMachine) → Has stands call.pei m → LeadsThere memory (Has stands call.later) m (called_goal m (core_install m.store)) call.texts result
 
--- an action of PEI's own stands next in the script of a module, and no pair fires
+-- an action of PEI's own is next in the script of a module, and no pair fires
 pub record TakesOwn (catalog : Catalog) (action : Action) (m : PeiMachine) : Type 0 where
   pub top : Frame
   pub below : List Frame
@@ -128,7 +128,7 @@ RegistersForShadow memory stands number call result =
     (m : PeiMachine) (frame : Frame) (below : List Frame) → IsRegistering stands number call.pei m frame below
     → LeadsThere memory (Has stands call.later) m (shadow_goal m frame below) call.texts result
 
--- a service has replied to the top frame: the core is the machine's, and the store stands for the state behind the call
+-- a service has replied to the top frame: the core is the machine's, and the store stands for the state after the call
 pub record IsReplied {M : Type 0} (stands : M → StoreState → Type 0) (reply : Reply) (pei : OfPei M) (m : PeiMachine) (frame : Frame) (below : List Frame) (state : StoreState) : Type 0 where
   pub fields : IsCoreOf pei.core m
   pub frames : m.frames ≡ frame ∷ below

@@ -17,7 +17,7 @@ lets_again later Nobody number = false
 lets_again later (One first) number = first == number
 lets_again later All number = awaits_second later number
 
--- the parts that may start again behind an event are those that might before it and those that it lets
+-- the parts that may start again after an event are those that might before it and those that it lets
 abbrev pub IsAgain : PeiMachine → PeiMachine → Again → Type 0
 IsAgain m later again = (number : ℕ) → may_start_again later number ≡ (may_start_again m number || lets_again later again number)
 

@@ -31,12 +31,12 @@ pub record IsEvent (catalog : Catalog) (fuel : ℕ) (m : PeiMachine) (event : Ev
   pub again : IsAgain m (pei_step catalog fuel m) event.again
   pub volumes : length (pei_step catalog fuel m).reported ≡ length m.reported + event.volumes
 
--- the machine is the later one now, and its lines were put
+-- the machine is the later one now, and its lines were written
 pub record HasStepped (Stands : PeiMachine → Type 0) (m later : PeiMachine) (t : Texts) : Type 0 where
   pub printed : Printed m later t
   pub machine : Stands later
 
--- the machine is as it was, and nothing was put
+-- the machine is as it was, and nothing was written
 pub record HasStayed (Stands : PeiMachine → Type 0) (m : PeiMachine) (t : Texts) : Type 0 where
   pub text : Appends t.old t.new []
   pub machine : Stands m
@@ -55,7 +55,7 @@ pub record HasEnded (Stands : PeiMachine → Type 0) (catalog : Catalog) (fuel :
   pub ended : pei_step catalog fuel m ≡ record m { ended = Some end }
   pub stayed : HasStayed Stands m t
 
--- a step from a machine, by its answer; memory is wanting only where the store takes it
+-- a step from a machine, by its answer; memory runs out only when the store takes it
 abbrev pub StepsTo : Bool → (PeiMachine → Type 0) → Catalog → ℕ → PeiMachine → Texts → Result Stepped Halt → Type 0
 StepsTo memory Stands catalog fuel m t (Ok (Went event)) = (IsIdle m → ⊥) × IsEvent catalog fuel m event × HasStepped Stands m (pei_step catalog fuel m) t
 StepsTo memory Stands catalog fuel m t (Ok Idle) = IsIdle m × HasStayed Stands m t

@@ -71,7 +71,7 @@ Does does old registers (T.Wrote status writes) new = (does ≡ Wrote (written r
 Does does old registers (T.Called reply) new = does ≡ Called reply.name (reply_in reply registers new)
 Does does old registers T.Shadowed new = (does ≡ Own Shadowed) × (new ≡ old)
 
--- the same, or memory was wanting, which it never is where `memory` is false
+-- the same, or memory ran out, which it never is where `memory` is false
 abbrev pub IsTaken : Bool → Effect → StoreState → List Register → Result Taken OutOfMemory → StoreState → Type 0
 IsTaken memory does old registers (Ok taken) new = Does does old registers taken new
 IsTaken memory does old registers (Err none) new = (memory ≡ true) × (new ≡ old)

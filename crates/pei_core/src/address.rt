@@ -12,7 +12,7 @@ use phase_parts::{Writes, offset_in};
 use pi_base::Word;
 use store_model::PeiStore;
 
-/// The address of an offset of the heap that is not behind the end HOB.
+/// The address of an offset of the heap that is not after the end HOB.
 pub fn address<M: PeiStore>(store: &M, offset: u64) -> u64
     requires state { Present (M.stands_for store.now) (λ s. offset ≤ end_place s) }
     ensures row { OfEach (M.stands_for store.now) (λ s. offset ≤ end_place s) (λ s. result ≡ s.base + offset) }

@@ -31,7 +31,7 @@ pub fn descriptors_in(
     Some(found)
 }
 
-/// The descriptors in two registers, where both hold one.
+/// The descriptors in two registers, if both hold one.
 pub fn two_descriptors(registers: &[Register; REGISTERS], old: u8, new: u8) -> Option<(Desc, Desc)>
     ensures { result ≡ both (R.descriptor_in registers.now old) (R.descriptor_in registers.now new) }
 {

@@ -58,7 +58,7 @@ impl Core {
 }
 
 impl<M: PeiStore + Drop> Pei<M> {
-    // The first pair of the open sweep that fires now, with the sweep behind it.
+    // The first pair of the open sweep that fires now, with the sweep after it.
     pub(crate) fn next_firing(&self) -> Option<(Firing, Sweep)>
         requires state { (m : PeiMachine) × StandsFor M.stands_for self.now m }
         ensures { (m : PeiMachine) → StandsFor M.stands_for self.now m → FiresNext result m }

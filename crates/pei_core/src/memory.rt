@@ -13,7 +13,7 @@ use phase_parts::{Writes, number_in};
 use pi_base::{OutOfMemory, Word};
 use store_model::PeiStore;
 
-// The numbers in two registers, where both hold one.
+// The numbers in two registers, if both hold one.
 fn numbers_in(registers: &[Register; REGISTERS], first: u8, second: u8) -> Option<(u64, u64)>
     ensures { result ≡ both (R.number_in registers.now first) (R.number_in registers.now second) }
 {

@@ -109,7 +109,7 @@ impl<M: PeiStore + Drop> Pei<M> {
         &self.store
     }
 
-    /// The store, for whoever goes on behind PEI.
+    /// The store, for whoever continues after PEI.
     pub fn into_store(self) -> M
         ensures { (m : PeiMachine) → StandsFor M.stands_for self m → M.stands_for result m.store }
     {
@@ -138,7 +138,7 @@ impl<M: PeiStore + Drop> Pei<M> {
         self.core.states.as_slice()
     }
 
-    /// The module whose script runs. None where none does.
+    /// The module whose script runs. None if none does.
     pub fn running(&self) -> Option<u32>
         ensures { (m : PeiMachine) → StandsFor M.stands_for self.now m
             → result ≡ option_map (λ frame. frame.module_number) (top_of m.frames) }

@@ -16,7 +16,7 @@ use mod_catalog::Catalog;
 use store_model::{Firing, PeiStore};
 
 impl Core {
-    // A dispatch notification begins, where no script runs.
+    // A dispatch notification begins, if no script runs.
     fn begin_dispatch(&mut self, firing: &Firing)
         requires { self.old.frames ≡ [] }
         ensures { self.new ≡ with_notification self.old firing.now }

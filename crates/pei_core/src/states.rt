@@ -19,7 +19,7 @@ pub(crate) fn none_started(alloc: Global, count: usize) -> Result<Seq<PeimState>
     Ok(states)
 }
 
-// The state of a module behind its start.
+// The state of a module after its start.
 fn state_behind(state: PeimState) -> PeimState
     ensures { result ≡ C.state_behind state }
 {

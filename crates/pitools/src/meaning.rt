@@ -18,7 +18,7 @@ const SHOWN_LEN: usize = 60;
 const USAGE: &str =
     "usage: pitools check PLAN TRACE | pitools follow PLAN ORDER | pitools hobs PLAN | pitools explain PLAN [TRACE] | pitools gcd HOBS COMMANDS | pitools mp FILE | pitools volume TEXT | pitools text VOLUME | pitools asm depex|script FILE | pitools dis pei|dxe|script FILE";
 
-// The word behind so many words.
+// The word after so many words.
 fn word_at(words: &[String], place: usize) -> &str {
     match words.get(place) {
         Some(word) => word.as_str(),
@@ -165,7 +165,7 @@ static BYTE_WORDS: [(&str, &str); 8] = [
     ),
 ];
 
-// The offset of a file that a refusal names last, behind its cause.
+// The offset of a file that a refusal names last, after its cause.
 fn tell_place(rt: &HostRuntime, name: &str, text: Option<&[u8]>, of_hobs: bool) -> Option<()> {
     let mut words = str::from_utf8(text?).ok()?.split_whitespace().skip(2);
     let cause = words.next()?;
@@ -277,7 +277,7 @@ fn meaning_of(words: &[String], status: ToolStatus) -> &'static str {
     }
 }
 
-// What is told of a run that is done: how the expressions of a volume's text are read. Where the text was not kept, nothing is.
+// What is told of a run that is done: how the expressions of a volume's text are read. If the text was not kept, nothing is.
 fn tell_done(rt: &HostRuntime, words: &[String], files: &mut MemFiles) {
     if word_at(words, 0) == "volume" {
         let _ = tell_readings(rt, word_at(words, 1), files);

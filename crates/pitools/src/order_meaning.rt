@@ -1,7 +1,7 @@
 // What a person is told of a boot in an order of starts.
 use tools_core::ToolStatus;
 
-/// What a line of an order has to be.
+/// What a line of an order must be.
 pub(crate) const LINE_FORMS: &str =
     "is none of: pei V GUID, dxe V GUID, with the number of a volume and the name of its file; or it is no `stop` behind which nothing follows";
 

@@ -13,7 +13,7 @@ pub struct Call {
     keeping: Keeping,
 }
 
-// The words after the program's name. Where one is not UTF-8 there are none, which is no form of a command line.
+// The words after the program's name. If one is not UTF-8 there are none, which is no form of a command line.
 fn words_of(rt: &HostRuntime) -> io::Result<Vec<String>> {
     let mut words = Vec::new(rt.alloc());
     match env::args(rt) {

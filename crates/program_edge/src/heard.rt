@@ -18,7 +18,7 @@ pub struct Heard<'a> {
 }
 
 impl<'a> Heard<'a> {
-    /// What a run's files and output kept. There is no output where memory was wanting for one.
+    /// What a run's files and output kept. There is no output if memory ran out for one.
     pub fn new<F: Files + Drop, W: Write + Drop>(
         alloc: Global,
         files: KeptFiles<F>,

@@ -26,7 +26,7 @@ pub struct AskedFile {
     pub limit: usize,
 }
 
-/// Files that keep what is read of the files below them. Where memory is wanting for a copy or a name there is none.
+/// Files that keep what is read of the files below them. If memory runs out for a copy or, a name there is none.
 #[derive(Drop)]
 pub struct KeptFiles<F: Files + Drop> {
     files: F,

@@ -8,7 +8,7 @@ use std::io::{self, Write};
 // The most bytes of a text that is kept beside the names of files.
 const SHORT_TEXT: usize = 0x1_0000;
 
-/// A writer that keeps a copy of what the writer below it takes. Where that is too long, or memory is wanting for the copy, there is none.
+/// A writer that keeps a copy of what the writer below it takes. If that is too long, or memory runs out for the copy, there is none.
 #[derive(Drop)]
 pub struct KeptText<W: Write + Drop> {
     to: W,

@@ -61,7 +61,7 @@ fn words_of(kind: Kind) -> &'static str {
     }
 }
 
-// How often a line of a kind has to stand.
+// How often a line of a kind must stand.
 fn need_of(kind: Kind) -> &'static str {
     match kind {
         Kind::Volume => "begins no line of the plan; 1 to 16 lines volume BASE NAME have to",

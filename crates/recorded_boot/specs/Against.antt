@@ -48,7 +48,7 @@ pub record IsModuleOf (catalog : Catalog) (start : Start) (part : Part) : Type 0
   pub named : IsNamed catalog start.volume start.name number
   pub part_is : part_at start.phase catalog number ≡ Some part
 
--- what stands against a start behind these starts, with this installed
+-- what stands against a start after these starts, with this installed
 abbrev pub StandsAgainst : Catalog → List Start → StoreState → HandleState → Start → Against → Type 0
 StandsAgainst catalog made s h start Unknown = (part : Part) → IsModuleOf catalog start part → ⊥
 StandsAgainst catalog made s h start Started = ((part : Part) × IsModuleOf catalog start part) × IsAmong start made

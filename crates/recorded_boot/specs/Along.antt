@@ -4,7 +4,7 @@ use Rattle.std.specs.Prelude.{◌≡◌, ◌⊎◌, ◌≤◌, ℕ, List, None, 
 use Rattle.recorded_boot.specs.{declared.order.line.Start.Start, declared.order.lines.StartOrder.StartOrder, Starts.ComeFirst}
 use Rattle.recorded_boot.specs.ByOrder.{starts_of}
 
--- starts are made as an order asks: they are the first of its starts, or they come behind all of them, where it does not stop
+-- starts are made as an order asks: they are the first of its starts, or they come after all of them, where it does not stop
 abbrev pub IsAlong : StartOrder → List Start → Type 0
 IsAlong order made = ComeFirst made (starts_of order.starts) ⊎ ((order.stop ≡ None) × ComeFirst (starts_of order.starts) made)
 

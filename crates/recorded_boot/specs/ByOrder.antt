@@ -1,5 +1,6 @@
--- The choice by an order: behind so many starts the module of the order's line in that place is named, and no other is let; behind its last line nobody is named, so that the first that may start does, and each is let, unless the order stops there.
--- Own; PI 1.8, volumes 1 and 2, leave the order of the modules that may start to the dispatchers.
+-- The choice by an order: after so many starts the module of the order's line in that place is named, and no other is let; after its last line no module is
+-- named, so that the first that may start does, and each is let, unless the order stops there. Own; PI 1.8, volumes 1 and 2, leave the order of the modules
+-- that may start to the dispatchers.
 use Rattle.std.specs.Prelude.{◌≡◌, ℕ, Bool, true, false, ◌&&◌, ◌==◌, List, Option, Some, None, is_none, length, map, slice_get}
 use Rattle.pi_base.specs.{declared.guid.Guid.Guid, declared.phase.Phase.Phase}
 use Rattle.pi_base.specs.{declared.phase.Phase.TheVariants.Pei, declared.phase.Phase.TheVariants.Dxe, Guids.same_guid}
@@ -36,12 +37,12 @@ abbrev pub NamesStart : Bool → Catalog → Start → Option ℕ → Type 0
 NamesStart true catalog start named = IsNumberOf catalog start named
 NamesStart false catalog start named = named ≡ None
 
--- by what the order asks for there: behind its last line nobody is named
+-- by what the order asks for there: after its last line no module is named
 abbrev pub NamesNext : Catalog → Phase → Option AskedStart → Option ℕ → Type 0
 NamesNext catalog phase None named = named ≡ None
 NamesNext catalog phase (Some asked) named = NamesStart (same_phase asked.start.phase phase) catalog asked.start named
 
--- whom the order names in a phase behind so many starts
+-- whom the order names in a phase after so many starts
 abbrev pub NamesAsked : Catalog → Phase → StartOrder → ℕ → Option ℕ → Type 0
 NamesAsked catalog phase order starts named = NamesNext catalog phase (slice_get order.starts starts) named
 

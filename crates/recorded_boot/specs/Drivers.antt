@@ -14,7 +14,7 @@ use Rattle.recorded_boot.specs.{declared.order.lines.StartOrder.StartOrder, decl
 use Rattle.dxe_dispatch.specs.Choices.{IsBarred, IsRunBy, LetsDrivers, NamesDrivers, came}
 use Rattle.recorded_boot.specs.ByOrder.{NamesBy, lets_by}
 
--- what an order names in DXE, and what it lets, behind so many starts in PEI
+-- what an order names in DXE, and what it lets, after so many starts in PEI
 abbrev pub named_by : {S : Type 0} → (S → Option (List ℕ)) → (S → ℕ) → Catalog → StartOrder → List (List (Guid × ℕ)) → ℕ → S → DxeMachine → Option ℕ → Type 0
 named_by text faults catalog order names in_pei first = NamesDrivers (λ sink starts named. NamesBy catalog names Dxe order starts named) text faults in_pei first
 
@@ -31,12 +31,12 @@ abbrev pub IsCounted : Reached DxeEnd → ℕ → Type 0
 IsCounted (R.End how) starts = ⊤
 IsCounted (R.Barred number) starts = 1 ≤ starts
 
--- what is left behind a run, by what it reached, and how many drivers have left the queue, the starts in PEI with them
+-- what is left after a run, by what it reached, and how many drivers have left the queue, the starts in PEI with them
 abbrev pub leaves : Reached DxeEnd → ℕ → HandleState → Drivers
 leaves (R.End how) starts handles = record { «end» = Some (dxe_result how); handles = handles; starts = starts }
 leaves (R.Barred number) starts handles = record { «end» = None; handles = handles; starts = starts - 1 }
 
--- a run by choices comes to a machine, all of whose lines were put
+-- a run by choices comes to a machine, all of whose lines were written
 pub record HasRun (Names : DxeMachine → Option ℕ → Type 0) (Lets : DxeMachine → ℕ → Bool) (catalog : Catalog) (fuel : ℕ)
     (opening : DxeMachine) (in_pei : ℕ) (drivers : Drivers) (old new : Option (List ℕ)) : Type 0 where
   pub earlier : List DxeMachine

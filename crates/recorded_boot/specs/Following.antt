@@ -1,4 +1,4 @@
--- What a boot along an order comes to: its end, a place where the order stops, or the start of a line that no free boot makes behind those of the lines before.
+-- What a boot along an order comes to: its end, a place where the order stops, or the start of a line that no free boot makes after those of the lines before.
 -- Own; PI 1.8, volumes 1 and 2, leave to the dispatchers which of the modules that may start does, and nothing else.
 use Rattle.std.specs.Prelude.{◌≡◌, ◌⊎◌, ℕ, true, List, [], ◌∷◌, ◌++◌, Some, is_some}
 use Rattle.std.specs.Io.KnownBytes.{Appends}
@@ -24,7 +24,8 @@ pub record IsBeforeStart (board : Board) (catalog : Catalog) (fuel : ℕ) (print
   pub rest : List Line
   pub are : lines ≡ printed ++ line ∷ rest
 
--- a boot that came to its end: its starts are those of the order, and others only where that does not stop; behind the last of the order it goes on as the machine itself does
+-- a boot that came to its end: its starts are those of the order, and others only when that does not stop; after the last of the order it continues as the
+-- machine itself does
 pub record HasEnded (board : Board) (catalog : Catalog) (fuel : ℕ) (order : StartOrder) (end : RunEnd) (t : Texts) : Type 0 where
   pub lines : List Line
   pub boots : AreFreeLines board catalog fuel lines
@@ -50,7 +51,7 @@ pub data StandsAt (board : Board) (catalog : Catalog) (fuel : ℕ) (lines : List
       → (over : List DxeMachine) (m : DxeMachine) → DxeComesTo catalog fuel (dxe_opening catalog pei.store pei.actions) over m
       → lines ≡ pei.lines ++ m.lines → s ≡ pei.store → h ≡ m.handles → StandsAt board catalog fuel lines s h
 
--- what stands against a start behind these lines, in the machine that printed them, or all but the last ones of a whole boot
+-- what stands against a start after these lines, in the machine that printed them, or all but the last ones of a whole boot
 pub record StandsBehind (board : Board) (catalog : Catalog) (fuel : ℕ) (printed : List Line) (start : Start) (against : Against) : Type 0 where
   pub lines : List Line
   pub last : List Line

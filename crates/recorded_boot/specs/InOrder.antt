@@ -58,7 +58,7 @@ pub record BarsInDxe (by : W.Choices) (catalog : Catalog) (pei : PeiMachine) (m 
   pub due : D.IsDue (by.drivers pei) catalog m number
   pub barred : by.lets_driver pei due.target number ≡ false
 
--- behind this PEI the boot stands there in DXE, which has ended so or is left
+-- after this PEI the boot is there in DXE, which has ended so or is left
 abbrev pub IsDxePlace : W.Choices → Catalog → PeiMachine → DxeMachine → Option DxeEnd → Place → Type 0
 IsDxePlace by catalog pei m None place = BarsInDxe by catalog pei m × (place ≡ dxe_place pei m None)
 IsDxePlace by catalog pei m (Some how) place = place ≡ dxe_place pei m (Some (dxe_result how))
@@ -68,7 +68,7 @@ pub record StandsInDxe (by : W.Choices) (catalog : Catalog) (fuel : ℕ) (pei : 
   pub comes : ComesInDxe by catalog fuel pei m
   pub stands : IsDxePlace by catalog pei m m.ended place
 
--- the boot stands there with PEI, which has ended so or is left; behind a hand-off it stands in DXE
+-- the boot is there with PEI, which has ended so or is left; after a hand-off it is in DXE
 abbrev pub IsPeiPlace : W.Choices → Catalog → ℕ → PeiMachine → Option PeiEnd → Place → Type 0
 IsPeiPlace by catalog fuel m None place = BarsInPei by catalog m × (place ≡ pei_place m None)
 IsPeiPlace by catalog fuel m (Some Handoff) place = StandsInDxe by catalog fuel m place

@@ -1,5 +1,4 @@
--- What a boot along an order comes to where it is left before a start, or has ended, by what the order asks for behind so many starts.
--- Own.
+-- What a boot along an order comes to where it is left before a start, or has ended, by what the order asks for after so many starts. Own.
 use Rattle.std.specs.Prelude.{◌≡◌, ℕ, Option, Some, None, slice_get, take}
 use Rattle.mod_catalog.specs.declared.catalogue.Catalog.{Catalog}
 use Rattle.store_model.specs.{HandleState.HandleState, StoreState.StoreState}
@@ -16,7 +15,7 @@ pub record IsRefused (catalog : Catalog) (order : StartOrder) (index : ℕ) (s :
   pub line_is : line ≡ asked.line
   pub stood : StandsAgainst catalog (starts_of (take index order.starts)) s h asked.start against
 
--- behind so many starts, where the boot has ended so, or is left before the next one
+-- after so many starts, where the boot has ended so, or is left before the next one
 abbrev pub ComesTo : Catalog → StartOrder → ℕ → StoreState → HandleState → Option RunEnd → Followed → Type 0
 ComesTo catalog order index s h end (Ended so) = (end ≡ Some so) × (slice_get order.starts index ≡ None)
 ComesTo catalog order index s h end Stopped = (end ≡ None) × (slice_get order.starts index ≡ None)

@@ -23,7 +23,7 @@ of_two make None b = None
 of_two make (Some a) None = None
 of_two make (Some a) (Some b) = Some (make a b)
 
--- the start that the words behind a keyword spell
+-- the start that the words after a keyword spell
 abbrev pub start_by : ℕ → Phase → List (List ℕ) → Option Asked
 start_by number phase [] = None
 start_by number phase (volume ∷ []) = None

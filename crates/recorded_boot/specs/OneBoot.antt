@@ -10,7 +10,7 @@ use Rattle.recorded_boot.specs.{Named.HasNoTwins, declared.order.lines.StartOrde
 use Rattle.recorded_boot.specs.{declared.follow.images.FollowFault.FollowFault, Answer.FollowsTo, Follow.Follows}
 use Rattle.recorded_boot.specs.declared.follow.images.FollowFault.TheVariants.{Image, Twins, Sink, Memory}
 
--- this text was put, and nothing before it
+-- this text was written, and nothing before it
 abbrev pub put : List ℕ → Texts
 put text = record { old = Some []; new = Some text }
 

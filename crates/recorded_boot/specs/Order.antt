@@ -18,7 +18,7 @@ asked_in numbered = option_to_list (option_map (asked_at numbered.0) (start_of n
 abbrev pub asked_from : ℕ → List Line → List AskedStart
 asked_from number lines = flat_map asked_in (enumerate_from number lines)
 
--- each start of which the lines tell, with the number of its line, from 1; behind the last of them the boot goes on
+-- each start of which the lines tell, with the number of its line, from 1; after the last of them the boot continues
 abbrev pub order_of : List Line → StartOrder
 order_of lines = record { starts = asked_from 1 lines; stop = None }
 

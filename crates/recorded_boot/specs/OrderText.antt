@@ -36,7 +36,7 @@ AreLinesOf order lines = spelled lines ≡ map (λ asked. Some asked) (all_asked
 abbrev pub IsOrder : List ℕ → StartOrder → Type 0
 IsOrder text order = AreLinesOf order (numbered text)
 
--- the first bad line: those before it spell an order, and it asks for nothing or stands behind the stop
+-- the first bad line: those before it spell an order, and it asks for nothing or is after the stop
 pub record IsFirstBad (text : List ℕ) (number : ℕ) : Type 0 where
   pub before : List (ℕ × List ℕ)
   pub line : List ℕ

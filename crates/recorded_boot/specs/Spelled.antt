@@ -16,19 +16,19 @@ met s = take s.at s.text.now
 abbrev pub left : Spelled → List ℕ
 left s = drop s.at s.text.now
 
--- what was put, as far as it is known: what was met, and the first byte that does not stand there
+-- what was put, as far as it is known: what was met, and the first byte that does not are there
 abbrev pub told : Spelled → List ℕ
 told s = met s ++ option_to_list s.wrong
 
--- how often a piece did not stand in the text
+-- how often a piece did not are in the text
 abbrev pub faults_of : Spelled → ℕ
 faults_of s = s.faults
 
--- all that was put stands in the text
+-- all that was put is in the text
 abbrev pub IsRight : Spelled → Type 0
 IsRight s = s.faults ≡ 0
 
--- a text behind which others may stand: each byte one higher, and a 0
+-- a text after which others may stand: each byte one higher, and a 0
 abbrev pub marked : List ℕ → List ℕ
 marked [] = 0 ∷ []
 marked (byte ∷ bytes) = (byte + 1) ∷ marked bytes
@@ -37,7 +37,7 @@ marked (byte ∷ bytes) = (byte + 1) ∷ marked bytes
 abbrev pub spoken : Spelled → List ℕ
 spoken s = marked (whole s) ++ told s
 
--- these bytes were put, and all stand in the text
+-- these bytes were written, and all are in the text
 pub record GoesOn (old new : Spelled) (bytes : List ℕ) : Type 0 where
   pub whole_is : whole new ≡ whole old
   pub met_is : met new ≡ met old ++ bytes

@@ -5,7 +5,7 @@ use Rattle.boot_io.specs.{declared.sink.SinkFault.SinkFault, Output.HasLeftBy}
 use Rattle.tools_core.specs.{declared.status.ToolStatus.ToolStatus, Ends.Ends, Ends.status_after, FileReading.FilesTrail}
 use Rattle.tools_core.specs.Outcome.{Names, Outcome}
 
--- what the words lead to was put behind a text, into a sink that had counted no fault
+-- what the words lead to was put after a text, into a sink that had counted no fault
 abbrev pub HasPut : (List ℕ → Option (List ℕ)) → List (List ℕ) → FilesTrail → Option (List ℕ) → Option (List ℕ) → ToolStatus → Type 0
 HasPut told words files old new status =
     (faults : ℕ) × Ends (Outcome told words) (Names told words) status (record { old = old; new = new; before = 0; now = faults; files = files })

@@ -1,5 +1,4 @@
--- Words and told files have one outcome, so that each status comes exactly where the words lead to it, with its text.
--- Own.
+-- Words and told files have one outcome, so that each status comes exactly when the words lead to it, with its text. Own.
 use Rattle.std.specs.Prelude.{◌≡◌, ◌⊎◌, ℕ, List, Option, Some, None, ⊤}
 use Rattle.std.specs.Io.KnownBytes.{Appends}
 use Rattle.pi_base.specs.Field.{AreBytes}
@@ -24,7 +23,7 @@ AreAllTold told Named = (name : List ℕ) → Named name → IsToldAsBytes (told
 abbrev pub AreTold : (List ℕ → Option (List ℕ)) → List (List ℕ) → Type 0
 AreTold told words = AreAllTold told (Names told words)
 
--- a fault of the files or of the sink, or want of memory, stands in the place of an answer
+-- a fault of the files or of the sink, or want of memory, is in the place of an answer
 abbrev pub IsStoppedBy : Kind → ToolStatus → Type 0
 IsStoppedBy OfSink status = ⊤
 IsStoppedBy OfMemory status = ⊤
@@ -33,7 +32,7 @@ IsStoppedBy OfText status = status ≡ FileFault
 abbrev pub IsStopped : ToolStatus → Type 0
 IsStopped status = IsStoppedBy (kind_of status) status
 
--- nothing is answered but what the words lead to, and where the files are told, that is answered; unless a fault or want of memory stands in its place
+-- nothing is answered but what the words lead to, and where the files are told, that is answered; unless a fault or want of memory is in its place
 pub record AnswersExactly (told : List ℕ → Option (List ℕ)) (words : List (List ℕ)) (old new : Option (List ℕ)) (status : ToolStatus) : Type 0 where
   pub only : (IsStopped status → ⊥) → (text : List ℕ) × Outcome told words status text × Appends old new text
   pub whenever : AreTold told words → (due : ToolStatus) (text : List ℕ) → Outcome told words due text

@@ -104,7 +104,7 @@ fn short_tool_of(verb: &str) -> Option<Tool>
     }
 }
 
-// The tool that words name which stand before a file's name.
+// The tool that words name which are before a file's name.
 fn named_tool(words: &[String]) -> Option<Tool>
     ensures found { IfSome result (λ tool. tool_words tool ≡ words_of words.now) }
     ensures none { IfNone result ((tool : Tool) → tool_words tool ≡ words_of words.now → ⊥) }

@@ -20,7 +20,7 @@ pub(crate) fn put_order<S: Sink>(sink: &mut S, line: u32) -> Result<(), SinkFaul
     put_line(sink, b"refused order", &[line.as_slice()])
 }
 
-// A GUID behind a space.
+// A GUID after a space.
 fn put_guid<S: Sink>(sink: &mut S, guid: &Guid) -> Result<(), SinkFault>
     ensures text { Puts result (S.text sink.old) (S.text sink.new) (guid_word guid.now) }
     ensures cause { SinkFaultsAfter result (S.faults sink.old) (S.faults sink.new) }
@@ -29,7 +29,7 @@ fn put_guid<S: Sink>(sink: &mut S, guid: &Guid) -> Result<(), SinkFault>
     sink.put(guid.to_text().as_slice())
 }
 
-// GUIDs, each behind a space.
+// GUIDs, each after a space.
 fn put_guids<S: Sink>(sink: &mut S, guids: &[Guid]) -> Result<(), SinkFault>
     ensures text { Puts result (S.text sink.old) (S.text sink.new) (flat_map guid_word guids.now) }
     ensures cause { SinkFaultsAfter result (S.faults sink.old) (S.faults sink.new) }
@@ -71,7 +71,7 @@ fn put_against<S: Sink>(sink: &mut S, against: &Against) -> Result<(), SinkFault
     }
 }
 
-// What is printed behind the lines of a boot.
+// What is printed after the lines of a boot.
 #[tactic(auto, unfolding(crate::specs::FollowText::stop_text))]
 fn put_last<S: Sink>(sink: &mut S, followed: &Followed) -> Result<(), SinkFault>
     ensures text { Puts result (S.text sink.old) (S.text sink.new) (last_text followed.now) }

@@ -75,7 +75,8 @@ fn with_texts<F: Files>(
     }
 }
 
-/// What the files of a plan, of an order of starts and of the plan's volumes lead to, which are read in this order; the plan is examined before its volumes are read, and the order behind that.
+/// What the files of a plan, of an order of starts and of the plan's volumes lead to, which are read in this order; the plan is examined before its volumes are
+/// read, and the order after that.
 pub(crate) fn with_follow<F: Files>(
     alloc: Global,
     plan: &str,

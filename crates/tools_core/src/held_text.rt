@@ -15,7 +15,7 @@ pub(crate) struct HeldText {
 impl HeldText {
     ghost use Rattle.std.specs.Prelude.{◌≡◌, []};
 
-    /// Nothing was put yet.
+    /// Nothing was written yet.
     pub(crate) fn new(alloc: Global) -> HeldText
         ensures text { result.text ≡ [] }
         ensures faults { result.faults ≡ 0 }

@@ -36,7 +36,7 @@ impl Model for Handles {
         × IsIndex h.holders h.interfaces.items };
 }
 
-/// Puts an interface at a place, and its handle among those that have the protocol. Where memory is wanting both stay as they were.
+/// Puts an interface at a place, and its handle among those that have the protocol. If memory runs out, both stay as they were.
 fn add(
     interfaces: &mut Vec<Interface>,
     holders: &mut GuidLists,

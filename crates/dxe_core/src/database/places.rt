@@ -1,4 +1,4 @@
-// Where interfaces stand in a list that is in order of handle.
+// Where interfaces are in a list that is in order of handle.
 ghost use Rattle.std.specs.Prelude.{◌≡◌, ◌≤◌, ◌<◌, IfSome, IfOk, length};
 ghost use Rattle.pi_base.specs.Lists.{Ordered};
 ghost use Rattle.store_model.specs.HandleFacts.{IsNotBehind, AreOfOthers};

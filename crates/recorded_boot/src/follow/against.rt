@@ -23,7 +23,7 @@ pub enum Against {
     NotEligible(Seq<Guid>),
 }
 
-// The part of the module of a start, where there is one.
+// The part of the module of a start, if there is one.
 fn part_asked<'c>(catalog: &'c Catalog, names: &Names, start: &Start) -> Option<&'c Part>
     requires { AreNames catalog.now (length catalog.now.modules) names.now.volumes.items }
     ensures { FindsPart catalog.now start.now (option_copied result) }
@@ -55,7 +55,7 @@ fn is_among(start: &Start, made: &[AskedStart]) -> bool
     false
 }
 
-/// What stands against a start behind those of these lines.
+/// What stands against a start after those of these lines.
 pub(crate) fn cause_against<M: PeiStore>(
     alloc: Global,
     catalog: &Catalog,

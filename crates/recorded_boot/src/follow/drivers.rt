@@ -133,7 +133,7 @@ fn run_queued<M: PeiStore, S: Sink>(
     reached
 }
 
-// What DXE comes to behind a run, with these handles. A driver that was not let has left the queue, and counts among the starts.
+// What DXE comes to after a run, with these handles. A driver that was not let has left the queue, and counts among the starts.
 fn left_by(reached: Reached<DxeEnd>, starts: u64, handles: Handles) -> Drivers
     requires some { IsCounted reached starts }
     ensures { result ≡ leaves reached starts handles }
@@ -152,7 +152,7 @@ fn left_by(reached: Reached<DxeEnd>, starts: u64, handles: Handles) -> Drivers
     }
 }
 
-/// The whole of DXE behind the hand-off of PEI, along an order.
+/// The whole of DXE after the hand-off of PEI, along an order.
 pub(crate) fn run_drivers<M: PeiStore + Drop, S: Sink>(
     alloc: Global,
     by: &ByOrder<'_>,

@@ -24,9 +24,9 @@ use store_model::PeiStore;
 /// What a boot along an order comes to.
 #[derive(Drop)]
 pub enum Followed {
-    /// Its end with this result, behind all starts that the order asks for.
+    /// Its end with this result, after all starts that the order asks for.
     Ended(RunEnd),
-    /// The next start behind all of those, where the order stops: it is left there.
+    /// The next start after all of those, where the order stops: it is left there.
     Stopped,
     /// A line of which the start is not made.
     No {
@@ -37,7 +37,7 @@ pub enum Followed {
     },
 }
 
-// What a boot comes to behind so many starts: it has ended so, or is left before the next one.
+// What a boot comes to after so many starts: it has ended so, or is left before the next one.
 fn come_to<M: PeiStore>(
     alloc: Global,
     by: &ByOrder<'_>,
@@ -57,7 +57,7 @@ fn come_to<M: PeiStore>(
             None => return Ok(Followed::Stopped),
         },
     };
-    // The starts behind which it stands were made.
+    // The starts after which it stands were made.
     let made = &by.order.starts.as_slice()[..starts as usize];
     let against = cause_against(alloc, by.catalog, by.names, installed, made, &asked.start)?;
     Ok(Followed::No {
@@ -111,7 +111,7 @@ fn finish<M: PeiStore, S: Sink>(
     }
 }
 
-// DXE behind the hand-off.
+// DXE after the hand-off.
 fn follow_drivers<M: PeiStore + Drop, S: Sink>(
     alloc: Global,
     by: &ByOrder<'_>,
@@ -142,7 +142,7 @@ fn follow_drivers<M: PeiStore + Drop, S: Sink>(
     }
 }
 
-// The result of a boot that ends with PEI. None behind a hand-off.
+// The result of a boot that ends with PEI. None after a hand-off.
 fn pei_result(end: PeiEnd) -> Option<RunEnd>
     ensures { result ≡ pei_result end }
 {

@@ -148,8 +148,11 @@ fn follow_catalog<S: Sink>(
     }
 }
 
-/// Boots a plan and its images in the order of starts that is handed in, and puts the boot's lines into a sink as they come. Behind the last line of the order nobody is named, so that the boot goes on as the machine itself does, unless the order stops there; where no free boot starts as the order's lines do up to one of them, the boot is left before it, or comes to its end first. An order leads to one boot (`one_boot`).
-/// There are as many images as volumes of the plan, and the order has no more than 2^32 - 1 starts. The images' first fault comes first, then the first volume with two modules of one name; then nothing is put.
+/// Boots a plan and its images in the order of starts that is handed in, and puts the boot's lines into a sink as they come. After the last line of the order
+/// no module is named, so that the boot continues as the machine itself does, unless the order stops there; if no free boot starts as the order's lines do up
+/// to one of them, the boot is left before it, or comes to its end first. An order leads to one boot (`one_boot`). There are as many images as volumes of the
+/// plan, and the order has no more than 2^32 - 1 starts. The images' first fault comes first, then the first volume with two modules of one name; then nothing
+/// is written.
 pub fn follow<S: Sink>(
     alloc: Global,
     plan: &Plan,

@@ -5,7 +5,7 @@ use pi_base::OutOfMemory;
 /// Why a text is no order of starts.
 #[derive(Clone, Copy, Debug)]
 pub enum OrderFault {
-    /// The number, from 1, of the first line that is of no form or stands behind `stop`.
+    /// The number, from 1, of the first line that is of no form or is after `stop`.
     Bad { line: u32 },
     /// Want of memory.
     Memory,

@@ -37,7 +37,7 @@ pub enum Asked {
     Stop(u32),
 }
 
-// The start that the words behind a keyword spell.
+// The start that the words after a keyword spell.
 fn start_by(number: u32, phase: Phase, operands: &[u8]) -> Option<Asked>
     requires { slice_index operands.now 0 ≢ 32 }
     ensures { result ≡ start_by number phase (words operands.now) }

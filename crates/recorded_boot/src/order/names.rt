@@ -8,7 +8,7 @@ use mod_catalog::{Catalog, Module};
 use pi_base::{Guid, GuidMap, OutOfMemory};
 use std::alloc::Global;
 
-/// The modules of a catalogue, by volume and file name, where no volume has two modules of one name.
+/// The modules of a catalogue, by volume and file name, if no volume has two modules of one name.
 #[derive(Drop)]
 pub struct Names {
     // A map for each volume, by its number.
@@ -112,7 +112,7 @@ impl Names {
         }
     }
 
-    /// The module with this file name in this volume. None where there is none.
+    /// The module with this file name in this volume. None if there is none.
     pub fn number_of(&self, volume: u32, name: &Guid) -> Option<u32>
         ensures { (catalog : OfCatalog) → AreNames catalog (length catalog.modules) self.now.volumes.items
             → (number : ℕ) → (result ≡ Some number) ↔ IsNamed catalog volume name.now number }

@@ -22,7 +22,7 @@ fn note(starts: &mut Seq<AskedStart>, number: u32, line: &Line) -> Result<(), Ou
     }
 }
 
-/// The order of the starts of which lines tell, each with the number of its line, from 1. It does not stop behind the last of them.
+/// The order of the starts of which lines tell, each with the number of its line, from 1. It does not stop after the last of them.
 pub fn order_of(alloc: Global, lines: &[Line]) -> Result<StartOrder, OutOfMemory>
     requires { length lines.now < 2 ^ 32 - 1 }
     ensures { IfOk result (λ order. order ≡ O.order_of lines.now) }

@@ -6,7 +6,7 @@ use crate::order::Start;
 use boot_model::Line;
 use pi_base::Phase;
 
-/// The start of which a line tells. None where it tells of none.
+/// The start of which a line tells. None if it tells of none.
 pub fn start_of(line: &Line) -> Option<Start>
     ensures { result ≡ S.start_of line.now }
 {

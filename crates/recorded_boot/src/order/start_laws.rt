@@ -12,7 +12,7 @@ pub fn one_dxe_step()
     ensures { OneDxeStep }
 {}
 
-/// The free boots that start what was started up to a machine are those that go on from it.
+/// The free boots that start what was started up to a machine are those that continue from it.
 pub fn starts_lead()
     ensures pei { PeiStartsLead }
     ensures dxe { DxeStartsLead }

@@ -8,7 +8,7 @@ use pi_base::OutOfMemory;
 /// Why a boot is followed no further.
 #[derive(Clone, Copy)]
 pub enum Parted {
-    /// The text is no boot's that goes on as what was met.
+    /// The text is no boot's that continues as what was met.
     Off,
     /// Want of memory.
     Memory,

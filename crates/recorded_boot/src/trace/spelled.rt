@@ -6,7 +6,8 @@ ghost use Rattle.std.proofs.Props.{props};
 use crate::trace::bytes::{before, behind, count_feeds, first_line, first_other};
 use boot_io::{Sink, SinkFault};
 
-/// A text that a boot is held against, as a sink: a piece that is put is compared with the text at the place that was met. The first byte that does not stand there is kept, and no more is met from then on.
+/// A text that a boot is held against, as a sink: a piece that is put is compared with the text at the place that was met. The first byte that does not are
+/// there is kept, and no more is met from then on.
 #[derive(Drop)]
 pub struct Spelled<'a> {
     text: &'a [u8],
@@ -42,7 +43,7 @@ impl<'a> Spelled<'a> {
         before(self.text, self.at)
     }
 
-    /// The next line of the text, without its line feed. None where no line feed follows, or what was put is not the text.
+    /// The next line of the text, without its line feed. None if no line feed follows, or what was put is not the text.
     pub fn next_line(&self) -> Option<&[u8]>
         ensures { IsRight self.now → MatchOption result (Lacks (left self.now)) (λ line. BeginsWithLine (left self.now) line.now) }
     {
