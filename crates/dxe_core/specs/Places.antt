@@ -1,4 +1,4 @@
--- Where interfaces are in a list that is in order of handle.
+-- The places of interfaces in a list that is in order of handle.
 -- Own.
 use Rattle.std.specs.Prelude.{◌≡◌, ℕ, zero, suc, ◌<◌, ◌==◌, Bool, true, false, List, [], ◌∷◌, Option, Some, None, Result, Ok, Err}
 use Rattle.std.specs.List.{list_any}

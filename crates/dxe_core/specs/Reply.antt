@@ -22,11 +22,11 @@ reply_in reply registers later volumes = record {
   volumes = volumes;
 }
 
--- the protocols that an action changes whose call has this status: none, where it is refused
+-- the protocols that an action changes if its call has this status: none if it is refused
 abbrev pub changed_by : Action → Word → List Guid
 changed_by action status = if is_success status then changed_protocols action else []
 
--- what a service keeps beside what the services stand on and what its event leaves
+-- a service leaves the store, the count of actions, the lines and the end of the machine unchanged
 pub record KeepsRest (m later : DxeMachine) : Type 0 where
   pub store : later.store ≡ m.store
   pub actions : later.actions ≡ m.actions

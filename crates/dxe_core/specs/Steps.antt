@@ -65,7 +65,7 @@ StepsTo Stands catalog fuel m t (Ok Idle) = IsIdle m × IsAsBefore Stands m t
 StepsTo Stands catalog fuel m t (Ok (Ended end)) = IsCutOff Stands catalog fuel m end t
 StepsTo Stands catalog fuel m t (Err halt) = PrintedPart m (dxe_step catalog fuel m) t
 
--- a step of the core, from each machine that it stands for beside its store, and in which drivers wait for their request
+-- a step of the core, from each machine that it stands for with its store, and in which drivers wait for their request
 abbrev pub Steps : {M : Type 0} → (M → StoreState → Type 0) → M → Catalog → CoreCall → Result Stepped Halt → Type 0
 Steps stands store catalog call result =
     (m : DxeMachine) (fuel : ℕ) → IsFor catalog fuel call.before → StandsFor stands store catalog call.before m → WaitForRequest catalog m

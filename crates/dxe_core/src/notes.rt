@@ -1,4 +1,4 @@
-// The notifications of protocols, in the order in which they were registered, and where those of a protocol stand.
+// The notifications of protocols, in the order of their registration, and the places of those of each protocol.
 ghost use Rattle.std.specs.Prelude.{◌≡◌, ◌∷◌, ◌++◌, [], OnOk, OnErr, length, option_copied, slice_get};
 ghost use Rattle.guid_lists.specs.Places.{IsFirstFrom};
 ghost use Rattle.dxe_core.specs.Notes.{is_note};
@@ -30,7 +30,7 @@ impl Model for Notes {
 }
 
 impl Notes {
-    /// None. It takes no memory.
+    /// No notifications. It allocates nothing.
     pub(crate) fn new(alloc: Global) -> Notes
         ensures { result ≡ [] }
     {

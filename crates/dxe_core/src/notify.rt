@@ -15,7 +15,7 @@ use boot_trace::put_made;
 use mod_catalog::Catalog;
 use phase_parts::{begin_notification, notified};
 
-// The frame in which a notification runs: it is told the interface and the handle.
+// The frame in which a notification runs: it receives the interface and the handle.
 fn notification_frame(note: &ProtocolNote, sweep: &ProtocolSweep) -> DriverFrame
     ensures { result ≡ protocol_frame sweep.now note.now }
 {
@@ -59,7 +59,7 @@ impl Dxe {
         }
     }
 
-    // The notification begins, unless as many frames stand as may.
+    // Begins a notification, unless the most frames are running.
     pub(crate) fn notify<S: Sink>(
         &mut self,
         catalog: &Catalog,

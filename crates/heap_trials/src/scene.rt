@@ -49,7 +49,7 @@ pub(crate) fn desc_of(of: Of) -> Desc
     }
 }
 
-// Makes a descriptor. False where it does not are at this place.
+// Makes a descriptor. Returns false if it would not be at this place.
 fn makes<M: PeiStore>(store: &mut M, kind: DescKind, number: u64, place: u64) -> bool
     requires state { Present (M.stands_for store.old) Anything }
     requires number { IsNumberOf kind number }
@@ -104,7 +104,7 @@ pub(crate) fn reinstall<M: PeiStore>(store: &mut M, old: Of, new: Of) -> Result<
     store.reinstall(old, new, MAKER)
 }
 
-/// Lays the scene in a store. False where it does not are there.
+/// Lays the scene in a store. Returns false if it would not be there.
 pub(crate) fn lay<M: PeiStore>(store: &mut M) -> bool
     requires { Present (M.stands_for store.old) Anything }
     ensures { result ≡ true → IsLaid (M.stands_for store.new) }

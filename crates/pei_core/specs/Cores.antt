@@ -30,7 +30,7 @@ with_registered Dispatched number core = record core { states = slice_set core.s
 with_registered RegisteredForShadow number core = core
 with_registered Done number core = core
 
--- a module in a state starts: the second time that it does, it awaits none any more
+-- the state after a module in this state starts: after its second start it awaits none
 abbrev pub state_behind : PeimState → PeimState
 state_behind NotDispatched = Dispatched
 state_behind Dispatched = Done

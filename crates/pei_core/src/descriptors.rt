@@ -11,7 +11,7 @@ use store_model::Desc;
 /// How many descriptors a call takes at most.
 pub const MOST_DESCRIPTORS: usize = 8;
 
-/// The descriptors in some registers, where each holds one.
+/// The descriptors in some registers, if each holds one.
 #[tactic(auto, using(crate::proofs::Collected::one_more))]
 pub fn descriptors_in(
     registers: &[Register; REGISTERS],

@@ -41,7 +41,7 @@ impl Core {
         }
     }
 
-    // A callback begins, unless as many frames stand as may. Whether it begins.
+    // Begins a callback, unless the most frames are running. Returns whether it began.
     fn begin_callback(&mut self, firing: &Firing, sweep: Sweep) -> bool
         ensures room { result ≡ not (nat_le MOST_FRAMES (length self.old.frames)) }
         ensures core { self.new ≡ (if result then with_callback self.old firing.now sweep else self.old) }
@@ -75,7 +75,7 @@ impl<M: PeiStore + Drop> Pei<M> {
         }
     }
 
-    // The callback of a pair that fires begins, unless as many frames stand as may.
+    // Begins the callback of a pair that fires, unless the most frames are running.
     pub(crate) fn fire<S: Sink>(
         &mut self,
         catalog: &Catalog,

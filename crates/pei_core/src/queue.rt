@@ -27,7 +27,7 @@ impl Core {
 }
 
 impl<M: PeiStore + Drop> Pei<M> {
-    // The first queued pair leaves the queue, and its notification begins; or none is left, and nothing is done.
+    // Removes the first queued pair and begins its notification. If the queue is empty, nothing is done.
     pub(crate) fn step_queue<S: Sink>(
         &mut self,
         catalog: &Catalog,

@@ -27,7 +27,7 @@ abbrev pub last_text : StoreState → HandleState → Option RunEnd → List ℕ
 last_text s h None = []
 last_text s h (Some end) = closing_text s h end
 
--- the last lines were written, and this is what the boot comes to, by the answer
+-- the last lines were printed, and this is how the boot ends, by the answer
 abbrev pub FinishesTo : Catalog → StartOrder → ℕ → StoreState → HandleState → Option RunEnd → Texts → Result Followed Halt → Type 0
 FinishesTo catalog order index s h end t (Ok followed) = Appends t.old t.new (text_of (last_lines s h end)) × ComesTo catalog order index s h end followed
 FinishesTo catalog order index s h end t (Err halt) = ⊤

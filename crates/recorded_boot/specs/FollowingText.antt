@@ -18,7 +18,7 @@ pub record IsWhole (Lines : List Line → Type 0) (text printed : List ℕ) (s :
   pub is : printed ≡ text_of lines
   pub only : (others : List Line) → Lines others → IsPrefix printed (text_of others) → text_of others ≡ printed
 
--- a boot along a text, by the answer: to its end, or up to where the text is off
+-- a boot along a text, by the answer: to its end, or up to the point at which the text differs
 abbrev pub Follows : (List Line → Type 0) → List ℕ → Spelled → Result (Unit {0}) Parted → Type 0
 Follows Lines text s (Ok _) = IsWhole Lines text (met s) s
 Follows Lines text s (Err Off) = IsOffHere Lines text s

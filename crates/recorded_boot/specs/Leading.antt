@@ -26,7 +26,7 @@ PeiStartsLead = (board : Board) (catalog : Catalog) (fuel : ℕ) (earlier : List
     → (AreFreeLines board catalog fuel lines → ComeFirst (starts m.lines) (starts lines) → AreFreePeiLines catalog fuel m lines)
     × (AreFreePeiLines catalog fuel m lines → AreFreeLines board catalog fuel lines)
 
--- the same after the hand-off, where each volume's parent comes before it
+-- the same after the hand-off, if each volume's parent comes before it
 abbrev pub DxeStartsLead : Type 0
 DxeStartsLead = (catalog : Catalog) (fuel : ℕ) (pei : PeiMachine) (s : StoreState) (actions : ℕ) (earlier : List DxeMachine) (m : DxeMachine)
     → HasNoTwins catalog → AreNumbered 0 catalog.volumes → DxeComesTo catalog fuel (dxe_opening catalog s actions) earlier m → (lines : List Line)

@@ -82,13 +82,13 @@ pub record SinkFailed (Out : ToolStatus → List ℕ → Type 0) (Named : List �
   pub part : AppendsPart t.old t.new text
   pub sink : Rose t.before t.now
 
--- want of memory: nothing was written, and no fault was counted
+-- memory ran out: nothing was written, and no failure was counted
 pub record NoMemory (t : Trail) : Type 0 where
   pub kept : t.new ≡ t.old
   pub sink : t.now ≡ t.before
   pub files : t.files.now ≡ t.files.before
 
--- the kinds of statuses: one of the sink's fault, one of want of memory, and those that go with a text
+-- the kinds of statuses: the sink failed, memory ran out, and those that go with a text
 pub data Kind : Type 0 where
   OfSink : Kind
   OfMemory : Kind
@@ -121,7 +121,7 @@ EndsBy OfText Out Named status t = Answered Out Named status t
 abbrev pub Ends : (ToolStatus → List ℕ → Type 0) → (List ℕ → Type 0) → ToolStatus → Trail → Type 0
 Ends Out Named status t = EndsBy (kind_of status) Out Named status t
 
--- a status, or the sink's fault where its text could not be put
+-- a status, or the sink's failure if its text could not be written
 abbrev pub status_after : Result (Unit {0}) SinkFault → ToolStatus → ToolStatus
 status_after (Ok _) status = status
 status_after (Err _) status = S.SinkFault

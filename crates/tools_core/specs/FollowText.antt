@@ -30,13 +30,13 @@ order_line line = line_of refused_order (decimal line ∷ [])
 abbrev pub guid_word : Guid → List ℕ
 guid_word guid = spaced (guid_text guid)
 
--- what stands against a start
+-- why a start is not possible
 abbrev pub against_line : Against → List ℕ
 against_line Unknown = line_of unknown_text []
 against_line Started = line_of started_text []
 against_line (NotEligible guids) = (not_eligible_text ++ flat_map guid_word guids) ++ 10 ∷ []
 
--- what is printed after the lines of a boot that came to this
+-- what is printed after the lines of a boot that ended this way
 abbrev pub last_text : Followed → List ℕ
 last_text (Ended end) = []
 last_text Stopped = line_of stop_text []

@@ -34,7 +34,7 @@ fn order_report(alloc: Global, job: Job, order: &StartOrder) -> Result<Report, O
         }),
         Err(FollowFault::Image(fault)) => Ok(Report::Image(fault)),
         Err(FollowFault::Twins { volume }) => Ok(Report::Twins(volume)),
-        // What is held wants memory, and nothing else.
+        // The held text fails only if memory runs out.
         Err(FollowFault::Sink | FollowFault::Memory) => Err(OutOfMemory),
     }
 }

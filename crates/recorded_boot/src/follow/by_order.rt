@@ -7,8 +7,8 @@ use boot_laws::Choice;
 use mod_catalog::Catalog;
 use pi_base::Phase;
 
-/// The module that an order asks for next, and no other; after its last line no module is named, so that the first that may start does, unless the order says
-/// that the boot is followed no further.
+/// The choice by an order: it names the module of the order's next start, and allows no other. After the order's last line it names no module and allows each,
+/// so the first eligible one starts, unless the order ends in `stop`.
 #[derive(Clone, Copy)]
 pub struct ByOrder<'o> {
     /// The order.
@@ -51,7 +51,7 @@ impl ByOrder<'_> {
         }
     }
 
-    // Whether the order lets a module start in a phase after so many starts.
+    // Whether the order allows a module to start in a phase after so many starts.
     fn lets(&self, phase: Phase, starts: u64, number: u32) -> bool
         ensures { result ≡ lets_by self.now.catalog.now self.now.order.now phase starts number }
     {

@@ -12,7 +12,7 @@ use boot_model::Line;
 use pi_base::{Guid, Phase};
 use trace_reader::{one_reading, start_line};
 
-// The volume and the file name of the module that starts in a phase by this line. None if none does.
+// The volume and the file name of the module that starts in a phase by this line. None if it is not such a line.
 fn module_start(line: &Line, phase: Phase) -> Option<(u32, Guid)>
     ensures { (volume : ℕ) (name : OfGuid) (licence : Licence) → line.now ≡ phase_start phase volume name licence
         → result ≡ Some (volume, name) }
@@ -23,7 +23,7 @@ fn module_start(line: &Line, phase: Phase) -> Option<(u32, Guid)>
     }
 }
 
-// The same of the bytes of a line.
+// The volume and the file name of the module that starts in a phase by the bytes of a line. None if they are not such a line.
 fn start_in(line: &[u8], phase: Phase) -> Option<(u32, Guid)>
     ensures { (volume : ℕ) (name : OfGuid) (licence : Licence) → IsLineOf line.now (phase_start phase volume name licence)
         → result ≡ Some (volume, name) }
