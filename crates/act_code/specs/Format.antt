@@ -5,7 +5,7 @@ use Rattle.pi_base.specs.{Field.little_bytes, Word.word_number, declared.word.Wo
 use Rattle.act_code.specs.declared.action.GuidArg.{GuidArg}
 use Rattle.act_code.specs.declared.action.GuidArg.TheVariants.{Inline, Register}
 
--- what an operand is, and operands one behind the other
+-- what an operand is, and operands one after the other
 pub data Format : Type 0 where
   Nothing : Format
   Byte : Format  -- a byte

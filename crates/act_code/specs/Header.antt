@@ -26,7 +26,7 @@ counted_by size blocks last (Some phase) =
     else if last == 0 then Ok (record { size = size; phase = phase; blocks = blocks })
     else Err (fault_of 7 cause.Count)
 
--- the first fault of the fields behind the magic, in order, or what they say
+-- the first fault of the fields after the magic, in order, or what they say
 abbrev pub fields_of : ℕ → ℕ → ℕ → ℕ → ℕ → Result Header ActFault
 fields_of size version phase blocks last = if version == 1 then counted_by size blocks last (phase_of phase) else Err (fault_of 4 cause.Version)
 

@@ -16,7 +16,7 @@ is_indexed count action = are_indexed (registers_in (format_of (code_of_action a
 abbrev pub names_below : ℕ → Action → Bool
 names_below count action = list_all (λ b. nat_lt b count) (blocks_in (format_of (code_of_action action)) (operands action))
 
--- an action that skips n actions has n + 1 of its block behind it; it and those behind it are left
+-- an action that skips n actions has n + 1 of its block after it; it and those after it are left
 abbrev pub has_room : ℕ → Action → Bool
 has_room left (SkipIf condition n) = nat_le (n + 2) left
 has_room left _ = true

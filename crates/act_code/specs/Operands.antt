@@ -38,17 +38,17 @@ part_of (operand.Registers list) = Some (Registers, list.now)
 part_of (operand.Descriptor kind guid arg) = Some (Descriptor, (kind, guid.now, arg))
 part_of (operand.Hob kind body) = Some (HobBody, (kind, body.now))
 
--- numbers that tell of the value of a format: its bytes, its text, its registers
+-- a function from values of a format to numbers: their bytes, their text, their registers
 abbrev pub Telling : Type 0
 Telling = (format : Format) → Value format → List ℕ
 
--- they tell of one operand after the other, and of no bounds
+-- it takes one operand after the other, and ignores the bounds
 pub record IsInTurn (tell : Telling) : Type 0 where
   pub none : tell Nothing tt ≡ []
   pub two : (first second : Format) (value : Value first × Value second) → tell (Pair first second) value ≡ tell first value.0 ++ tell second value.1
   pub bounds : (low high n : ℕ) → tell (Within low high) n ≡ tell (Within 0 255) n
 
--- what is told of an operand
+-- what the function gives for an operand
 abbrev pub told_of : Telling → Option Part → List ℕ
 told_of tell None = []
 told_of tell (Some part) = tell part.0 part.1

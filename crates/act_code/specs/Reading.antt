@@ -1,4 +1,4 @@
--- Reading operands and actions from left to right: a value and the bytes behind it, or none.
+-- Reading operands and actions from left to right: a value and the bytes after it, or nothing.
 use Rattle.std.specs.Prelude.{◌≡◌, ℕ, Bool, ⊤, List, [], ◌∷◌, length, take, drop, Option, Some, None, Result, Ok, Err, option_and_then, nat_le, ◌==◌, if◌then◌else◌}
 use Rattle.std.specs.List.{list_all}
 use Rattle.pi_base.specs.{Field.little_number, declared.word.Word.Word, declared.guid.Guid.Guid, Guids.guid_at, declared.phase.Phase.Phase}
@@ -32,7 +32,7 @@ abbrev pub cause_of : Unread → Option (Unit {0})
 cause_of unread.Malformed = Some tt
 cause_of unread.Memory = None
 
--- a value and what is left behind it, seen by view; or the one cause
+-- a value and what is left after it, seen by view; or the one cause
 abbrev pub answer_of : {A X Left : Type 0} → (X → Left) → Option (A × X) → Result (A × Left) (Unit {0})
 answer_of view (Some x) = Ok (x.0, view x.1)
 answer_of view None = Err tt
@@ -128,7 +128,7 @@ read (Pair first second) bytes = do
 abbrev pub byte_way : Way (List ℕ) (Unit {0})
 byte_way format bytes = answer_of (λ rest. rest) (read format bytes)
 
--- an action, behind its code
+-- an action, after its code
 unfoldable pub operands_at : Code → List ℕ → Option (Action × List ℕ)
 operands_at code bytes = do
   x ← read (format_of code) bytes

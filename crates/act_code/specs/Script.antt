@@ -29,18 +29,18 @@ pub record IsAction (phase : Phase) (action : Action) : Type 0 where
   pub of_phase : is_code_of phase (code_of_action action) ≡ true
   pub in_range : IsInRange (format_of (code_of_action action)) (operands action)
 
--- its registers and blocks are there, and so are the actions that it skips, where so many are left with itself
+-- its registers and blocks exist, and so do the actions that it skips, if so many are left with itself
 pub record IsSound (phase : Phase) (count left : ℕ) (action : Action) : Type 0 where
   pub is : IsAction phase action
   pub indexed : is_indexed count action ≡ true
   pub room : has_room left action ≡ true
 
--- each of the things is good, where so many are left with the first
+-- each of the things is good, if so many are left with the first
 abbrev pub Each : {A : Type 0} → (ℕ → A → Type 0) → ℕ → List A → Type 0
 Each Good left [] = ⊤
 Each Good left (x ∷ xs) = Good left x × Each Good (left - 1) xs
 
--- each of the actions is sound, where so many are left with the first
+-- each of the actions is sound, if so many are left with the first
 abbrev pub AreSound : Phase → ℕ → ℕ → List Action → Type 0
 AreSound phase count = Each (IsSound phase count)
 
@@ -64,7 +64,8 @@ pub record IsScript (bytes : List ℕ) (script : Script) : Type 0 where
   pub grammar : IsInGrammar script
   pub short : length bytes ≤ 65536
 
--- what is wrong with the action at the front of the bytes, with so many actions of its block left: no action of the phase stands there, or the one that does names what is not there, or it skips too many
+-- what is wrong with the action at the front of the bytes, with so many actions of its block left: no action of the phase is there, or the one that does names
+-- what is not there, or it skips too many
 abbrev pub IsActionFault : Phase → ℕ → ℕ → List ℕ → ActCause → Type 0
 IsActionFault phase count left bytes cause.Action = (action : Action) → IsAction phase action → Begins bytes (action_bytes action) → ⊥
 IsActionFault phase count left bytes cause.Index =
@@ -73,11 +74,11 @@ IsActionFault phase count left bytes cause.Jump =
     (action : Action) × IsAction phase action × Begins bytes (action_bytes action) × (is_indexed count action ≡ true) × (has_room left action ≡ false)
 IsActionFault phase count left bytes _ = ⊥
 
--- no number of actions stands at the front
+-- no number of actions is at the front
 abbrev pub HasNoCount : List ℕ → Type 0
 HasNoCount bytes = (number : ℕ) → is_within 1 1024 number ≡ true → Begins bytes (little_bytes 2 number) → ⊥
 
--- behind its number and sound actions a block has an action at fault
+-- after its number and sound actions a block has an action at fault
 pub record HasActionFault (header : Header) (bytes : List ℕ) (fault : ActFault) : Type 0 where
   pub number : ℕ
   pub before : List Action
@@ -108,7 +109,7 @@ pub record HasBlocks (header : Header) (bytes : List ℕ) (blocks : List (List A
   pub are : AreBlocks header.phase header.blocks blocks
   pub here : bytes ≡ header_bytes header.phase header.blocks ++ (flat_map block_bytes blocks ++ rest)
 
--- the first fault of a script: of its header; or of a block behind others; or bytes are left over
+-- the first fault of a script: of its header; or of a block after others; or bytes are left over
 abbrev pub IsFault : List ℕ → ActFault → Type 0
 IsFault bytes fault =
     (header_at bytes ≡ Err fault)

@@ -23,7 +23,7 @@ abbrev pub Gives : {X Y : Type 0} → (X → Y) → Result X Stop → Result Y A
 Gives view (Ok x) read = read ≡ Ok (view x)
 Gives view (Err e) read = Stops e read
 
--- a fault where so many bytes are left
+-- a fault when so many bytes are left
 abbrev pub fault_at : ℕ → ActCause → List ℕ → ActFault
 fault_at size c rest = fault_of (size - length rest) c
 
@@ -37,7 +37,7 @@ checked header left bytes (Some x) =
 unfoldable pub checked_at : Header → ℕ → List ℕ → Result (Action × List ℕ) ActFault
 checked_at header left bytes = checked header left bytes (action_at header.phase bytes)
 
--- so many things, one behind the other; each is told how many are left
+-- so many things, one after the other; each knows how many are left
 unfoldable pub many : {A : Type 0} → (ℕ → List ℕ → Result (A × List ℕ) ActFault) → ℕ → List ℕ → Result (List A × List ℕ) ActFault
 many one zero bytes = Ok ([], bytes)
 many one (suc n) bytes = do
@@ -59,7 +59,7 @@ block_at header bytes = do
   actions ← many (checked_at header) count.0 count.1
   if ends_in_ret actions.0 then Ok actions else Err (fault_at header.size cause.Block bytes)
 
--- the blocks of a script, behind its header
+-- the blocks of a script, after its header
 unfoldable pub body_at : Header → List ℕ → Result Script ActFault
 body_at header bytes = do
   blocks ← many (λ _. block_at header) header.blocks bytes

@@ -1,4 +1,4 @@
--- Operands from any source: a source says how one is read, and they stand one behind the other (own).
+-- Operands from any source: a source says how it reads one, and they follow one another (own).
 use Rattle.std.specs.Prelude.{◌≡◌, ⊤, Option, Some, None, Result, Ok, Err}
 use Rattle.act_code.specs.{declared.action.Action.Action, declared.code.Code.Code, Table.format_of, Table.made}
 use Rattle.act_code.specs.Format.{Format, Value, Nothing, Pair}
@@ -8,7 +8,7 @@ abbrev pub ◌>>=◌ : {A B Cause : Type 0} → Result A Cause → (A → Result
 (Ok x) >>= f = f x
 (Err e) >>= f = Err e
 
--- how a source reads one operand: its value and what is left behind it, or why there is none
+-- how a source reads one operand: its value and what is left after it, or the cause why there is none
 abbrev pub Way : Type 0 → Type 0 → Type 0
 Way Left Cause = (format : Format) → Left → Result (Value format × Left) Cause
 
@@ -21,7 +21,7 @@ read_by way (Pair first second) left = do
 read_by way Nothing left = Ok (tt, left)
 read_by way format left = way format left
 
--- the action of a code, and what is left behind its operands
+-- the action of a code, and what is left after its operands
 unfoldable pub operands_by : {Left Cause : Type 0} → Way Left Cause → Code → Left → Result (Action × Left) Cause
 operands_by way code left = do
   x ← read_by way (format_of code) left

@@ -5,7 +5,7 @@ ghost use Rattle.act_code.specs.Table.{code_of_action};
 use crate::code::Code;
 use pi_base::{Guid, Seq, Word};
 
-/// Where an action's GUID stands.
+/// How an action gives a GUID.
 #[derive(Clone, Copy)]
 pub enum GuidArg {
     /// In the script.
@@ -14,7 +14,8 @@ pub enum GuidArg {
     Register(u8),
 }
 
-/// An action of a script (own). `r`, `d`, `p`, `v`, `x`, `h`, `old`, `new`, `begin` and `length` are numbers of registers, and so are the bytes of a `list`; `block` is the number of a block.
+/// An action of a script (own). `r`, `d`, `p`, `v`, `x`, `h`, `old`, `new`, `begin` and `length` are numbers of registers, and so are the bytes of a `list`;
+/// `block` is the number of a block.
 #[derive(Drop)]
 pub enum Action {
     /// Makes a register a number.
@@ -81,7 +82,7 @@ pub enum Action {
         kind: u8,
         body: Seq<u8>,
     },
-    /// Says where permanent memory is.
+    /// Reports where permanent memory is.
     Memory {
         begin: u8,
         length: u8,
@@ -101,7 +102,7 @@ pub enum Action {
     Log {
         text: Seq<u8>,
     },
-    /// Skips the next `n` actions where the last status is Success (condition 0) or is not (condition 1).
+    /// Skips the next `n` actions: with condition 0 if the last status is Success, with condition 1 if it is not.
     SkipIf {
         condition: u8,
         n: u8,
@@ -151,7 +152,7 @@ pub enum Action {
     Process {
         v: u8,
     },
-    /// Asks for dispatching while it goes on.
+    /// Asks for dispatching while it continues.
     Dispatch,
 }
 

@@ -5,7 +5,7 @@ ghost use Rattle.act_code.specs.Operands.{part_of, action_parts};
 use crate::action::{Action, GuidArg};
 use pi_base::{Guid, Seq, Word};
 
-/// An operand of an action.
+/// One operand of an action.
 #[derive(Clone, Copy)]
 pub enum Operand<'a> {
     /// No operand.
@@ -41,7 +41,7 @@ pub enum Operand<'a> {
 }
 
 impl Action {
-    /// Its operands in order, with `Nothing` behind them.
+    /// The operands in order, with `Nothing` after them.
     pub fn operands<'a>(&'a self) -> [Operand<'a>; 4]
         ensures { filter_map part_of result ≡ action_parts self.now }
     {

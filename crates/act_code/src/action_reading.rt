@@ -8,7 +8,7 @@ use crate::operands::read_operands;
 use pi_base::Phase;
 use std::alloc::Global;
 
-/// The action of a phase at the front of the bytes, and the bytes behind it.
+/// The action of a phase at the front of the bytes, and the bytes after it.
 #[tactic(auto, using(crate::proofs::Sources::operands_given), unfolding(crate::specs::Reading::action_at))]
 pub fn action(alloc: Global, phase: Phase, bytes: &[u8]) -> Result<(Action, &[u8]), Unread>
     ensures { Gives (λ x. (x.0, x.1.now)) result (action_at phase bytes.now) }

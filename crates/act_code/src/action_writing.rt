@@ -34,7 +34,7 @@ fn bytes_8(n: u64) -> [u8; 8]
     field
 }
 
-// Adds a list behind its length.
+// Adds a list after its length.
 fn put_list(out: &mut Seq<u8>, list: &Seq<u8>) -> Result<(), OutOfMemory>
     requires { length list.now < 256 }
     ensures { OnOk result (out.new ≡ out.old ++ (length list.now ∷ list.now)) }
@@ -58,7 +58,7 @@ fn put_descriptor(out: &mut Seq<u8>, kind: u8, guid: &GuidArg, arg: u8) -> Resul
     }
 }
 
-// Adds a HOB's type, and its body behind its length.
+// Adds a HOB's type, and its body after its length.
 fn put_hob(out: &mut Seq<u8>, kind: u8, body: &Seq<u8>) -> Result<(), OutOfMemory>
     requires { length body.now < 65536 }
     ensures { OnOk result (out.new ≡ out.old ++ spelled HobBody (kind, body.now)) }

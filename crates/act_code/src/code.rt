@@ -4,7 +4,7 @@ ghost use Rattle.act_code.specs.Table.{number_of, code_of, is_code_of, name_of};
 
 use pi_base::Phase;
 
-/// The code of an action, its first byte (own). Where both phases have an action of one name, that of drivers is here with `Dxe` in front.
+/// The code of an action, its first byte (own). If both phases have an action of one name, that of drivers is here with `Dxe` in front.
 #[derive(Clone, Copy)]
 pub enum Code {
     Set = 0x01,
@@ -68,21 +68,21 @@ pub const CODES: [Code; 27] = [
 ];
 
 impl Code {
-    /// The code that a byte is.
+    /// The code with this byte. None if no action has it.
     pub fn from_byte(byte: u8) -> Option<Code>
         ensures { result ≡ code_of byte }
     {
         CODES.iter().copied().find(|code| byte == code.number())
     }
 
-    /// The byte that the code is.
+    /// The code's byte.
     pub fn number(self) -> u8
         ensures { result ≡ number_of self }
     {
         self as u8
     }
 
-    /// The name of the action, as it stands in the text of a script.
+    /// The name of the action, as it is in the text of a script.
     #[tactic(auto, unfolding(crate::specs::Table::name_of))]
     pub fn name(self) -> &'static [u8]
         ensures { result.now ≡ name_of self }

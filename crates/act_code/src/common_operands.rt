@@ -9,7 +9,7 @@ use crate::operand::MOST_BYTES;
 use crate::source::Source;
 use std::alloc::Global;
 
-/// A register and a number.
+/// Reads `set`: a register and a number.
 pub fn set<S: Source>(source: S) -> Result<(Action, S), S::Fault>
     ensures { Gives S.left S.cause result (operands_by S.way Code.Set (S.left source)) }
 {
@@ -18,7 +18,7 @@ pub fn set<S: Source>(source: S) -> Result<(Action, S), S::Fault>
     Ok((Action::Set { r, n }, source))
 }
 
-/// A register and a number.
+/// Reads `add`: a register and a number.
 pub fn add<S: Source>(source: S) -> Result<(Action, S), S::Fault>
     ensures { Gives S.left S.cause result (operands_by S.way Code.Add (S.left source)) }
 {
@@ -27,7 +27,7 @@ pub fn add<S: Source>(source: S) -> Result<(Action, S), S::Fault>
     Ok((Action::Add { r, n }, source))
 }
 
-/// The register of an address, and how many bytes.
+/// Reads `peek`: the register of an address, and how many bytes.
 pub fn peek<S: Source>(source: S) -> Result<(Action, S), S::Fault>
     ensures { Gives S.left S.cause result (operands_by S.way Code.Peek (S.left source)) }
 {
@@ -36,7 +36,7 @@ pub fn peek<S: Source>(source: S) -> Result<(Action, S), S::Fault>
     Ok((Action::Peek { v, n }, source))
 }
 
-/// A text.
+/// Reads `log`: a text.
 pub fn log<S: Source>(alloc: Global, source: S) -> Result<(Action, S), S::Fault>
     ensures { Gives S.left S.cause result (operands_by S.way Code.Log (S.left source)) }
 {
@@ -44,7 +44,7 @@ pub fn log<S: Source>(alloc: Global, source: S) -> Result<(Action, S), S::Fault>
     Ok((Action::Log { text }, source))
 }
 
-/// A condition, and how many actions.
+/// Reads `skip_if`: a condition, and how many actions.
 pub fn skip_if<S: Source>(source: S) -> Result<(Action, S), S::Fault>
     ensures { Gives S.left S.cause result (operands_by S.way Code.SkipIf (S.left source)) }
 {
@@ -53,7 +53,7 @@ pub fn skip_if<S: Source>(source: S) -> Result<(Action, S), S::Fault>
     Ok((Action::SkipIf { condition, n }, source))
 }
 
-/// A status.
+/// Reads `ret`: a status.
 pub fn ret<S: Source>(source: S) -> Result<(Action, S), S::Fault>
     ensures { Gives S.left S.cause result (operands_by S.way Code.Ret (S.left source)) }
 {

@@ -7,7 +7,7 @@ ghost use Rattle.act_code.specs.declared.code.Code.TheVariants as Code;
 use crate::action::Action;
 use crate::source::Source;
 
-/// Whether the handle is new, its register, the protocol's GUID, and the interface's register.
+/// Reads `install`: whether the handle is new, its register, the protocol's GUID, and the interface's register.
 pub fn install<S: Source>(source: S) -> Result<(Action, S), S::Fault>
     ensures { Gives S.left S.cause result (operands_by S.way Code.DxeInstall (S.left source)) }
 {
@@ -18,7 +18,7 @@ pub fn install<S: Source>(source: S) -> Result<(Action, S), S::Fault>
     Ok((Action::DxeInstall { form, h, guid, v }, source))
 }
 
-/// A handle's register, the GUID, and the registers of the old and the new interface.
+/// Reads `reinstall`: a handle's register, the GUID, and the registers of the old and the new interface.
 pub fn reinstall<S: Source>(source: S) -> Result<(Action, S), S::Fault>
     ensures { Gives S.left S.cause result (operands_by S.way Code.DxeReinstall (S.left source)) }
 {
@@ -29,7 +29,7 @@ pub fn reinstall<S: Source>(source: S) -> Result<(Action, S), S::Fault>
     Ok((Action::DxeReinstall { h, guid, old, new }, source))
 }
 
-/// A handle's register, the GUID, and the interface's register.
+/// Reads `uninstall`: a handle's register, the GUID, and the interface's register.
 pub fn uninstall<S: Source>(source: S) -> Result<(Action, S), S::Fault>
     ensures { Gives S.left S.cause result (operands_by S.way Code.DxeUninstall (S.left source)) }
 {
@@ -39,7 +39,7 @@ pub fn uninstall<S: Source>(source: S) -> Result<(Action, S), S::Fault>
     Ok((Action::DxeUninstall { h, guid, v }, source))
 }
 
-/// The registers for the handle and the interface, and the GUID.
+/// Reads `locate`: the registers for the handle and the interface, and the GUID.
 pub fn locate<S: Source>(source: S) -> Result<(Action, S), S::Fault>
     ensures { Gives S.left S.cause result (operands_by S.way Code.DxeLocate (S.left source)) }
 {
@@ -49,7 +49,7 @@ pub fn locate<S: Source>(source: S) -> Result<(Action, S), S::Fault>
     Ok((Action::DxeLocate { h, v, guid }, source))
 }
 
-/// The GUID and a block.
+/// Reads `notify`: the GUID and a block.
 pub fn notify<S: Source>(source: S) -> Result<(Action, S), S::Fault>
     ensures { Gives S.left S.cause result (operands_by S.way Code.DxeNotify (S.left source)) }
 {
@@ -58,7 +58,7 @@ pub fn notify<S: Source>(source: S) -> Result<(Action, S), S::Fault>
     Ok((Action::DxeNotify { guid, block }, source))
 }
 
-/// The driver's file name.
+/// Reads `schedule`: the driver's file name.
 pub fn schedule<S: Source>(source: S) -> Result<(Action, S), S::Fault>
     ensures { Gives S.left S.cause result (operands_by S.way Code.Schedule (S.left source)) }
 {
@@ -66,7 +66,7 @@ pub fn schedule<S: Source>(source: S) -> Result<(Action, S), S::Fault>
     Ok((Action::Schedule { guid }, source))
 }
 
-/// The register of a volume's address.
+/// Reads `process`: the register of a volume's address.
 pub fn process<S: Source>(source: S) -> Result<(Action, S), S::Fault>
     ensures { Gives S.left S.cause result (operands_by S.way Code.Process (S.left source)) }
 {

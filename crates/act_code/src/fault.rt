@@ -8,7 +8,7 @@ use pi_base::OutOfMemory;
 /// The first fault of a script, in reading order.
 #[derive(Clone, Copy, Debug)]
 pub struct ActFault {
-    /// The offset in the script. 0 for want of memory.
+    /// The offset in the script. 0 because memory ran out.
     pub at: u32,
     /// What is wrong there.
     pub cause: ActCause,

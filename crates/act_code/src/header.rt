@@ -56,7 +56,7 @@ fn phase_of(byte: u8) -> Option<Phase>
     }
 }
 
-// What the fields behind the magic say.
+// What the fields after the magic say.
 fn fields(size: usize, version: u8, phase: u8, blocks: u8, zero: u8) -> Result<Header, ActFault>
     ensures { result ≡ fields_of size version phase blocks zero }
 {
@@ -100,7 +100,7 @@ fn is_magic(a: u8, b: u8, c: u8, d: u8) -> bool
     a == MAGIC[0] && b == MAGIC[1] && c == MAGIC[2] && d == MAGIC[3]
 }
 
-/// The header of a script, or its first fault.
+/// Reads the header of a script, or returns its first fault.
 pub fn read_header(bytes: &[u8]) -> Result<Header, ActFault>
     ensures { result ≡ header_at bytes.now }
 {

@@ -19,14 +19,14 @@ fn are_below(numbers: &[u8], limit: u8) -> bool
     numbers.iter().all(|n| *n < limit)
 }
 
-// Whether registers and blocks are there, where a script has so many blocks.
+// Whether the registers exist, and the blocks in a script of so many blocks.
 fn are_indexed(registers: &[u8], blocks: &[u8], count: u8) -> bool
     ensures { result ≡ are_indexed registers.now blocks.now count }
 {
     are_below(registers, REGISTERS) && are_below(blocks, count)
 }
 
-// The same for a descriptor's operands.
+// Whether a descriptor's registers and blocks exist.
 fn is_descriptor_indexed(kind: u8, guid: &GuidArg, arg: u8, count: u8) -> bool
     ensures { result ≡ are_indexed (registers_in Descriptor (kind, guid.now, arg)) (blocks_in Descriptor (kind, guid.now, arg)) count }
 {
@@ -48,7 +48,7 @@ fn is_descriptor_indexed(kind: u8, guid: &GuidArg, arg: u8, count: u8) -> bool
     }
 }
 
-// The same for an operand.
+// Whether an operand's registers and blocks exist.
 fn is_operand_indexed(operand: &Operand<'_>, count: u8) -> bool
     ensures { result ≡ are_indexed (told registers_in operand.now) (told blocks_in operand.now) count }
 {
@@ -61,7 +61,7 @@ fn is_operand_indexed(operand: &Operand<'_>, count: u8) -> bool
     }
 }
 
-// The same for each of some operands.
+// Whether the registers and blocks of all these operands exist.
 fn are_operands_indexed(operands: &[Operand<'_>], count: u8) -> bool
     ensures { result ≡ list_all (λ operand. are_indexed (told registers_in operand) (told blocks_in operand) count) operands.now }
 {
@@ -70,7 +70,7 @@ fn are_operands_indexed(operands: &[Operand<'_>], count: u8) -> bool
         .all(|operand| is_operand_indexed(operand, count))
 }
 
-/// Whether the registers and blocks that an action names are there, in a script of so many blocks.
+/// Whether the registers and blocks that an action names exist, in a script of so many blocks.
 pub fn is_indexed(action: &Action, count: u8) -> bool
     ensures { result ≡ is_indexed count action.now }
 {
@@ -94,7 +94,7 @@ pub fn names_below(action: &Action, count: usize) -> bool
     }
 }
 
-/// Whether the actions that an action skips are there and one more, where so many are left with itself.
+/// Whether the actions that an action skips exist, and one more after them. `left` counts the actions from this one on.
 pub fn has_room(action: &Action, left: usize) -> bool
     ensures { result ≡ has_room left action.now }
 {

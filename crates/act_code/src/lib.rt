@@ -1,6 +1,6 @@
 //! Action scripts: their bytes, read and written (own).
 //!
-//! Tried in `text_trials`: `scripts`.
+//! Tested in `text_trials`: `scripts`.
 #![tactic(auto)]
 
 mod action;

@@ -1,4 +1,4 @@
-// Operands of actions, read from bytes: each reader gives a value and the bytes behind it.
+// Operands of actions, read from bytes: each reader returns a value and the bytes after it.
 ghost use Rattle.std.specs.{Prelude.◌≡◌, Prelude.◌<◌, List.list_all};
 ghost use Rattle.act_code.specs.Format.{is_within, is_hob};
 ghost use Rattle.act_code.specs.Reading.{Gives, byte_at, within_at, little_at, guid_front, bytes_at, counted_at, guid_arg_at};
@@ -10,7 +10,7 @@ use std::alloc::Global;
 
 /// Why an action was not read, from bytes or from a line of text.
 pub enum Unread {
-    /// No action of the phase stands there.
+    /// No action of the phase is there.
     Malformed,
     /// Want of memory.
     Memory,
@@ -47,7 +47,7 @@ pub fn byte(bytes: &[u8]) -> Result<(u8, &[u8]), Unread>
     }
 }
 
-/// A byte from one number to another.
+/// Reads a byte from `low` to `high`.
 #[tactic(auto, unfolding(crate::specs::Reading::within_at))]
 pub fn byte_within(bytes: &[u8], low: u8, high: u8) -> Result<(u8, &[u8]), Unread>
     ensures { Gives (λ x. (x.0, x.1.now)) result (within_at low high bytes.now) }
@@ -96,7 +96,7 @@ pub fn bytes_of(alloc: Global, count: usize, bytes: &[u8]) -> Result<(Seq<u8>, &
     Ok((list, rest))
 }
 
-/// A number from 1 on, and so many bytes.
+/// Reads a count from 1 to `most`, and so many bytes.
 #[tactic(auto, unfolding(crate::specs::Reading::counted_at))]
 pub fn counted(alloc: Global, bytes: &[u8], most: u8) -> Result<(Seq<u8>, &[u8]), Unread>
     ensures { Gives (λ x. (x.0, x.1.now)) result (counted_at most bytes.now) }
@@ -112,7 +112,7 @@ pub fn are_printable(bytes: &[u8]) -> bool
     bytes.iter().all(|byte| b' ' <= *byte && *byte <= b'~')
 }
 
-/// A form, and a GUID or the number of a register.
+/// Reads a form byte, and a GUID or the number of a register.
 #[tactic(auto, unfolding(crate::specs::Reading::guid_arg_at))]
 pub fn guid_arg(bytes: &[u8]) -> Result<(GuidArg, &[u8]), Unread>
     ensures { Gives (λ x. (x.0, x.1.now)) result (guid_arg_at bytes.now) }

@@ -7,7 +7,7 @@ use crate::source::Source;
 use crate::{common_operands, dxe_operands, pei_operands};
 use std::alloc::Global;
 
-/// The action of a code, whose operands a source has at its front, and what is left of the source.
+/// Reads the operands of the action with this code from the front of a source, and returns the action and what is left of the source.
 pub fn read_operands<S: Source>(
     alloc: Global,
     code: Code,

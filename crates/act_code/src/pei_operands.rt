@@ -8,7 +8,7 @@ use crate::action::Action;
 use crate::source::Source;
 use std::alloc::Global;
 
-/// A register and a size in bytes.
+/// Reads `pool`: a register and a size in bytes.
 pub fn pool<S: Source>(source: S) -> Result<(Action, S), S::Fault>
     ensures { Gives S.left S.cause result (operands_by S.way Code.Pool (S.left source)) }
 {
@@ -17,7 +17,7 @@ pub fn pool<S: Source>(source: S) -> Result<(Action, S), S::Fault>
     Ok((Action::Pool { r, size }, source))
 }
 
-/// The register of a pool, an offset in its body, and bytes.
+/// Reads `store`: the register of a pool, an offset in its body, and bytes.
 pub fn store<S: Source>(alloc: Global, source: S) -> Result<(Action, S), S::Fault>
     ensures { Gives S.left S.cause result (operands_by S.way Code.Store (S.left source)) }
 {
@@ -27,7 +27,7 @@ pub fn store<S: Source>(alloc: Global, source: S) -> Result<(Action, S), S::Faul
     Ok((Action::Store { p, offset, bytes }, source))
 }
 
-/// A register, the one of a body, and an offset in it.
+/// Reads `addr`: a register, the register of a body, and an offset in it.
 pub fn addr<S: Source>(source: S) -> Result<(Action, S), S::Fault>
     ensures { Gives S.left S.cause result (operands_by S.way Code.Addr (S.left source)) }
 {
@@ -37,7 +37,7 @@ pub fn addr<S: Source>(source: S) -> Result<(Action, S), S::Fault>
     Ok((Action::Addr { v, x, offset }, source))
 }
 
-/// A register, the kind, the GUID or the register of its address, and the value's register or a block.
+/// Reads `desc`: a register, the kind, the GUID or the register of its address, and the value's register or a block.
 pub fn desc<S: Source>(source: S) -> Result<(Action, S), S::Fault>
     ensures { Gives S.left S.cause result (operands_by S.way Code.Desc (S.left source)) }
 {
@@ -46,7 +46,7 @@ pub fn desc<S: Source>(source: S) -> Result<(Action, S), S::Fault>
     Ok((Action::Desc { d, kind, guid, arg }, source))
 }
 
-/// Registers of descriptors.
+/// Reads `install`: registers of descriptors.
 pub fn install<S: Source>(alloc: Global, source: S) -> Result<(Action, S), S::Fault>
     ensures { Gives S.left S.cause result (operands_by S.way Code.Install (S.left source)) }
 {
@@ -54,7 +54,7 @@ pub fn install<S: Source>(alloc: Global, source: S) -> Result<(Action, S), S::Fa
     Ok((Action::Install { list }, source))
 }
 
-/// The registers of the old and of the new descriptor.
+/// Reads `reinstall`: the registers of the old and of the new descriptor.
 pub fn reinstall<S: Source>(source: S) -> Result<(Action, S), S::Fault>
     ensures { Gives S.left S.cause result (operands_by S.way Code.Reinstall (S.left source)) }
 {
@@ -63,7 +63,7 @@ pub fn reinstall<S: Source>(source: S) -> Result<(Action, S), S::Fault>
     Ok((Action::Reinstall { old, new }, source))
 }
 
-/// Registers of descriptors.
+/// Reads `notify`: registers of descriptors.
 pub fn notify<S: Source>(alloc: Global, source: S) -> Result<(Action, S), S::Fault>
     ensures { Gives S.left S.cause result (operands_by S.way Code.Notify (S.left source)) }
 {
@@ -71,7 +71,7 @@ pub fn notify<S: Source>(alloc: Global, source: S) -> Result<(Action, S), S::Fau
     Ok((Action::Notify { list }, source))
 }
 
-/// The registers for the descriptor and the value, the GUID, and the number of the instance.
+/// Reads `locate`: the registers for the descriptor and the value, the GUID, and the number of the instance.
 pub fn locate<S: Source>(source: S) -> Result<(Action, S), S::Fault>
     ensures { Gives S.left S.cause result (operands_by S.way Code.Locate (S.left source)) }
 {
@@ -90,7 +90,7 @@ pub fn locate<S: Source>(source: S) -> Result<(Action, S), S::Fault>
     ))
 }
 
-/// A HOB's type, and its body.
+/// Reads `hob`: a HOB's type and its body.
 pub fn make_hob<S: Source>(alloc: Global, source: S) -> Result<(Action, S), S::Fault>
     ensures { Gives S.left S.cause result (operands_by S.way Code.Hob (S.left source)) }
 {
@@ -98,7 +98,7 @@ pub fn make_hob<S: Source>(alloc: Global, source: S) -> Result<(Action, S), S::F
     Ok((Action::Hob { kind, body }, source))
 }
 
-/// The registers of the begin and of the length.
+/// Reads `memory`: the registers of the first address and of the length.
 pub fn memory<S: Source>(source: S) -> Result<(Action, S), S::Fault>
     ensures { Gives S.left S.cause result (operands_by S.way Code.Memory (S.left source)) }
 {
@@ -107,7 +107,7 @@ pub fn memory<S: Source>(source: S) -> Result<(Action, S), S::Fault>
     Ok((Action::Memory { begin, length }, source))
 }
 
-/// A register, the memory type, and how many pages.
+/// Reads `pages`: a register, the memory type, and how many pages.
 pub fn pages<S: Source>(source: S) -> Result<(Action, S), S::Fault>
     ensures { Gives S.left S.cause result (operands_by S.way Code.Pages (S.left source)) }
 {
@@ -124,7 +124,7 @@ pub fn pages<S: Source>(source: S) -> Result<(Action, S), S::Fault>
     ))
 }
 
-/// Whether the mode is got or set, and a register.
+/// Reads `boot_mode`: whether the mode is read or set, and a register.
 pub fn boot_mode<S: Source>(source: S) -> Result<(Action, S), S::Fault>
     ensures { Gives S.left S.cause result (operands_by S.way Code.BootMode (S.left source)) }
 {

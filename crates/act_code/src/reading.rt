@@ -10,7 +10,7 @@ use crate::header::{HEADER_LEN, Header, read_header};
 use crate::script::Script;
 use std::alloc::Global;
 
-// The blocks behind a header.
+// The blocks after a header.
 #[tactic(auto, unfolding(crate::specs::ScriptReading::body_at))]
 fn body(alloc: Global, header: Header, bytes: &[u8]) -> Result<Script, Stop>
     requires { header.size ≤ 65536 }
@@ -36,15 +36,16 @@ fn read_all(alloc: Global, bytes: &[u8]) -> Result<Script, Stop>
     body(alloc, header, &bytes[HEADER_LEN..])
 }
 
-/// The script that the bytes are, all of them.
+/// Reads the script that all these bytes are.
 ///
-/// The fault is the first in reading order. At one action `Action` comes first, then `Index`, then `Jump`; a block whose last action is no `ret` is found behind that action.
+/// The fault is the first in reading order. At one action `Action` comes first, then `Index`, then `Jump`. A block whose last action is not `ret` is at fault
+/// after that action.
 pub fn read_script(alloc: Global, bytes: &[u8]) -> Result<Script, ActFault>
     // What is read is spelled so.
     ensures read { IfOk result (IsScript bytes.now) }
     // What is spelled so is read again, unless memory ran out.
     ensures again { (script : Script) → IsScript bytes.now script → GivesBack script result }
-    // Where nothing is read, this is the first fault, unless memory ran out.
+    // If nothing is read, this is the first fault, unless memory ran out.
     ensures refused { IfErr result (IsRefused bytes.now) }
 {
     match read_all(alloc, bytes) {

@@ -10,7 +10,7 @@ pub struct Script {
     pub blocks: Seq<Seq<Action>>,
 }
 
-// What it is made of is dropped by one proof, which all that own one call.
+// One drop function for all scripts keeps the proofs of the calls that own one small.
 impl Drop for Script {
     fn drop(self) {
         let Script {

@@ -7,7 +7,7 @@ use crate::action::GuidArg;
 use pi_base::{Guid, Seq, Word};
 use std::alloc::Global;
 
-/// A source of operands, which are read one behind the other: bytes, a line or words. Each reader gives a value of a format and what is left of the source.
+/// A source of operands: bytes, a line or words. Each reader returns one value and what is left of the source.
 pub trait Source: Sized {
     /// Why an operand is not read.
     type Fault;
@@ -17,7 +17,7 @@ pub trait Source: Sized {
 
     ghost left: { Self → Left };
 
-    // Why nothing is read; a failure without a cause is want of memory.
+    // Why nothing was read. A failure without a cause means that memory ran out.
     ghost Cause: { Type 0 };
 
     ghost cause: { Self.Fault → Option Cause };

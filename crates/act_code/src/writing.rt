@@ -71,7 +71,7 @@ fn put_script(out: &mut Seq<u8>, script: &Script) -> Result<(), OutOfMemory>
     put_blocks(out, script.blocks.as_slice())
 }
 
-/// The one spelling of a script, which `read_script` reads as the script again. TooLong exactly where it passes 65,536 bytes.
+/// The one spelling of a script, which `read_script` reads as the same script. It returns `TooLong` exactly if the script has more than 65,536 bytes.
 pub fn write_script(alloc: Global, script: &Script) -> Result<Seq<u8>, WriteFault>
     requires { IsInGrammar script.now }
     ensures written { IfOk result (λ text. text ≡ script_bytes script.now) }

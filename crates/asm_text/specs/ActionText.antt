@@ -50,15 +50,15 @@ words_of small Descriptor value = kind_word value.0 ∷ (guid_words value.1 ++ l
 words_of small HobBody value = decimal value.0 ∷ encode_lower value.1 ∷ []
 words_of small (Pair first second) value = words_of small first value.0 ++ words_of small second value.1
 
--- a word behind a space
+-- a word after a space
 abbrev pub spaced : List ℕ → List ℕ
 spaced word = 32 ∷ word
 
--- the words of an operand of a code's action, each behind a space
+-- the words of an operand of a code's action, each after a space
 abbrev pub operand_text : Code → Telling
 operand_text code format value = flat_map spaced (words_of (small_number code) format value)
 
--- the words of an action behind its name
+-- the words of an action after its name
 abbrev pub operand_words : Action → List (List ℕ)
 operand_words action = words_of (small_number (code_of_action action)) (format_of (code_of_action action)) (operands action)
 

@@ -4,7 +4,7 @@ use Rattle.std.specs.List.{AllByRecursion}
 use Rattle.line_words.specs.PrintedWords.{Lacks}
 use Rattle.asm_text.specs.ScriptText.{line}
 
--- the text is none of a kind. Its lines before the one of this number begin a text of the kind, and with that line, where it is there whole, they begin none
+-- the text is not of a kind: its lines before the one with this number begin a text of the kind, but with that line, if it is complete, they do not
 pub record IsBadLine (Is : List ℕ → Type 0) (text : List ℕ) (number : ℕ) : Type 0 where
   pub lines : List (List ℕ)
   pub rest : List ℕ

@@ -17,7 +17,7 @@ tree_text (Not node) = codes "not " ++ tree_text node
 tree_text (And first second) = bracketed (tree_text first) (codes " and ") (tree_text second)
 tree_text (Or first second) = bracketed (tree_text first) (codes " or ") (tree_text second)
 
--- the word in front of a tree that waits for a request
+-- the word before a tree that waits for a request
 abbrev pub sor_text : Bool → List ℕ
 sor_text true = codes "sor "
 sor_text false = []

@@ -1,4 +1,4 @@
--- Reading the operands of an action from left to right, each behind a space (own).
+-- Reading the operands of an action from left to right, each after a space (own).
 use Rattle.std.specs.Prelude.{ℕ, zero, suc, ◌^◌, ◌&&◌, ◌==◌, nat_lt, bytes_eq, if◌then◌else◌, codes, List, [], ◌∷◌, length, Option, Some, None}
 use Rattle.std.specs.List.{list_all}
 use Rattle.pi_base.specs.{declared.word.Word.Word, declared.guid.Guid.Guid}
@@ -133,7 +133,7 @@ small_word code.BootMode = choice_word (codes "get") (codes "set")
 small_word code.DxeInstall = choice_word (codes "new") (codes "on")
 small_word _ = number_word 10
 
--- how the text of a line gives an operand; what is left has its action's code with it
+-- how the text of a line gives an operand; what is left carries its action's code
 abbrev pub line_way : Way (Code × List ℕ) (Unit {0})
 line_way format line = answer_of (λ text. (line.0, text)) (read (small_word line.0) format line.1)
 

@@ -1,4 +1,4 @@
--- What reading gives (own).
+-- The results of reading (own).
 use Rattle.std.specs.Prelude.{◌≡◌, ℕ, ⊤, List, Option, Some, None}
 use Rattle.line_words.specs.PrintedWords.{IsGuid}
 use Rattle.depex_code.specs.{declared.opcode.Opcode.Opcode, declared.depex.Depex.Depex}

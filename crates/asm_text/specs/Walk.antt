@@ -1,4 +1,5 @@
--- Going through the text of a tree from left to right: what waits for an operand stands on a stack, the innermost last, and an opcode is written behind its operands.
+-- Going through the text of a tree from left to right: what waits for an operand is on a stack, the innermost last, and an opcode is written after its
+-- operands.
 use Rattle.std.specs.Prelude.{◌≡◌, ℕ, Bool, true, false, List, [], ◌∷◌, ◌++◌, codes, Option, Some, None, option_map}
 use Rattle.std.specs.Borrow.{Bor}
 use Rattle.depex_code.specs.declared.opcode.Opcode.{Opcode}
@@ -7,12 +8,12 @@ use Rattle.asm_text.specs.{declared.token.Waiting.Waiting, declared.token.Token.
 use Rattle.asm_text.specs.declared.token.Waiting.TheVariants.{Negation, First, Conjunction, Disjunction}
 use Rattle.asm_text.specs.{declared.token.Token.TheVariants.Waits, declared.token.Token.TheVariants.Is, Front.behind, Front.guid_front}
 
--- a token and what follows it, or the others where it is not there
+-- a token and what follows it, or the other result if the token is not there
 abbrev pub with_token : {A : Type 0} → A → Option (List ℕ) → Option (A × List ℕ) → Option (A × List ℕ)
 with_token token (Some rest) others = Some (token, rest)
 with_token token None others = others
 
--- what stands where an operand begins, and what follows it
+-- the token at the beginning of an operand, and what follows it
 unfoldable pub token_at : List ℕ → Option (Token × List ℕ)
 token_at text =
     with_token (Waits First) (behind (codes "(") text)
@@ -21,7 +22,7 @@ token_at text =
     (with_token (Is opcode.False) (behind (codes "false") text)
     (option_map (λ x. (Is (opcode.Push x.0), x.1)) (guid_front text)))))
 
--- the operator behind a first operand, and what follows it
+-- the operator after a first operand, and what follows it
 unfoldable pub operator_at : List ℕ → Option (Waiting × List ℕ)
 operator_at text = with_token Conjunction (behind (codes " and ") text) (with_token Disjunction (behind (codes " or ") text) None)
 
@@ -41,23 +42,23 @@ abbrev pub split_last : {A : Type 0} → List A → Option (List A × A)
 split_last [] = None
 split_last (first ∷ others) = with_first first (split_last others)
 
--- the place behind a token
+-- the place after a token
 abbrev pub turned : List Waiting → List Opcode → Option (Token × List ℕ) → Option Place
 turned waiting code None = None
 turned waiting code (Some (Waits what, rest)) = Some (record { rest = rest; ended = false; waiting = waiting ++ what ∷ []; code = code })
 turned waiting code (Some (Is opcode, rest)) = Some (record { rest = rest; ended = true; waiting = waiting; code = code ++ opcode ∷ [] })
 
--- the place behind an operator
+-- the place after an operator
 abbrev pub opened : List Waiting → List Opcode → Option (Waiting × List ℕ) → Option Place
 opened waiting code None = None
 opened waiting code (Some (what, rest)) = Some (record { rest = rest; ended = false; waiting = waiting ++ what ∷ []; code = code })
 
--- the place behind a closing bracket
+-- the place after a closing bracket
 abbrev pub closed : List Waiting → List Opcode → Opcode → Option (List ℕ) → Option Place
 closed waiting code opcode None = None
 closed waiting code opcode (Some rest) = Some (record { rest = rest; ended = true; waiting = waiting; code = code ++ opcode ∷ [] })
 
--- where an operand ended, by what waits for it
+-- what follows the end of an operand, which depends on what waits for it
 abbrev pub resumed : List ℕ → List Opcode → Option (List Waiting × Waiting) → Option Place
 resumed text code None = None
 resumed text code (Some (waiting, Negation)) = Some (record { rest = text; ended = true; waiting = waiting; code = code ++ opcode.Not ∷ [] })

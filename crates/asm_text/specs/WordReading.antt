@@ -1,4 +1,4 @@
--- The words of a line, each as the value that it shows (own). A word is read only where it is what is printed of the value.
+-- The words of a line, each as the value that it shows (own). A word is read only when it is what is printed of the value.
 use Rattle.std.specs.Prelude.{ℕ, ◌^◌, false, ◌&&◌, ◌==◌, nat_lt, bytes_eq, if◌then◌else◌, codes, List, take, drop, Option, Some, None, Result, Ok, Err, find}
 use Rattle.std.specs.{List.position_or_len, Fmt.digits, Str.Parse.digits_value}
 use Rattle.hex.specs.{Hex.encode_lower, Hex.decode_of, declared.error.FromHexError.FromHexError}
@@ -6,11 +6,11 @@ use Rattle.pi_base.specs.{declared.word.Word.Word, WordText.word_text}
 use Rattle.act_code.specs.Reading.{◌>>=◌, only_if}
 use Rattle.asm_text.specs.{declared.word.TheConstants.STATUSES, Front.behind}
 
--- where the first space stands, or the length
+-- the index of the first space, or the length if there is none
 abbrev pub space_place : List ℕ → ℕ
 space_place text = position_or_len (λ b. b == 32) text
 
--- the word behind a space, and what follows it
+-- the word after a space, and what follows it
 unfoldable pub word_at : List ℕ → Option (List ℕ × List ℕ)
 word_at text = do
   after ← behind (codes " ") text

@@ -50,7 +50,7 @@ fn put_word(out: &mut Seq<u8>, word: &[u8]) -> Result<(), OutOfMemory>
     out.append(word)
 }
 
-// Adds registers, each behind a space.
+// Adds registers, each after a space.
 fn put_registers(out: &mut Seq<u8>, registers: &[u8]) -> Result<(), OutOfMemory>
     ensures { OnOk result (out.new ≡ out.old ++ flat_map spaced (map register registers.now)) }
 {
@@ -135,7 +135,7 @@ fn put_hob(out: &mut Seq<u8>, kind: u8, body: &[u8]) -> Result<(), OutOfMemory>
     put_bytes(out, body)
 }
 
-// Adds an operand of the action of a code, each of its words behind a space.
+// Adds an operand of the action of a code, each of its words after a space.
 fn put_operand(out: &mut Seq<u8>, code: Code, operand: &Operand<'_>) -> Result<(), OutOfMemory>
     ensures { OnOk result (out.new ≡ out.old ++ told (operand_text code) operand.now) }
 {
@@ -158,7 +158,7 @@ fn put_operand(out: &mut Seq<u8>, code: Code, operand: &Operand<'_>) -> Result<(
     }
 }
 
-// Adds operands, each word behind a space.
+// Adds operands, each word after a space.
 fn put_operands(out: &mut Seq<u8>, code: Code, operands: &[Operand<'_>]) -> Result<(), OutOfMemory>
     ensures { OnOk result (out.new ≡ out.old ++ flat_map (told (operand_text code)) operands.now) }
 {
@@ -176,7 +176,7 @@ fn put_operands_of(out: &mut Seq<u8>, action: &Action) -> Result<(), OutOfMemory
     put_operands(out, action.code(), &action.operands())
 }
 
-/// Adds the line of an action, as it stands in the text of a script.
+/// Adds the line of an action, as in the text of a script.
 pub fn put_action(out: &mut Seq<u8>, action: &Action) -> Result<(), OutOfMemory>
     ensures { OnOk result (out.new ≡ out.old ++ action_line action.now) }
 {

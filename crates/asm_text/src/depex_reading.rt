@@ -14,7 +14,7 @@ use line_words::printed::first_line;
 use pi_base::OutOfMemory;
 use std::alloc::Global;
 
-// The driver's name behind `before`.
+// The driver's name after `before`.
 fn before_line(word: &[u8]) -> Option<Depex>
     ensures { result ≡ option_map depex.Before (guid_word word.now) }
 {
@@ -24,7 +24,7 @@ fn before_line(word: &[u8]) -> Option<Depex>
     }
 }
 
-// The driver's name behind `after`.
+// The driver's name after `after`.
 fn after_line(word: &[u8]) -> Option<Depex>
     ensures { result ≡ option_map depex.After (guid_word word.now) }
 {
@@ -34,7 +34,7 @@ fn after_line(word: &[u8]) -> Option<Depex>
     }
 }
 
-// A tree, behind `sor` or not.
+// A tree, after `sor` or not.
 fn tree_line(alloc: Global, sor: bool, text: &[u8]) -> Result<Option<Depex>, OutOfMemory>
     ensures { IfOk result
         (λ found. (tree : Option DepexTree) × Finds (IsTreeOf text.now) tree × (found ≡ option_map (depex.Expr sor) tree)) }
@@ -61,7 +61,7 @@ fn expression(alloc: Global, line: &[u8]) -> Result<Option<Depex>, OutOfMemory>
     tree_line(alloc, false, line)
 }
 
-// The expression whose text this is, or why there is none.
+// Reads an expression's text, or returns why it is not one.
 fn read_text(alloc: Global, text: &[u8]) -> Result<Depex, TextFault>
     ensures read { IfOk result (IsDepexOf text.now) }
     ensures few { IfOk result (λ depex. length (instructions depex) ≤ 1024) }
@@ -82,14 +82,14 @@ fn read_text(alloc: Global, text: &[u8]) -> Result<Depex, TextFault>
     Ok(depex)
 }
 
-/// Reads the text of an expression, one line with its line feed.
+/// Reads the text of an expression: one line with its line feed.
 pub fn parse_depex(alloc: Global, text: &[u8]) -> Result<Depex, TextFault>
     // What is read is the expression whose text this is, of at most 1,024 opcodes.
     ensures read { IfOk result (IsDepexOf text.now) }
     ensures few { IfOk result (λ depex. length (instructions depex) ≤ 1024) }
     // The text of such an expression is read as it, unless memory ran out.
     ensures again { (depex : Depex) → IsDepexOf text.now depex → length (instructions depex) ≤ 1024 → GivesBack depex result }
-    // Where nothing is read, the text is that of a longer expression, or goes wrong with this line, or memory ran out.
+    // If nothing is read, the text is that of a longer expression, or goes wrong with this line, or memory ran out.
     ensures refused { IfErr result (IsDepexRefused text.now) }
 {
     read_text(alloc, text)

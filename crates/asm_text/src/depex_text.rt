@@ -16,7 +16,7 @@ fn guid_line(alloc: Global, front: &[u8], guid: &Guid) -> Result<Seq<u8>, OutOfM
     joined(alloc, front, &guid.to_text())
 }
 
-// The word in front of a tree.
+// The word before a tree.
 fn sor_text(sor: bool) -> &'static [u8]
     ensures { result.now ≡ sor_text sor }
 {
@@ -42,7 +42,7 @@ fn expression_text(alloc: Global, depex: &Depex) -> Result<Seq<u8>, OutOfMemory>
     }
 }
 
-/// The text of an expression, one line: a tree, `sor` and a tree, `before` or `after` and a GUID.
+/// The text of an expression, one line with a tree, `sor` and a tree, `before` or `after` and a GUID.
 pub fn print_depex(alloc: Global, depex: &Depex) -> Result<Seq<u8>, OutOfMemory>
     ensures { IfOk result (λ text. text ≡ depex_text depex.now) }
 {

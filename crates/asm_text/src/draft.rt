@@ -1,4 +1,4 @@
-// A script that is put together line by line. Its last block may go on.
+// A script that is built line by line. Its last block may continue.
 ghost use Rattle.std.specs.Prelude.{◌≡◌, ◌-◌, ◌&&◌, ◌++◌, ◌∷◌, [], List, length};
 ghost use Rattle.act_code.specs.{declared.action.Action.Action, Index.names_below, Reading.Gives};
 ghost use Rattle.std.specs.List.{list_all};
@@ -14,14 +14,14 @@ use std::alloc::Global;
 // The most actions of a block.
 const MOST_ACTIONS: usize = act_code::MOST_ACTIONS as usize;
 
-// Whether an action may stand where so many are left with it.
+// Whether an action is valid with so many actions left, itself included.
 fn may_stand(action: &Action, left: usize) -> bool
     ensures { result ≡ may_stand left action.now }
 {
     has_room(action, left) && (left > 1 || is_ret(action))
 }
 
-// Whether each action that skips others has them behind it and one more.
+// Whether each action that skips others has them after it and one more.
 fn have_room(actions: &[Action]) -> bool
     ensures { result ≡ have_room (length actions.now) actions.now }
 {
@@ -33,14 +33,14 @@ fn have_room(actions: &[Action]) -> bool
     true
 }
 
-// Whether a block may end behind these actions.
+// Whether a block may end after these actions.
 fn is_closed(actions: &[Action]) -> bool
     ensures { result ≡ is_closed actions.now }
 {
     ends_in_ret(actions) && have_room(actions)
 }
 
-// Whether the last block may end, or the answer where there is none.
+// Whether the last block may end here, or the given answer if there is no block.
 fn may_end(blocks: &[Seq<Action>], none: bool) -> bool
     ensures { result ≡ may_end none (split_last blocks.now) }
 {
@@ -100,7 +100,7 @@ fn extend(alloc: Global, draft: &mut Script, line: &[u8]) -> Result<(), Unread>
     }
 }
 
-/// Gives the script one more line. It is no script any more where there is no such line.
+/// Gives the script one more line. It is no script any more if there is no such line.
 #[tactic(auto, unfolding(crate::specs::Drafts::with_line))]
 pub(crate) fn add_line(alloc: Global, draft: &mut Script, line: &[u8]) -> Result<(), Unread>
     ensures { Gives (λ _. draft.new) result (with_line draft.old line.now) }

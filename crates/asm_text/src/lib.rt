@@ -1,6 +1,6 @@
 //! Dependency expressions and action scripts as text that a person writes and reads (own).
 //!
-//! Tried in `text_trials`: `expressions_as_text`, `scripts_as_text`.
+//! Tested in `text_trials`: `expressions_as_text`, `scripts_as_text`.
 #![tactic(auto)]
 
 mod action_text;

@@ -10,7 +10,7 @@ use act_code::{Action, CODES, Code, Unread, read_operands};
 use pi_base::Phase;
 use std::alloc::Global;
 
-/// The code of the action of a phase that has a name, as lines of actions begin.
+/// The code of the action of a phase with this name. A line of an action begins with the name.
 #[tactic(auto, unfolding(crate::specs::LineReading::code_named))]
 pub fn code_named(phase: Phase, name: &[u8]) -> Option<Code>
     ensures { result ≡ code_named phase name.now }
@@ -21,7 +21,7 @@ pub fn code_named(phase: Phase, name: &[u8]) -> Option<Code>
         .find(|code| code.is_of(phase) && code.name() == name)
 }
 
-// The action of a code, by the text behind its name.
+// The action of a code, by the text after its name.
 fn operands(alloc: Global, code: Code, text: &[u8]) -> Result<Action, Unread>
     ensures { Gives (λ x. x) result (operands_at code text.now) }
 {

@@ -7,7 +7,7 @@ use act_code::{Code, GuidArg, Source, Unread, are_printable, is_hob};
 use pi_base::{Guid, Seq, Word};
 use std::alloc::Global;
 
-/// What is left of the line of an action, behind its name.
+/// What is left of the line of an action, after its name.
 #[derive(Drop)]
 pub(crate) struct Line<'a> {
     pub(crate) code: Code,

@@ -1,4 +1,4 @@
-// The lists among operands, and HOBs. A reader gives a value and what follows it.
+// The lists among operands, and HOBs. A reader returns a value and what follows it.
 ghost use Rattle.std.specs.Prelude.{◌≡◌};
 ghost use Rattle.act_code.specs.{Format.is_within, Reading.Gives};
 ghost use Rattle.asm_text.specs.OperandReading.{bytes_at, registers_within};

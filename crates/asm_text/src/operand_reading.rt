@@ -1,4 +1,4 @@
-// The operands of actions, each behind a space. A reader gives a value and what follows it.
+// The operands of actions, each after a space. A reader returns a value and what follows it.
 ghost use Rattle.std.specs.Prelude.{◌≡◌, ◌==◌, length};
 ghost use Rattle.act_code.specs.{Format.is_within, Reading.Gives, Reading.only_if};
 ghost use Rattle.asm_text.specs.WordReading.{number_word, choice_word};
@@ -13,7 +13,7 @@ use pi_base::Guid;
 /// The last number of a block.
 const LAST_BLOCK: u8 = MOST_BLOCKS - 1;
 
-/// The action, where nothing follows its operands.
+/// The action, if nothing follows its operands.
 pub(crate) fn ended(action: Action, rest: &[u8]) -> Result<Action, Unread>
     ensures { Gives (λ x. x) result (only_if (length rest.now == 0) action) }
 {
@@ -59,7 +59,7 @@ pub(crate) fn small(text: &[u8], low: u8, high: u8) -> Result<(u8, &[u8]), Unrea
     }
 }
 
-// One of two words, for 0 and 1, where that is from one number to another.
+// One of two words, for 0 and 1, if its number is in the range.
 #[tactic(auto, unfolding(crate::specs::OperandReading::within_at))]
 fn choice<'a>(
     text: &'a [u8],
@@ -81,7 +81,7 @@ fn choice<'a>(
     }
 }
 
-/// A small number of an action, from one to another: two words stand for that of `boot_mode` and of a driver's `install`.
+/// A small number of an action, within a range. The small numbers of `boot_mode` and of a driver's `install` are written as one of two words.
 pub(crate) fn small_of(code: Code, text: &[u8], low: u8, high: u8) -> Result<(u8, &[u8]), Unread>
     ensures { Gives (λ x. (x.0, x.1.now)) result (within_at (small_word code) low high text.now) }
 {

@@ -26,7 +26,7 @@ fn phase_of(line: &[u8]) -> Option<Phase>
     }
 }
 
-// The script of a phase whose lines behind the first these are, or why there is none.
+// Reads the script of a phase from the lines after the first, or returns why they are not one.
 fn read_lines(alloc: Global, phase: Phase, text: &[u8]) -> Result<Script, TextFault>
     ensures read { IfOk result (IsScriptOf (line (phase_text phase) ++ text.now)) }
     ensures refused { IfErr result (IsScriptRefused (line (phase_text phase) ++ text.now)) }
@@ -56,7 +56,7 @@ fn read_lines(alloc: Global, phase: Phase, text: &[u8]) -> Result<Script, TextFa
     }
 }
 
-// The script whose text this is, however long, or why there is none.
+// Reads a script's text of any length, or returns why it is not one.
 fn read_text(alloc: Global, text: &[u8]) -> Result<Script, TextFault>
     ensures read { IfOk result (IsScriptOf text.now) }
     ensures refused { IfErr result (IsScriptRefused text.now) }
@@ -70,7 +70,7 @@ fn read_text(alloc: Global, text: &[u8]) -> Result<Script, TextFault>
     }
 }
 
-// The script whose text this is, within the limit, or why there is none.
+// Reads a script's text within the limit, or returns why it is not one.
 fn read_short(alloc: Global, text: &[u8]) -> Result<Script, TextFault>
     ensures read { IfOk result (IsScriptOf text.now) }
     ensures short { IfOk result (λ script. length (script_bytes script) ≤ 65536) }
@@ -91,7 +91,7 @@ pub fn parse_script(alloc: Global, text: &[u8]) -> Result<Script, TextFault>
     ensures short { IfOk result (λ script. length (script_bytes script) ≤ 65536) }
     // The text of such a script is read as it, unless memory ran out.
     ensures again { (script : Script) → IsScriptOf text.now script → length (script_bytes script) ≤ 65536 → GivesScript script result }
-    // Where nothing is read, the text is that of a longer script, or goes wrong with this line, or memory ran out.
+    // If nothing is read, the text is that of a longer script, or goes wrong with this line, or memory ran out.
     ensures refused { IfErr result (IsScriptRefused text.now) }
 {
     read_short(alloc, text)

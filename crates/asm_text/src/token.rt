@@ -12,13 +12,13 @@ pub(crate) enum Waiting {
     Negation,
     /// A bracket, for its first operand.
     First,
-    /// A bracket, for its second operand behind `and`.
+    /// A bracket, for its second operand after `and`.
     Conjunction,
-    /// A bracket, for its second operand behind `or`.
+    /// A bracket, for its second operand after `or`.
     Disjunction,
 }
 
-/// What stands where an operand begins.
+/// What is at the beginning of an operand.
 #[derive(Clone, Copy)]
 pub(crate) enum Token {
     /// Something that waits for an operand.
@@ -27,7 +27,7 @@ pub(crate) enum Token {
     Is(Opcode),
 }
 
-// What stands where an operand begins, and what follows it.
+// The token at the beginning of an operand, and what follows it.
 #[tactic(auto, unfolding(crate::specs::Walk::token_at))]
 pub(crate) fn token_at(text: &[u8]) -> Option<(Token, &[u8])>
     ensures found { option_map (λ x. (x.0, x.1.now)) result ≡ token_at text.now }
@@ -51,7 +51,7 @@ pub(crate) fn token_at(text: &[u8]) -> Option<(Token, &[u8])>
     None
 }
 
-// The operator behind a first operand, and what follows it.
+// The operator after a first operand, and what follows it.
 #[tactic(auto, unfolding(crate::specs::Walk::operator_at))]
 pub(crate) fn operator_at(text: &[u8]) -> Option<(Waiting, &[u8])>
     ensures found { option_map (λ x. (x.0, x.1.now)) result ≡ operator_at text.now }

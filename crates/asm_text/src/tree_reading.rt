@@ -13,7 +13,7 @@ use depex_code::{Opcode, Tree};
 use pi_base::{OutOfMemory, Seq};
 use std::alloc::Global;
 
-// What follows the token where an operand begins, and whether an operand ends there.
+// What follows the token at the beginning of an operand, and whether an operand ends there.
 fn begin<'a>(
     text: &'a [u8],
     waiting: &mut Seq<Waiting>,
@@ -38,7 +38,7 @@ fn begin<'a>(
     }
 }
 
-// What follows the operator behind a bracket's first operand.
+// What follows the operator after a bracket's first operand.
 fn open<'a>(
     text: &'a [u8],
     waiting: &mut Seq<Waiting>,
@@ -67,7 +67,7 @@ fn ended_by<'a>(
     Ok(Some((text, true)))
 }
 
-// What follows the closing bracket behind the operands of an operator.
+// What follows the closing bracket after the operands of an operator.
 fn close<'a>(
     text: &'a [u8],
     code: &mut Seq<Opcode>,
@@ -83,7 +83,7 @@ fn close<'a>(
     }
 }
 
-// What follows where an operand ended, by what waits for it.
+// What follows the end of an operand, which depends on what waits for it.
 fn resume<'a>(
     text: &'a [u8],
     waiting: &mut Seq<Waiting>,
@@ -122,7 +122,7 @@ fn go<'a>(
     }
 }
 
-// Whether the text of a tree goes on at a place.
+// Whether the text of a tree continues at a place.
 fn goes_on(ended: bool, waiting: &Seq<Waiting>) -> bool
     ensures on { result ≡ true → ended ≡ true → waiting.now ≡ [] → ⊥ }
     ensures end { result ≡ false → (ended ≡ true) × (waiting.now ≡ []) }

@@ -7,7 +7,7 @@ use depex_code::{Opcode, Tree};
 use pi_base::{OutOfMemory, Seq};
 use std::alloc::Global;
 
-// The texts one behind the other.
+// The texts one after the other.
 pub(crate) fn joined(alloc: Global, front: &[u8], text: &[u8]) -> Result<Seq<u8>, OutOfMemory>
     ensures { IfOk result (λ whole. whole ≡ front.now ++ text.now) }
 {
@@ -32,7 +32,7 @@ fn put_text(alloc: Global, texts: &mut Seq<Seq<u8>>, text: &[u8]) -> Result<(), 
     texts.push(joined(alloc, text, &[])?)
 }
 
-// Puts `not` in front of the last text.
+// Puts `not` before the last text.
 fn negate(alloc: Global, texts: &mut Seq<Seq<u8>>) -> Result<(), OutOfMemory>
     requires { 0 < length texts.old }
     ensures { (rest : List (List ℕ)) (node : List ℕ) → texts.old ≡ rest ++ node ∷ []
@@ -57,7 +57,7 @@ fn bracket(alloc: Global, texts: &mut Seq<Seq<u8>>, between: &[u8]) -> Result<()
     texts.push(whole)
 }
 
-// The texts after an opcode, where they are those of a stack of trees.
+// The texts after an opcode, if they are those of a stack of trees.
 fn put_opcode(alloc: Global, texts: &mut Seq<Seq<u8>>, opcode: &Opcode) -> Result<(), OutOfMemory>
     requires { (stack next : List DepexTree) × (texts.old ≡ texts_of stack) × (built opcode.now stack ≡ Some next) }
     ensures { (stack next : List DepexTree) → texts.old ≡ texts_of stack → built opcode.now stack ≡ Some next

@@ -1,4 +1,4 @@
-// The words of a line, each as the value that it shows. A word is read only where it is what is printed of the value.
+// The words of a line, each as the value that it shows. A word is read only when it is what is printed of the value.
 ghost use Rattle.std.specs.Prelude.{◌≡◌, ◌≤◌, length, bytes_eq};
 ghost use Rattle.hex.specs.Hex.{encode_lower};
 ghost use Rattle.act_code.specs.Reading.{Gives, only_if};
@@ -27,7 +27,7 @@ const STATUSES: [Word; 7] = [
     Word::AccessDenied,
 ];
 
-/// Where the first space stands, or the length.
+/// The index of the first space, or the length if there is none.
 pub(crate) fn space_place(text: &[u8]) -> usize
     ensures place { result ≡ space_place text.now }
     ensures within { result ≤ length text.now }
@@ -35,7 +35,7 @@ pub(crate) fn space_place(text: &[u8]) -> usize
     place_of(text, SPACE)
 }
 
-/// The word behind a space, and what follows it.
+/// The word after a space, and what follows it.
 #[tactic(auto, unfolding(crate::specs::WordReading::word_at))]
 pub(crate) fn word(text: &[u8]) -> Result<(&[u8], &[u8]), Unread>
     ensures { Gives (λ x. (x.0.now, x.1.now)) result (word_at text.now) }
@@ -115,7 +115,7 @@ pub(crate) fn status_word(word: &[u8]) -> Option<Word>
         .find(|status| status.text() == word)
 }
 
-// The bytes, where the word is their text.
+// The bytes, if the word is their text.
 fn shown_by(alloc: Global, word: &[u8], bytes: Seq<u8>) -> Result<Seq<u8>, Unread>
     ensures { Gives (λ x. x) result (only_if (bytes_eq (encode_lower bytes) word.now) bytes) }
 {

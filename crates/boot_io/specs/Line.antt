@@ -16,7 +16,7 @@ abbrev pub words_now : List (Bor (List ℕ)) → List (List ℕ)
 words_now [] = []
 words_now (word ∷ words) = word.now ∷ words_now words
 
--- a piece behind a line: what was put and what is left in the line are the line and the piece, or the sink failed in them
+-- a piece after a line: what was written and what is left in the line are together the line and the piece, or the sink failed in them
 abbrev pub Gathers : Result (Unit {0}) SinkFault → Option (List ℕ) → Option (List ℕ) → List ℕ → List ℕ → List ℕ → Type 0
 Gathers (Ok _) old new line_old line_new piece = (part : List ℕ) × Appends old new part × (part ++ line_new ≡ line_old ++ piece)
 Gathers (Err _) old new line_old line_new piece = AppendsPart old new (line_old ++ piece)

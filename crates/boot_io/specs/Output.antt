@@ -1,9 +1,9 @@
--- What leaves a program of the text that it has put.
+-- What leaves a program of the text that it has written.
 use Rattle.std.specs.Prelude.{ℕ, List, Option, Some, None, Result, Ok, Err, ⊤}
 use Rattle.std.specs.Io.KnownBytes.{Keeps}
 use Rattle.boot_io.specs.{declared.sink.SinkFault.SinkFault, Faults.IsPrefix}
 
--- what has left begins the text, where both are told
+-- what has left begins the text, if both are known
 abbrev pub HasBegun : Option (List ℕ) → Option (List ℕ) → Type 0
 HasBegun None left = ⊤
 HasBegun (Some text) None = ⊥

@@ -10,7 +10,7 @@ pub trait Folder {
     /// An open file.
     type File: Read + Drop;
 
-    /// The content under a name, where it is told.
+    /// The content under a name, if it is known beforehand.
     ghost content: { Self → List ℕ → Option (List ℕ) };
 
     /// Opens the file of a name at its start.
@@ -21,7 +21,7 @@ pub trait Folder {
     fn len_of(&self, file: &Self::File) -> u64;
 }
 
-/// The folder in which the program runs, by a runtime of std. It tells no content.
+/// The folder in which the program runs, by a runtime of std. No content is known beforehand.
 impl<R: std::rt::Files> Folder for &R {
     type File = R::File;
 

@@ -5,10 +5,10 @@ ghost use Rattle.boot_io.specs.declared.halt.Halt.TheVariants.{Sink, Memory};
 use crate::sink::SinkFault;
 use pi_base::OutOfMemory;
 
-/// Why a boot that runs is given up: what it has printed is then the beginning of its text.
+/// Why a running boot is abandoned. What it printed is then the beginning of its text.
 #[derive(Clone, Copy, Debug)]
 pub enum Halt {
-    /// A line could not be put; the sink has counted it.
+    /// A line could not be written. The sink has counted the failure.
     Sink,
     /// Want of memory.
     Memory,

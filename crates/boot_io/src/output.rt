@@ -29,7 +29,7 @@ fn flush_buffer<W: Write + Drop>(buffer: &mut BufWriter<W>) -> Result<(), SinkFa
 }
 
 impl<W: Write + Drop> RealSink<BufWriter<W>> {
-    /// A sink whose text leaves by `to` in pieces of 64 KiB, and the last of it with `finish`.
+    /// A sink that collects its text and hands it to `to` in pieces of 64 KiB, the last of them at `finish`.
     pub fn buffered(alloc: Global, to: W) -> Result<RealSink<BufWriter<W>>, OutOfMemory>
         ensures text { IfOk result (λ sink. writer_contents W.contents sink.to ≡ W.contents to) }
         ensures faults { IfOk result (λ sink. sink.faults ≡ 0) }
@@ -40,7 +40,7 @@ impl<W: Write + Drop> RealSink<BufWriter<W>> {
         }
     }
 
-    /// Hands on what is still held back, and gives the writer back. Where the writer fails, a beginning of the text has left.
+    /// Writes what is still buffered, and returns the writer. If the writer fails, a beginning of the text has left.
     pub fn finish(self) -> (W, Result<(), SinkFault>)
         ensures { HasLeftBy result.1 (writer_contents W.contents self.to) (W.contents result.0) }
     {
@@ -51,7 +51,7 @@ impl<W: Write + Drop> RealSink<BufWriter<W>> {
     }
 }
 
-/// A writer that waits where the one below it would block, without turning.
+/// A writer that waits when the one below it would block, without a busy loop.
 #[derive(Drop)]
 pub struct PatientWriter<'a, W: Write, C: Clock> {
     to: W,

@@ -1,4 +1,4 @@
-// What a reader has left, read to where it stays, at any reader of std.
+// Reads all that a reader of std has left into a list.
 ghost use Rattle.std.specs.Prelude.{◌≡◌, ◌≢◌, ◌++◌, ℕ, List, OnOk, IfErr};
 ghost use Rattle.std.specs.Io.KnownBytes.{Consumes, IsAtEnd};
 ghost use Rattle.boot_io.specs.{declared.files.FileFault.TheVariants.TooLong, Files.IntoAfter};
@@ -9,7 +9,7 @@ use pi_base::Seq;
 use std::io::{ErrorKind, Read};
 use std::mem;
 
-// Reads on behind some bytes until the reader ends. What was read before a fault stays.
+// Reads on after some bytes until the reader ends. What was read before a fault stays.
 fn read_on<R: Read>(reader: &mut R, bytes: &mut Vec<u8>) -> Result<(), FileFault>
     ensures read { (more : List ℕ) × (bytes.new.items ≡ bytes.old.items ++ more)
         × Consumes (R.remaining reader.old) (R.remaining reader.new) more }
@@ -27,7 +27,7 @@ fn read_on<R: Read>(reader: &mut R, bytes: &mut Vec<u8>) -> Result<(), FileFault
     }
 }
 
-// Reads what is left behind some bytes, up to one byte more than the limit.
+// Reads what is left after some bytes, up to one byte more than the limit.
 fn read_behind<R: Read + Drop>(
     reader: R,
     limit: usize,
@@ -45,21 +45,23 @@ fn read_behind<R: Read + Drop>(
         bytes.truncate(start);
         return Err(FileFault::TooLong);
     }
-    // No memory holds so many bytes, of which none would tell whether more are left.
+    // No list can hold so many bytes, so the limit of one more byte cannot be tested.
     if count == usize::MAX {
         return Err(FileFault::Memory);
     }
     Ok(())
 }
 
-/// Appends all that a reader has left, unless it is longer than `limit`: then it answers `TooLong` after `limit` + 1 bytes, with the list as it was. Room for the bytes that are `likely` left is taken first, and each is read to where it stays. `Failed` is an error of the reader (a call that was interrupted or would have blocked is made again and is none), `Memory` want of memory; the list then has a beginning of what was left.
+/// Appends all that a reader has left. If that is longer than `limit` bytes, it returns `TooLong` after reading `limit` + 1, and the list is unchanged. Room
+/// for `likely` bytes is reserved first. `Failed` means an error of the reader; an interrupted call, or one that would have blocked, is made again. `Memory`
+/// means that memory ran out. After `Failed` or `Memory` the list has a beginning of what was left.
 pub fn read_within<R: Read + Drop>(
     reader: R,
     likely: u64,
     limit: usize,
     into: &mut Seq<u8>,
 ) -> Result<(), FileFault>
-    // The content is what the reader tells that it has left.
+    // The content is what the reader has left, by its own contract.
     ensures { IntoAfter result (R.remaining reader) limit into.old into.new }
 {
     let alloc = into.alloc();

@@ -5,9 +5,10 @@ use crate::SinkFault;
 use crate::again::{TRIES, may_get_through};
 use std::io::Write;
 
-/// Writes a whole piece. It fails where the writer answers an error or takes nothing, and then a prefix of the piece was taken; a call that was interrupted or would have blocked is made again and is no error. It takes no memory.
+/// Writes a whole piece. It fails if the writer returns an error or takes nothing; a prefix of the piece is then written. An interrupted call, or one that
+/// would have blocked, is made again. It allocates nothing.
 pub fn write_whole<W: Write>(writer: &mut W, piece: &[u8]) -> Result<(), SinkFault>
-    // The text is what the writer tells that it holds.
+    // The text is what the writer holds, by its own contract.
     ensures { Puts result (W.contents writer.old) (W.contents writer.new) piece.now }
 {
     let mut rest = piece;

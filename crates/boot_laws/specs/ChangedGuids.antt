@@ -1,5 +1,5 @@
 -- Which GUIDs are installed changes in a step of PEI only for those of the step's event.
--- Those that a successful call puts in are there behind it.
+-- Those that a successful call puts in are there after it.
 -- Own.
 use Rattle.std.specs.Prelude.{◌≡◌, ℕ, Bool, true, false, List, ◌++◌, option_to_list}
 use Rattle.std.specs.List.{list_any}
@@ -18,13 +18,13 @@ pub record IsKept (m : PeiMachine) : Type 0 where
   pub facts : IsStoreState m.store
   pub held : Each (λ frame. HoldRegisters frame.registers m.store) m.frames
 
--- any other GUID is installed behind the step exactly where it was
+-- any other GUID is installed after the step exactly when it was
 abbrev pub GuidsChange : Type 0
 GuidsChange =
     (catalog : Catalog) (fuel : ℕ) (m : PeiMachine) (guid : Guid) → IsKept m
     → is_among guid (pei_guids catalog fuel m) ≡ false → has_ppi (pei_step catalog fuel m).store guid ≡ has_ppi m.store guid
 
--- those that are put in are installed behind it
+-- those that are added are installed after it
 abbrev pub GuidsAreThere : Type 0
 GuidsAreThere =
     (catalog : Catalog) (fuel : ℕ) (m : PeiMachine) → IsKept m

@@ -10,6 +10,6 @@ pub record HasEachOnce (catalog : Catalog) (m : DxeMachine) : Type 0 where
   pub once : AllDiffer (discovered_order catalog m)
   pub each : (number : ℕ) → IsDiscovered catalog m number ↔ (has_number (discovered_order catalog m) number ≡ true)
 
--- where each volume's parent comes before it, as in every well-formed catalogue
+-- if each volume's parent comes before it, as in every well-formed catalogue
 abbrev pub DiscoveredOrderHasEachOnce : Type 0
 DiscoveredOrderHasEachOnce = (catalog : Catalog) → AreNumbered 0 catalog.volumes → (fuel n : ℕ) (s : StoreState) (actions : ℕ) → HasEachOnce catalog (dxe_run catalog fuel n (dxe_opening catalog s actions))

@@ -1,6 +1,6 @@
--- In every run of DXE each start has its licence, and DXE stops only where no driver may start.
--- A driver starts at the head of the queue. It came there as an a priori driver of a volume that was discovered, or from a machine of the run in which nothing was scheduled and no script ran, as one of the group of its first eligible driver.
--- PI 1.8, volume 2, "DXE Dispatcher" and "A Priori File".
+-- In every run of DXE each start has its licence, and DXE stops only when no driver may start.
+-- A driver starts at the head of the queue. It came there as an a priori driver of a volume that was discovered, or from a machine of the run in which nothing
+-- was scheduled and no script ran, as one of the group of its first eligible driver. PI 1.8, volume 2, "DXE Dispatcher" and "A Priori File".
 use Rattle.std.specs.Prelude.{◌≡◌, ◌⊎◌, ℕ, zero, suc, true, List, [], ◌∷◌, Some, None, is_some, ⊤}
 use Rattle.pi_base.specs.{declared.phase.Phase.TheVariants.Dxe, Lists.Each}
 use Rattle.mod_catalog.specs.{declared.catalogue.Catalog.Catalog, declared.catalogue.Part.Part}
@@ -25,7 +25,7 @@ pub record IsApriori (catalog : Catalog) (discovered : List ℕ) (next : Schedul
   pub licence : next.licence ≡ G.Apriori
   pub volume : has_number discovered (module_volume catalog next.module_number) ≡ true
 
--- the group that is scheduled from a machine, where nothing is scheduled
+-- the group that is scheduled from a machine in which nothing is scheduled
 abbrev pub group_of : Catalog → DxeMachine → List Scheduled
 group_of catalog m = group_scheduled catalog m (first_eligible catalog m)
 

@@ -1,5 +1,5 @@
--- What a step of DXE keeps: the store; the volumes and the requests that there were, behind which new ones come; and so the driver of each name.
--- A call that is refused changes nothing but the last status of its frame.
+-- What a step of DXE keeps: the store; the volumes and the requests that there were, after which new ones come; and so the driver of each name. A call that is
+-- refused changes nothing but the last status of its frame.
 -- PI 1.8, volume 2, "Protocol Handler Services" and "DXE Services".
 use Rattle.std.specs.Prelude.{◌≡◌, ◌≢◌, ℕ, ◌+◌, ◌≤◌, List, [], ◌++◌, length, Some, None, ⊤}
 use Rattle.pi_base.specs.{declared.guid.Guid.Guid, declared.word.Word.TheVariants.Success}
@@ -46,6 +46,6 @@ pub record AreFewDrivers (catalog : Catalog) (m : DxeMachine) : Type 0 where
   pub order : length (discovered_order catalog m) ≤ length catalog.modules
   pub queue : length m.scheduled + length m.started ≤ length catalog.modules
 
--- where each volume's parent comes before it, as in every well-formed catalogue
+-- if each volume's parent comes before it, as in every well-formed catalogue
 abbrev pub DriversAreFew : Type 0
 DriversAreFew = (catalog : Catalog) → AreNumbered 0 catalog.volumes → (fuel n : ℕ) (s : StoreState) (actions : ℕ) → AreFewDrivers catalog (dxe_run catalog fuel n (dxe_opening catalog s actions))

@@ -1,5 +1,5 @@
--- The choice of a driver: where nothing runs and nothing is scheduled, the group of any driver that waits and may start is scheduled, and the machine goes on from there.
--- From the first of a group the names behind BEFORE and AFTER lead to its driver.
+-- The choice of a driver: if nothing runs and nothing is scheduled, the group of any driver that waits and may start is scheduled, and the machine continues
+-- from there. From the first of a group the names after BEFORE and AFTER lead to its driver.
 -- Own; PI 1.8, volume 2, "DXE Dispatcher", leaves the order to the dispatcher.
 use Rattle.std.specs.Prelude.{◌≡◌, ◌≢◌, ℕ, zero, suc, ◌≤◌, List, [], ◌∷◌, ◌++◌, Some, None, length}
 use Rattle.pi_base.specs.declared.phase.Phase.TheVariants.{Dxe}
@@ -52,13 +52,13 @@ abbrev pub AreLinesOfAim : Catalog → ℕ → PeiMachine → DxeMachine → Lis
 AreLinesOfAim catalog fuel pei m lines =
     (root : ℕ) × MaySchedule catalog m root × AreFreeDxeLines catalog fuel pei (aimed catalog m root) lines
 
--- where any driver may start, each free boot is one of these
+-- if any driver may start, each free boot is one of these
 abbrev pub DxeStartsFreely : Type 0
 DxeStartsFreely = (catalog : Catalog) (fuel : ℕ) (pei : PeiMachine) (m : DxeMachine) → IsChoosing m → first_eligible catalog m ≢ None
     → (lines : List Line)
     → AreFreeDxeLines catalog fuel pei m lines → AreLinesOfAim catalog fuel pei m lines
 
--- what the machine finds may start, and where it finds none it stops and none may
+-- the driver that the machine finds may start; if it finds none, it stops and no driver may start
 pub record IsFirstEligible (catalog : Catalog) (m : DxeMachine) : Type 0 where
   pub found : (root : ℕ) → first_eligible catalog m ≡ Some root → MaySchedule catalog m root
   pub none : (root : ℕ) → first_eligible catalog m ≡ None → MaySchedule catalog m root → ⊥
@@ -78,12 +78,12 @@ abbrev pub DxeStartsPrint : Type 0
 DxeStartsPrint = (catalog : Catalog) (fuel : ℕ) (m : DxeMachine) (next : Scheduled) (queue : List Scheduled) → IsUnderWay catalog m
     → dxe_case_of catalog m ≡ DxeStarts next queue → PrintsStart catalog fuel m next
 
--- the driver to which so many names lead from a driver; where there is no name it stays
+-- the driver to which so many names lead from a driver; if there is no name it stays
 abbrev pub follows : Catalog → DxeMachine → ℕ → ℕ → ℕ
 follows catalog m zero number = number
 follows catalog m (suc n) number = elim (target_of catalog m number) [ None ↦ number | Some target ↦ follows catalog m n target ]
 
--- the names lead from the first of a group to its driver, which has none
+-- the names lead from the first of a group to its driver, which names no other
 pub record LeadsToRoot (catalog : Catalog) (m : DxeMachine) (root first : ℕ) : Type 0 where
   pub leads : (n : ℕ) → length (waiting catalog m) ≤ n → follows catalog m n first ≡ root
   pub ends : target_of catalog m root ≡ None

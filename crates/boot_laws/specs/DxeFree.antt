@@ -14,13 +14,13 @@ IsOwnCase (DxeActs frame below) scheduled = ⊤
 IsOwnCase (DxeStarts next queue) scheduled = scheduled ≢ []
 IsOwnCase DxeStops scheduled = ⊤
 
--- where there is no choice the free boots from a machine are those from its next one
+-- if there is no choice the free boots from a machine are those from its next one
 abbrev pub DxeGoesOn : Type 0
 DxeGoesOn = (catalog : Catalog) (fuel : ℕ) (pei : PeiMachine) (m : DxeMachine) → m.ended ≡ None
     → IsOwnCase (dxe_case_of catalog m) m.scheduled → (lines : List Line)
     → AreFreeDxeLines catalog fuel pei m lines ↔ AreFreeDxeLines catalog fuel pei (dxe_step catalog fuel m) lines
 
--- behind its end they are the lines of both phases, and the last ones
+-- after its end they are the lines of both phases, and the last ones
 abbrev pub DxeEndsSo : Type 0
 DxeEndsSo = (catalog : Catalog) (fuel : ℕ) (pei : PeiMachine) (m : DxeMachine) → is_some m.ended ≡ true → (lines : List Line)
     → AreFreeDxeLines catalog fuel pei m lines ↔ (lines ≡ both_lines pei m m.ended)
@@ -30,7 +30,7 @@ abbrev pub DxeLinesGrow : Type 0
 DxeLinesGrow = (catalog : Catalog) (fuel : ℕ) (pei : PeiMachine) (m : DxeMachine) (lines : List Line)
     → AreFreeDxeLines catalog fuel pei m lines → AreLinesBehind (pei.lines ++ m.lines) lines
 
--- from each machine that is under way there is a free boot, where each volume's parent comes before it
+-- from each machine that is under way there is a free boot, if each volume's parent comes before it
 abbrev pub DxeEndsFreely : Type 0
 DxeEndsFreely = (catalog : Catalog) (fuel : ℕ) (pei : PeiMachine) (m : DxeMachine) → AreNumbered 0 catalog.volumes → IsUnderWay catalog m
     → (lines : List Line) × AreFreeDxeLines catalog fuel pei m lines

@@ -1,6 +1,6 @@
 -- What holds of each machine of a free boot in DXE, and how many steps it has left at most.
--- An action pays for two steps: itself, and a notification that begins behind it. A frame that has just begun owes its first action.
--- Own; PI 1.8, volume 2, leaves it to the dispatcher that a run ends.
+-- An action pays for two steps: itself, and a notification that begins after it. A frame that has just begun owes its first action. Own; PI 1.8, volume 2, does
+-- not say that a run ends.
 use Rattle.std.specs.Prelude.{◌≡◌, ◌≢◌, ℕ, zero, suc, ◌+◌, ◌-◌, ◌*◌, ◌≤◌, ◌<◌, true, List, [], ◌∷◌, Some, None, is_some, length, ⊤}
 use Rattle.pi_base.specs.declared.phase.Phase.TheVariants.{Dxe}
 use Rattle.pi_base.specs.Lists.{Each, Ordered, numbers}
@@ -21,7 +21,7 @@ abbrev pub IsDriverOf : Catalog → List ℕ → ℕ → Type 0
 IsDriverOf catalog volumes number =
     (is_some (part_at Dxe catalog number) ≡ true) × (has_number volumes (module_volume catalog number) ≡ true)
 
--- no volume was discovered twice, and no driver stands twice among those scheduled and started; each is of a discovered volume
+-- no volume was discovered twice, and no driver is twice among those scheduled and started; each is of a discovered volume
 pub record IsUnderWay (catalog : Catalog) (m : DxeMachine) : Type 0 where
   pub sweeps : SweepsAreLater m.frames
   pub volumes_differ : Ordered (λ a b. a ≢ b) m.discovered
@@ -31,12 +31,12 @@ pub record IsUnderWay (catalog : Catalog) (m : DxeMachine) : Type 0 where
   pub queue_known : Each (IsDriverOf catalog m.discovered) (numbers_of m.scheduled)
   pub started_known : Each (IsDriverOf catalog m.discovered) m.started
 
--- 0 where a frame has just begun and owes an action
+-- 0 if a frame has just begun and owes an action
 abbrev pub between_actions : List DriverFrame → ℕ
 between_actions [] = 1
 between_actions (frame ∷ below) = elim frame.position [ zero ↦ 0 | suc n ↦ 1 ]
 
--- the steps that are left, where the machine has not ended
+-- the steps that are left, if the machine has not ended
 abbrev pub steps_before_end : Catalog → ℕ → DxeMachine → ℕ
 steps_before_end catalog fuel m =
     1 + 2 * (fuel - m.actions) + between_actions m.frames + missing m.started (numbers 0 (length catalog.modules))
@@ -49,7 +49,7 @@ pub record IsUnderWayAtOpening (catalog : Catalog) (fuel : ℕ) (s : StoreState)
   pub way : IsUnderWay catalog (dxe_opening catalog s actions)
   pub few : steps_left catalog fuel (dxe_opening catalog s actions) ≤ dxe_bound catalog fuel
 
--- where each volume's parent comes before it
+-- if each volume's parent comes before it
 abbrev pub DxeOpensUnderWay : Type 0
 DxeOpensUnderWay = (catalog : Catalog) (fuel : ℕ) (s : StoreState) (actions : ℕ) → AreNumbered 0 catalog.volumes
     → IsUnderWayAtOpening catalog fuel s actions
@@ -65,7 +65,7 @@ DxeStepsRunOut = (catalog : Catalog) (fuel : ℕ) (m later : DxeMachine) → Are
     → IsUnderWay catalog m
     → IsFreeInDxe catalog fuel m (dxe_case_of catalog m) later → IsNearerEnd catalog fuel m later
 
--- where no step is left the machine has ended
+-- if no step is left the machine has ended
 abbrev pub DxeHasEnded : Type 0
 DxeHasEnded = (catalog : Catalog) (fuel : ℕ) (m : DxeMachine) → steps_left catalog fuel m ≡ 0 → is_some m.ended ≡ true
 

@@ -26,7 +26,7 @@ EffectHas P Q (Skipped n) = ⊤
 EffectHas P Q (Returned status) = ⊤
 EffectHas P Q (Own own) = ⊤
 
--- of the registers behind each action of PEI that writes one and calls nothing
+-- of the registers after each action of PEI that writes one and calls nothing
 pub record WritesHave (s : StoreState) (frame : Frame) (Q : Action → List Register → Type 0) : Type 0 where
   pub same : (action : Action) → Q action frame.registers
   pub set : (r n : ℕ) → Q (A.Set r n) (slice_set frame.registers r (Number n))

@@ -35,6 +35,6 @@ pub record IsGroupSmall (catalog : Catalog) (m : DxeMachine) (root : ℕ) : Type
   pub differ : AllDiffer (companion_group catalog m root)
   pub wait : Each (λ number. has_number (waiting catalog m) number ≡ true) (companion_group catalog m root)
 
--- where no volume was discovered twice
+-- if no volume was discovered twice
 abbrev pub GroupsAreSmall : Type 0
 GroupsAreSmall = (catalog : Catalog) (m : DxeMachine) (root : ℕ) → AllDiffer m.discovered → IsRoot catalog m root → IsGroupSmall catalog m root

@@ -23,14 +23,14 @@ IsChoice Stops = ⊤
 
 -- what the cursor changes of the choice, and of what follows
 pub record IsAimable (catalog : Catalog) (m : PeiMachine) (cursor : ℕ) : Type 0 where
-  -- the part behind the cursor, where it may start
+  -- the part after the cursor, if it may start
   pub aimed : (number : ℕ) → slice_get (pei_order catalog m.reported) cursor ≡ Some number → is_eligible catalog m number ≡ true
       → next_peim catalog (with_cursor m cursor) ≡ Some number
   -- always one that may start
   pub chosen : (number : ℕ) → next_peim catalog (with_cursor m cursor) ≡ Some number → MayStart catalog m number
-  -- none where there is none
+  -- there is none if there was none
   pub none : next_peim catalog (with_cursor m cursor) ≡ None ↔ next_peim catalog m ≡ None
-  -- a start puts the cursor behind the part
+  -- a start moves the cursor after the part
   pub start : (number : ℕ) → MayStart catalog m number → started catalog (with_cursor m cursor) number ≡ started catalog m number
   -- a stop keeps it
   pub stop : stopped catalog (with_cursor m cursor) ≡ with_cursor (stopped catalog m) cursor
@@ -45,7 +45,7 @@ CursorAims = (catalog : Catalog) (m : PeiMachine) (cursor : ℕ) → IsAimable c
 abbrev pub NextMayStart : Type 0
 NextMayStart = (catalog : Catalog) (m : PeiMachine) (number : ℕ) → next_peim catalog m ≡ Some number → MayStart catalog m number
 
--- where the machine chooses, the free boots are the same wherever the cursor stands
+-- when the machine chooses, the free boots are the same for every place of the cursor
 abbrev pub CursorIsFree : Type 0
 CursorIsFree = (catalog : Catalog) (fuel : ℕ) (m : PeiMachine) (cursor : ℕ) → m.ended ≡ None → IsChoice (case_of catalog m)
     → (lines : List Line)

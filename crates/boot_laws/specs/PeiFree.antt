@@ -17,7 +17,7 @@ IsOwnCase (Pops firing new) = ⊤
 IsOwnCase (Starts first) = ⊥
 IsOwnCase Stops = ⊤
 
--- where there is no choice the free boots from a machine are those from its next one
+-- if there is no choice the free boots from a machine are those from its next one
 abbrev pub PeiGoesOn : Type 0
 PeiGoesOn = (catalog : Catalog) (fuel : ℕ) (m : PeiMachine) → m.ended ≡ None → IsOwnCase (case_of catalog m) → (lines : List Line)
     → AreFreePeiLines catalog fuel m lines ↔ AreFreePeiLines catalog fuel (pei_step catalog fuel m) lines
@@ -27,13 +27,13 @@ abbrev pub AreLinesOfStart : Catalog → ℕ → PeiMachine → List Line → Ty
 AreLinesOfStart catalog fuel m lines =
     (number : ℕ) × MayStart catalog m number × AreFreePeiLines catalog fuel (started catalog m number) lines
 
--- where there is a choice they are those from each part that may start
+-- if there is a choice they are those from each part that may start
 abbrev pub PeiStartsFreely : Type 0
 PeiStartsFreely = (catalog : Catalog) (fuel : ℕ) (m : PeiMachine) (first : ℕ) → m.ended ≡ None → case_of catalog m ≡ Starts first
     → (lines : List Line)
     → AreFreePeiLines catalog fuel m lines ↔ AreLinesOfStart catalog fuel m lines
 
--- behind its end they are what comes after PEI
+-- after its end they are what comes after PEI
 abbrev pub PeiEndsSo : Type 0
 PeiEndsSo = (catalog : Catalog) (fuel : ℕ) (m : PeiMachine) → is_some m.ended ≡ true → (lines : List Line)
     → AreFreePeiLines catalog fuel m lines ↔ AreFreeLinesAfter catalog fuel m m.ended lines
@@ -52,7 +52,7 @@ abbrev pub PeiLinesGrow : Type 0
 PeiLinesGrow = (catalog : Catalog) (fuel : ℕ) (m : PeiMachine) (lines : List Line) → AreFreePeiLines catalog fuel m lines
     → AreLinesBehind m.lines lines
 
--- from each machine that is under way there is a free boot, where each volume's parent comes before it
+-- from each machine that is under way there is a free boot, if each volume's parent comes before it
 abbrev pub PeiEndsFreely : Type 0
 PeiEndsFreely = (catalog : Catalog) (fuel : ℕ) (m : PeiMachine) → AreNumbered 0 catalog.volumes → IsUnderWay catalog m
     → (lines : List Line) × AreFreePeiLines catalog fuel m lines

@@ -7,7 +7,7 @@ use Rattle.store_model.specs.StoreState.{Board}
 use Rattle.boot_model.specs.{PeiMachine.PeiMachine, PeiRun.pei_opening, PeiRun.pei_run, PeiChoice.pei_order}
 use Rattle.boot_model.specs.Licence.{AllDiffer, IsPartAmong}
 
--- no module stands twice in an order, each is one of the catalogue, and so there are no more of them
+-- no module is twice in an order, each is one of the catalogue, and so there are no more of them
 pub record IsOfModules (catalog : Catalog) (order : List ℕ) : Type 0 where
   pub differ : AllDiffer order
   pub below : Each (λ number. number < length catalog.modules) order
@@ -28,7 +28,7 @@ OrderHasEachPartOnce =
     (catalog : Catalog) (reported : List ℕ) → IsWellFormed catalog → AllDiffer reported
     → HasEachPartOnce catalog reported (pei_order catalog reported)
 
--- the volumes that a machine of a run has reported differ, where each volume's parent comes before it, as in every well-formed catalogue
+-- the volumes that a machine of a run has reported are distinct, if each volume's parent comes before it, as in every well-formed catalogue
 abbrev pub ReportedDiffer : Type 0
 ReportedDiffer =
     (catalog : Catalog) (board : Board) → AreNumbered 0 catalog.volumes

@@ -1,6 +1,6 @@
 -- What holds of each machine of a free boot in PEI, and how many steps it has left at most.
--- An action pays for two steps: itself, and a notification that begins behind it. A frame that has just begun owes its first action.
--- Own; PI 1.8, volume 1, leaves it to the dispatcher that a run ends.
+-- An action pays for two steps: itself, and a notification that begins after it. A frame that has just begun owes its first action. Own; PI 1.8, volume 1, does
+-- not say that a run ends.
 use Rattle.std.specs.Prelude.{◌≡◌, ℕ, zero, suc, ◌+◌, ◌-◌, ◌*◌, ◌≤◌, ◌<◌, Bool, true, false, not, List, [], ◌∷◌, Some, None, is_some, length, ⊤}
 use Rattle.pi_base.specs.{declared.phase.Phase.TheVariants.Pei, Lists.Each, Lists.numbers}
 use Rattle.mod_catalog.specs.{declared.catalogue.Catalog.Catalog, Parts.has_number, Parts.part_at}
@@ -17,7 +17,7 @@ pub record IsUnderWay (catalog : Catalog) (m : PeiMachine) : Type 0 where
   pub sweeps : SweepsAreLater m.frames
   pub parts : Each (λ number. is_some (part_at Pei catalog number) ≡ true) m.started
 
--- 0 where a frame has just begun and owes an action
+-- 0 if a frame has just begun and owes an action
 abbrev pub between_actions : List Frame → ℕ
 between_actions [] = 1
 between_actions (frame ∷ below) = elim frame.position [ zero ↦ 0 | suc n ↦ 1 ]
@@ -35,7 +35,7 @@ missing among (n ∷ ns) = one_if (not (has_number among n)) + missing among ns
 abbrev pub starts_left : Catalog → PeiMachine → ℕ
 starts_left catalog m = missing m.started (numbers 0 (length catalog.modules)) + missing m.again (numbers 0 (length catalog.modules))
 
--- the steps that are left, where the machine has not ended
+-- the steps that are left, if the machine has not ended
 abbrev pub steps_before_end : Catalog → ℕ → PeiMachine → ℕ
 steps_before_end catalog fuel m = 1 + 2 * (fuel - m.actions) + between_actions m.frames + starts_left catalog m + one_if (not m.store.moved)
 
@@ -60,6 +60,6 @@ abbrev pub PeiStepsRunOut : Type 0
 PeiStepsRunOut = (catalog : Catalog) (fuel : ℕ) (m later : PeiMachine) → m.ended ≡ None → IsUnderWay catalog m
     → IsFreePeiStep catalog fuel m later → IsNearerEnd catalog fuel m later
 
--- where no step is left the machine has ended
+-- if no step is left the machine has ended
 abbrev pub PeiHasEnded : Type 0
 PeiHasEnded = (catalog : Catalog) (fuel : ℕ) (m : PeiMachine) → steps_left catalog fuel m ≡ 0 → is_some m.ended ≡ true

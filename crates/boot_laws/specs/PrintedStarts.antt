@@ -1,5 +1,5 @@
--- The lines of a run tell its starts: each start line, in order, is a start of the machine, and each start has its line.
--- A module is named by its volume and its file name. Own.
+-- The lines of a run show its starts: each start line, in order, is a start of the machine, and each start has its line. A module is named by its volume and
+-- its file name. Own.
 use Rattle.std.specs.Prelude.{◌≡◌, ℕ, List, [], ◌∷◌, map, flat_map, reverse, Option, Some, None}
 use Rattle.pi_base.specs.declared.guid.Guid.{Guid}
 use Rattle.mod_catalog.specs.{declared.catalogue.Catalog.Catalog, Parts.module_name, Parts.module_volume}
@@ -11,7 +11,7 @@ use Rattle.boot_model.specs.declared.phase_end.PeiEnd.TheVariants.{Handoff, NoMe
 use Rattle.boot_model.specs.PeiRun.{pei_run, pei_opening, pei_end}
 use Rattle.boot_model.specs.DxeRun.{dxe_run, dxe_opening, dxe_end}
 
--- the module that a line tells has started in PEI for the first time
+-- if a line is a first start in PEI, the module that it names
 abbrev pub first_start : Line → List (ℕ × Guid)
 first_start (L.PeiStart volume name G.Shadow) = []
 first_start (L.PeiStart volume name licence) = (volume, name) ∷ []
@@ -27,7 +27,7 @@ abbrev pub driver_start : Line → List (ℕ × Guid)
 driver_start (L.DxeStart volume name licence) = (volume, name) ∷ []
 driver_start line = []
 
--- the starts that lines tell, in order
+-- the start lines among these lines are these starts, in order
 pub record TellStarts (lines : List Line) (first second drivers : List (ℕ × Guid)) : Type 0 where
   pub first_starts : flat_map first_start lines ≡ first
   pub second_starts : flat_map second_start lines ≡ second
@@ -52,7 +52,7 @@ DriverStartsArePrinted =
     (catalog : Catalog) (s : StoreState) (actions fuel n : ℕ)
     → let m = dxe_run catalog fuel n (dxe_opening catalog s actions) in TellStarts m.lines [] [] (in_order catalog m.started)
 
--- the drivers that start behind a PEI that has ended so
+-- the drivers that start after a PEI that has ended so
 abbrev pub drivers_behind : Catalog → ℕ → PeiMachine → Option PeiEnd → List ℕ
 drivers_behind catalog fuel pei None = []
 drivers_behind catalog fuel pei (Some Handoff) = (dxe_end catalog fuel pei.store pei.actions).started

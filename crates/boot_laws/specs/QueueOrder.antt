@@ -1,7 +1,6 @@
--- The scheduled queue keeps its order. A step puts new drivers behind those that stand in it, or its head leaves it and starts.
--- So what stands in a queue starts in that order, one driver next to the other, whatever is discovered meanwhile.
--- A companion starts beside the driver that it names, with nothing but companions of either between them.
--- PI 1.8, volume 2, "DXE Dispatcher", and BEFORE and AFTER in "Dependency Expressions".
+-- The scheduled queue keeps its order. A step puts new drivers after those that are in it, or its head leaves it and starts. So what is in a queue starts in
+-- that order, one driver after the other, whatever is discovered meanwhile. A companion starts next to the driver that it names, with nothing but companions of
+-- either between them. PI 1.8, volume 2, "DXE Dispatcher", and BEFORE and AFTER in "Dependency Expressions".
 use Rattle.std.specs.Prelude.{◌≡◌, ◌⊎◌, ℕ, true, List, [], ◌∷◌, ◌++◌, reverse}
 use Rattle.mod_catalog.specs.{declared.catalogue.Catalog.Catalog, Parts.has_number, WellFormed.AreNumbered}
 use Rattle.store_model.specs.StoreState.{StoreState}
@@ -13,13 +12,13 @@ use Rattle.boot_laws.specs.DriverLicences.{group_of}
 abbrev pub starts : DxeMachine → List ℕ
 starts m = reverse m.started
 
--- none has started, and new drivers have come behind those of the queue
+-- no driver has started, and new drivers have joined the end of the queue
 pub record HasJoined (old new : DxeMachine) : Type 0 where
   pub more : List Scheduled
   pub queue : new.scheduled ≡ old.scheduled ++ more
   pub started : new.started ≡ old.started
 
--- no script runs, and the head has started: of the queue, or where that is empty of the group of the first eligible driver
+-- no script runs, and the head has started: that of the queue, or if the queue is empty that of the group of the first eligible driver
 pub record HasStarted (catalog : Catalog) (old new : DxeMachine) : Type 0 where
   pub next : Scheduled
   pub idle : old.frames ≡ []
@@ -34,13 +33,13 @@ KeepsOrder catalog old new = HasJoined old new ⊎ HasStarted catalog old new
 abbrev pub machine_after : Catalog → (fuel steps : ℕ) → StoreState → ℕ → DxeMachine
 machine_after catalog fuel steps s actions = dxe_run catalog fuel steps (dxe_opening catalog s actions)
 
--- of each machine of a run, where each volume's parent comes before it, as in every well-formed catalogue
+-- for each machine of a run, if each volume's parent comes before it, as in every well-formed catalogue
 abbrev pub QueuesKeepTheirOrder : Type 0
 QueuesKeepTheirOrder =
     (catalog : Catalog) → AreNumbered 0 catalog.volumes → (fuel steps : ℕ) (s : StoreState) (actions : ℕ)
     → KeepsOrder catalog (machine_after catalog fuel steps s actions) (dxe_step catalog fuel (machine_after catalog fuel steps s actions))
 
--- a front of the queue has started since, and the rest stands in the queue, with new drivers behind
+-- a front of the queue has started since, and the rest is in the queue, with new drivers after
 pub record PartHasStarted (queue : List Scheduled) (old new : DxeMachine) : Type 0 where
   pub begun : List Scheduled
   pub left : List Scheduled
@@ -57,14 +56,14 @@ pub record AllHaveStarted (queue : List Scheduled) (old new : DxeMachine) : Type
 abbrev pub StartsInOrder : List Scheduled → DxeMachine → DxeMachine → Type 0
 StartsInOrder queue old new = PartHasStarted queue old new ⊎ AllHaveStarted queue old new
 
--- what stands in the queue of a machine of a run starts in that order in the machines after it, and nothing starts between
+-- what is in the queue of a machine of a run starts in that order in the machines after it, and nothing starts between
 abbrev pub QueuesStartInOrder : Type 0
 QueuesStartInOrder =
     (catalog : Catalog) → AreNumbered 0 catalog.volumes → (fuel steps more : ℕ) (s : StoreState) (actions : ℕ)
     → let m = machine_after catalog fuel steps s actions in StartsInOrder m.scheduled m (dxe_run catalog fuel more m)
 
--- two drivers that stand beside one another in the group that a machine schedules start so:
--- wherever the second has started later, the first has started before it, and between them only companions of either
+-- two neighbours in the group that a machine schedules start next to each other:
+-- whenever the second has started later, the first has started before it, and between them only companions of either
 abbrev pub CompanionsStartBeside : Type 0
 CompanionsStartBeside =
     (catalog : Catalog) → AreNumbered 0 catalog.volumes → (fuel steps more : ℕ) (s : StoreState) (actions first second : ℕ)

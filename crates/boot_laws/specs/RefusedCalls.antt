@@ -1,6 +1,6 @@
--- A call of a PEI script that is refused changes no HOB, PPI, notification or queued pair, no register, and nothing else of the machine.
--- The action is counted, the call's line is printed with its status alone, and the script goes on behind it with that status.
--- PI 1.8, volume 1, "PEI Services": what a service's status codes leave.
+-- A call of a PEI script that is refused changes no HOB, PPI, notification or queued pair, no register, and nothing else of the machine. The action is counted,
+-- the call's line is printed with its status alone, and the script continues after it with that status. PI 1.8, volume 1, "PEI Services": what a service's
+-- status codes leave.
 use Rattle.std.specs.Prelude.{◌≡◌, ◌≢◌, ℕ, ◌+◌, false, true, List, [], ◌∷◌, ◌++◌, nat_le, ⊤}
 use Rattle.pi_base.specs.{declared.word.Word.Word, declared.word.Word.TheVariants.Success, declared.word.Word.TheVariants.AlreadyStarted}
 use Rattle.mod_catalog.specs.{declared.catalogue.Catalog.Catalog, Parts.has_number}
@@ -33,8 +33,8 @@ pub record IsRefusedCall (old : PeiMachine) (frame : Frame) (below : List Frame)
   pub line : new.lines ≡ old.lines ++ L.Call name status X.Nothing ∷ []
   pub goes_on : new.ended ≡ old.ended
 
--- the same by what the action does: a call of the store is refused by another status than Success,
--- and a registration for shadow where the module has registered
+-- the machine after a refused call, by what the action does: a call of the store is refused by another status than Success, and a registration for shadow if
+-- the module has registered
 abbrev pub LeavesIfRefused : PeiMachine → Frame → List Frame → Effect → PeiMachine → Type 0
 LeavesIfRefused old frame below (Called name reply) new = reply.status ≢ Success → IsRefusedCall old frame below name reply.status new
 LeavesIfRefused old frame below (Own Shadowed) new =

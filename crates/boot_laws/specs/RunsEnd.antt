@@ -8,6 +8,7 @@ use Rattle.boot_model.specs.{PeiRun.pei_end, DxeRun.dxe_end}
 abbrev pub PeiRunsEnd : Type 0
 PeiRunsEnd = (board : Board) (catalog : Catalog) (fuel : ℕ) → is_some (pei_end board catalog fuel).ended ≡ true
 
--- where each volume's parent comes before it, as in every well-formed catalogue: a volume that is nested in itself would be discovered twice, and its drivers start twice
+-- if each volume's parent comes before it, as in every well-formed catalogue: a volume that is nested in itself would be discovered twice, and its drivers
+-- start twice
 abbrev pub DxeRunsEnd : Type 0
 DxeRunsEnd = (catalog : Catalog) → AreNumbered 0 catalog.volumes → (fuel : ℕ) (s : StoreState) (actions : ℕ) → is_some (dxe_end catalog fuel s actions).ended ≡ true

@@ -22,7 +22,7 @@ StartsKeepSound =
     (catalog : Catalog) (m : PeiMachine) (number : ℕ) → length catalog.modules ≤ MOST_MODULES → IsSound m
     → IsSound (started catalog m number)
 
--- the callback of a pair that fires, and the sweep behind the pair
+-- the callback of a pair that fires, and the sweep after the pair
 abbrev pub MatchesAreSound : Type 0
 MatchesAreSound =
     (s : StoreState) (sweep later : Sweep) (firing : Firing) → next_match s sweep ≡ Some (firing, later) → IsStoreState s → IsSweepOf s sweep
@@ -36,6 +36,6 @@ PopsAreSound = (s new : StoreState) (firing : Firing) → queue_pop s ≡ Some (
 abbrev pub CoreSweepsAreSound : Type 0
 CoreSweepsAreSound = (s new : StoreState) (sweep : Sweep) → core_install s ≡ Ok (sweep, new) → IsSweepOf new sweep
 
--- what lies within the lists does so later too
+-- what is within the lists is so later too
 abbrev pub SweepsStay : Type 0
 SweepsStay = (s new : StoreState) (sweep : Sweep) → IsLater s new → IsSweepOf s sweep → IsSweepOf new sweep

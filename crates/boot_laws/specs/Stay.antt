@@ -1,5 +1,5 @@
--- After an action what was there is there, and no list of PPIs or callbacks is shorter.
--- The callbacks that a call lets visit lie within the lists.
+-- After an action what was there is still there, and no list of PPIs or callbacks is shorter.
+-- The callbacks that a call has to visit are within the lists.
 -- Own.
 use Rattle.std.specs.Prelude.{◌≡◌, ◌≢◌, ◌-◌, ◌≤◌, ℕ, List, [], length, take, drop, Option, Some, None, ⊤}
 use Rattle.act_code.specs.declared.action.Action.{Action}
@@ -19,7 +19,7 @@ pub record IsLater (s new : StoreState) : Type 0 where
 abbrev pub swept_ppis : StoreState → Sweep → List ℕ
 swept_ppis s sweep = descriptors (take (sweep.ppi_to - sweep.ppi_at) (drop sweep.ppi_at s.ppis))
 
--- a call's sweep lies within the lists, and visits the PPIs that the call installs; without a sweep it installs none
+-- a call's sweep is within the lists, and visits the PPIs that the call installs; without a sweep it installs none
 abbrev pub Visits : StoreState → Option Sweep → List ℕ → Type 0
 Visits s None installs = installs ≡ []
 Visits s (Some sweep) installs = IsSweepOf s sweep × (installs ≢ [] → installs ≡ swept_ppis s sweep)

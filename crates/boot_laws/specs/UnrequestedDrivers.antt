@@ -1,5 +1,5 @@
--- In each machine of a run a driver with SOR that nobody requested waits, unless its volume's a priori list has it. So the driver that `Schedule()` requests is found by its name in the discovered order, without the queue.
--- PI 1.8, volume 2, `Schedule()` and "A Priori File".
+-- In each machine of a run a driver with SOR that no module requested waits, unless its volume's a priori list has it. So the driver that `Schedule()` requests
+-- is found by its name in the discovered order, without the queue. PI 1.8, volume 2, `Schedule()` and "A Priori File".
 use Rattle.std.specs.Prelude.{◌≡◌, ℕ, ◌&&◌, true, is_none, find}
 use Rattle.pi_base.specs.{declared.guid.Guid.Guid, declared.phase.Phase.TheVariants.Dxe, Guids.same_guid}
 use Rattle.mod_catalog.specs.{declared.catalogue.Catalog.Catalog, Parts.rank_at, Parts.module_name, WellFormed.IsWellFormed}

@@ -1,45 +1,46 @@
-//! Which module starts where several may, and whether a module that is about to start is let: the choice is handed in.
+//! The choice of the module that starts next if several may, and whether a module that is about to start is allowed to. A caller hands it in.
 ghost use Rattle.std.specs.Prelude.{◌≡◌, ℕ, Bool, true, Option, None};
 
-/// Which module starts where several may; PI 1.8, volumes 1 and 2, leave it to the dispatchers. `S` is the sink into which the boot puts its lines: the choice may look at it.
-/// `starts` is how many starts there were in the boot before, second ones too; of PEI's it counts at most 2^32 - 1.
+/// Chooses the module that starts next if several may; PI 1.8, volumes 1 and 2, leave this to the dispatchers. `S` is the sink to which the boot writes its
+/// lines; the choice may look at it. `starts` counts the starts earlier in the boot, second ones included; of PEI's it counts at most 2^32 - 1.
 pub trait Choice<S> {
-    /// What it may answer to the first question, by what it is, by the sink and by the starts before.
+    /// What `peim` may return, given the sink and the number of starts before.
     ghost peims: { Self → S → ℕ → Option ℕ → Type 0 };
-    /// The same of the second.
+    /// What `driver` may return.
     ghost drivers: { Self → S → ℕ → Option ℕ → Type 0 };
-    /// Whether it lets a module start in PEI behind so many starts.
+    /// Whether it allows a module to start in PEI after so many starts.
     ghost lets_in_pei: { Self → ℕ → ℕ → Bool };
-    /// The same in DXE.
+    /// Whether it allows a driver to start in DXE after so many starts.
     ghost lets_in_dxe: { Self → ℕ → ℕ → Bool };
 
-    /// The module that is to start next in PEI, if it may. None where the choice names none.
+    /// The module that is to start next in PEI, if it may. None if the choice names no module.
     fn peim(&self, sink: &S, starts: u64) -> Option<u32>
         ensures { peims self.now sink.now starts result };
 
-    /// The module that is to start next in DXE, if it may. None where the choice names none.
+    /// The module that is to start next in DXE, if it may. None if the choice names no module.
     fn driver(&self, sink: &S, starts: u64) -> Option<u32>
         ensures { drivers self.now sink.now starts result };
 
-    /// Whether this module, which is about to start in PEI, does. Where it does not the boot is left there.
+    /// Whether this module, which is about to start in PEI, is allowed to. If not, the boot is left before the start.
     fn lets_peim(&self, starts: u64, number: u32) -> bool
         ensures { result ≡ lets_in_pei self.now starts number };
 
-    /// The same of a driver in DXE, also of one that starts beside the driver that it names.
+    /// Whether this driver, which is about to start in DXE, is allowed to, also if it comes with the driver that it names. If not, the boot is left before the
+    /// start.
     fn lets_driver(&self, starts: u64, number: u32) -> bool
         ensures { result ≡ lets_in_dxe self.now starts number };
 }
 
-/// What a phase came to: its end, or the start of a module that the choice does not let.
+/// How far a phase came: to its end, or to the start of a module that the choice does not allow.
 #[derive(Clone, Copy, Debug)]
 pub enum Reached<E> {
     /// Its end.
     End(E),
-    /// The start of the module with this number, which was not begun.
+    /// The module with this number is not allowed to start, and has not started.
     Barred(u32),
 }
 
-/// The first module that may start, in the order of the phase: no module is named, and each is let.
+/// The choice of the machine itself: it names no module, so the first eligible one in the order of the phase starts, and it allows each.
 #[derive(Clone, Copy)]
 pub struct FirstEligible;
 

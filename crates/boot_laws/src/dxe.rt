@@ -5,7 +5,7 @@ ghost use Rattle.boot_laws.specs.DriverSteps.{DriverStepsGrow, DriversAreFew, Re
 ghost use Rattle.boot_laws.specs.{PrintedStarts.DriverStartsArePrinted, RunsEnd.DxeRunsEnd, UnrequestedDrivers.UnrequestedDriversWait};
 ghost use Rattle.boot_laws.specs.QueueOrder.{CompanionsStartBeside, QueuesKeepTheirOrder, QueuesStartInOrder};
 
-/// A run of DXE has ended within the steps that its catalogue and its fuel let it take.
+/// A run of DXE ends within a number of steps that its catalogue and its fuel bound.
 pub fn dxe_runs_end()
     ensures { DxeRunsEnd }
 {}
@@ -15,7 +15,7 @@ pub fn drivers_start_once()
     ensures { DriversStartOnce }
 {}
 
-/// In a run of DXE each start has its licence, and the stop comes only where no driver may start.
+/// In a run of DXE each start has its licence, and DXE stops only when no driver may start.
 pub fn drivers_start_licensed()
     ensures { DriversStartLicensed }
 {}
@@ -25,52 +25,52 @@ pub fn discovered_order_has_each_once()
     ensures { DiscoveredOrderHasEachOnce }
 {}
 
-/// The group of a driver over an eligible one is made without a depth.
+/// The group of a driver can be computed over an eligible one without a bound on the depth.
 pub fn groups_unfold()
     ensures { GroupsUnfold }
 {}
 
-/// The group of an eligible driver has no more drivers than wait, each once.
+/// The group of an eligible driver has each driver once, and no more than wait.
 pub fn groups_are_small()
     ensures { GroupsAreSmall }
 {}
 
-/// A step of DXE keeps the store, and adds volumes and requests behind those that there were, so that the driver of a name stays.
+/// A step of DXE keeps the store. It adds volumes and requests after the earlier ones, so the driver of a name stays the same.
 pub fn driver_steps_grow()
     ensures { DriverStepsGrow }
 {}
 
-/// A call of DXE that is refused changes nothing but the last status.
+/// A refused call of DXE changes nothing but the last status.
 pub fn refused_calls_change_nothing()
     ensures { RefusedCallsChangeNothing }
 {}
 
-/// In a run of DXE the discovered order, and the drivers that are scheduled or have started, are no more than the modules.
+/// In a run of DXE there are no more drivers in the discovered order than modules, and no more scheduled or started.
 pub fn drivers_are_few()
     ensures { DriversAreFew }
 {}
 
-/// In a run of DXE a driver with SOR that nobody requested waits, unless it has a place in its volume's a priori list.
+/// In a run of DXE a driver with SOR that no module requested waits, unless it has a place in its volume's a priori list.
 pub fn unrequested_drivers_wait()
     ensures { UnrequestedDriversWait }
 {}
 
-/// In a run of DXE a step puts new drivers behind those that are scheduled, or the head of the queue leaves it and starts.
+/// In a run of DXE a step adds new drivers after those that are scheduled, or the head of the queue leaves it and starts.
 pub fn queues_keep_their_order()
     ensures { QueuesKeepTheirOrder }
 {}
 
-/// So what stands in the queue starts in that order, and nothing starts between.
+/// So what is in the queue starts in that order, and nothing starts in between.
 pub fn queues_start_in_order()
     ensures { QueuesStartInOrder }
 {}
 
-/// A companion starts beside the driver that its BEFORE or AFTER names: between the two start only companions of either.
+/// A companion starts next to the driver that its BEFORE or AFTER names: between the two only companions of either start.
 pub fn companions_start_beside()
     ensures { CompanionsStartBeside }
 {}
 
-/// The lines of a run of DXE tell the starts of its machine, in their order.
+/// The start lines of a run of DXE are the starts of its machine, in order.
 pub fn driver_starts_are_printed()
     ensures { DriverStartsArePrinted }
 {}

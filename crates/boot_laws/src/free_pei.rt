@@ -3,20 +3,21 @@ ghost use Rattle.boot_laws.specs.PeiUnderWay.{PeiOpensUnderWay, PeiStepsRunOut, 
 ghost use Rattle.boot_laws.specs.PeiFree.{PeiGoesOn, PeiStartsFreely, PeiEndsSo, PeiLinesGrow, PeiEndsFreely, OwnPeiStepsAreFree, BootIsFree};
 ghost use Rattle.boot_laws.specs.PeiAim.{CursorAims, CursorIsFree, NextMayStart, PeiStartsPrint};
 
-/// The opening of PEI is under way, each free step keeps a machine so and brings it nearer to its end, and with no step left it has ended.
+/// The opening of PEI is under way. Each free step keeps a machine under way and nearer to its end, and a machine with no step left has ended.
 pub fn pei_opens()
     ensures opens { PeiOpensUnderWay }
     ensures nearer { PeiStepsRunOut }
     ensures ended { PeiHasEnded }
 {}
 
-/// Where a machine of PEI has no choice the free boots from it are those from its next machine, and behind its end what comes after PEI.
+/// If a machine of PEI has no choice, the free boots from it are those from its next machine. After its end they are what comes after PEI.
 pub fn pei_goes_on()
     ensures on { PeiGoesOn }
     ensures ended { PeiEndsSo }
 {}
 
-/// Where it has a choice they are those from each part that may start; the part that the machine itself chooses is one of these. A start prints its start line first.
+/// If a machine of PEI has a choice, the free boots from it are those after the start of each part that may start; the part that the machine itself chooses is
+/// one of them. A start prints its start line first.
 pub fn pei_starts_freely()
     ensures starts { PeiStartsFreely }
     ensures prints { PeiStartsPrint }
@@ -38,7 +39,8 @@ pub fn boot_is_free()
     ensures { BootIsFree }
 {}
 
-/// Wherever the cursor stands the machine chooses a part that may start, and the free boots are the same; with the cursor before a part that may start it chooses that part.
+/// For every place of the cursor, the machine chooses a part that may start, and the free boots are the same. With the cursor before a part that may start, it
+/// chooses that part.
 pub fn cursor_aims()
     ensures aims { CursorAims }
     ensures may { NextMayStart }

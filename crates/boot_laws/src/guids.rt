@@ -6,12 +6,12 @@ pub fn guids_change()
     ensures { GuidsChange }
 {}
 
-/// The GUIDs that a successful call puts in are installed behind the step.
+/// The GUIDs that a successful call adds are installed after the step.
 pub fn guids_are_there()
     ensures { GuidsAreThere }
 {}
 
-/// The GUIDs of an event are the one that a reinstall takes away and those that are put in.
+/// The GUIDs of an event are the one that a reinstall removes and those that are added.
 pub fn guids_are_these()
     ensures { GuidsAreThese }
 {}

@@ -1,7 +1,7 @@
 //! Laws of the PEI order, each on a function without a body.
 ghost use Rattle.boot_laws.specs.PeiOrder.{OrderHasEachPartOnce, OrderIsOfModules, OrdersOfRuns, ReportedDiffer};
 
-/// The PEI order of volumes that differ has no module twice, and so no more than there are.
+/// The PEI order of distinct volumes has no module twice, and so has no more than there are.
 pub fn order_is_of_modules()
     ensures { OrderIsOfModules }
 {}
@@ -11,7 +11,7 @@ pub fn order_has_each_part_once()
     ensures { OrderHasEachPartOnce }
 {}
 
-/// The volumes that a machine of a run of PEI has reported differ.
+/// The volumes that a machine of a run of PEI has reported are distinct.
 pub fn reported_volumes_differ()
     ensures { ReportedDiffer }
 {}

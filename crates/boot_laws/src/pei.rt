@@ -6,7 +6,7 @@ ghost use Rattle.boot_model.specs.Licence.{IsLicensedRun, StartsAtMostOnce};
 
 use store_laws::{services_keep_facts, states_fit, steps_keep_facts};
 
-/// A run of PEI has ended within the steps that its catalogue and its fuel let it take.
+/// A run of PEI ends within a number of steps that its catalogue and its fuel bound.
 pub fn pei_runs_end()
     ensures { PeiRunsEnd }
 {}
@@ -16,7 +16,8 @@ pub fn moves_change_nothing()
     ensures { MovesChangeNothing }
 {}
 
-/// Over a well-formed catalogue and a board with its facts, every machine of a run of PEI has its facts: what its store says fits, and what its registers hold is there.
+/// Over a well-formed catalogue and a board with its facts, every machine of a run of PEI has its facts: what its store says fits, and what its registers hold
+/// exists.
 pub fn run_has_facts()
     ensures { RunHasFacts }
 {
@@ -25,7 +26,7 @@ pub fn run_has_facts()
     states_fit();
 }
 
-/// So has the opening.
+/// The opening of PEI has these facts.
 pub fn opening_has_facts()
     ensures { OpeningHasFacts }
 {
@@ -34,7 +35,7 @@ pub fn opening_has_facts()
     states_fit();
 }
 
-/// And each step keeps them.
+/// Each step of PEI keeps these facts.
 pub fn step_has_facts()
     ensures { StepHasFacts }
 {
@@ -43,7 +44,8 @@ pub fn step_has_facts()
     states_fit();
 }
 
-/// In a run of PEI each start has its licence, the move changes no PPI, notification or other HOB, and the stop comes only where no part of a reported volume may start.
+/// In a run of PEI each start has its licence, and the move changes no PPI, notification or HOB but the hand-off HOB. PEI stops only when no part of a reported
+/// volume may start.
 pub fn licensed_run()
     ensures { IsLicensedRun }
 {
@@ -52,17 +54,17 @@ pub fn licensed_run()
     states_fit();
 }
 
-/// In a run of PEI no part starts twice, but one that registered for shadow, and that one after the move.
+/// In a run of PEI no part starts twice, except one that registered for shadow, and that one after the move.
 pub fn starts_at_most_once()
     ensures { StartsAtMostOnce }
 {}
 
-/// A call of a PEI script that is refused changes no HOB, PPI, notification, queued pair or register: its line is printed, and the script has its status.
+/// A refused call of a PEI script changes no HOB, PPI, notification, queued pair or register: its line is printed, and the script gets its status.
 pub fn refused_pei_calls_change_nothing()
     ensures { RefusedPeiCallsChangeNothing }
 {}
 
-/// The lines of a run of PEI tell the starts of its machine, first and second ones, in their order.
+/// The start lines of a run of PEI are the starts of its machine, first and second ones, in order.
 pub fn starts_are_printed()
     ensures { StartsArePrinted }
 {}

@@ -12,37 +12,37 @@ pub fn steps_keep_sound()
     ensures { StepsKeepSound }
 {}
 
-/// So does the start of a part.
+/// The start of a part leads from a sound machine to a sound one.
 pub fn starts_keep_sound()
     ensures { StartsKeepSound }
 {}
 
-/// After an action of a script the registers hold pools and descriptors that are there.
+/// After an action of a script the registers hold pools and descriptors that exist.
 pub fn actions_are_sound()
     ensures { ActionsAreSound }
 {}
 
-/// A service's answer to a script keeps what was there, and its sweep lies within the lists.
+/// A service's answer to a script keeps what existed, and its sweep is within the lists.
 pub fn replies_are_sound()
     ensures { RepliesAreSound }
 {}
 
-/// What a sweep lets fire is a notification of a module and a PPI that is there, and the sweep behind it lies within the lists.
+/// A sweep fires only notifications of modules for PPIs that exist, and the sweep after it is within the lists.
 pub fn matches_are_sound()
     ensures { MatchesAreSound }
 {}
 
-/// So is what leaves the queue, over the state after it.
+/// What leaves the queue is such a notification too, over the state after it.
 pub fn pops_are_sound()
     ensures { PopsAreSound }
 {}
 
-/// The sweep of the core's own call lies within the lists.
+/// The sweep of the core's own call is within the lists.
 pub fn core_sweeps_are_sound()
     ensures { CoreSweepsAreSound }
 {}
 
-/// A sweep that lies within the lists lies within those of a later state.
+/// A sweep within the lists is also within those of a later state.
 pub fn sweeps_stay()
     ensures { SweepsStay }
 {}

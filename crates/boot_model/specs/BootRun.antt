@@ -1,4 +1,4 @@
--- A whole boot: PEI to its end, and DXE where PEI handed off. Its lines are those of both, the lists of the last store, the handles, and the result.
+-- A whole boot: PEI to its end, and then DXE if PEI handed off. Its lines are those of both phases, the lists of the last store, the handles, and the result.
 -- Own.
 use Rattle.std.specs.Prelude.{ℕ, List, [], ◌∷◌, ◌++◌, length, map, Option, Some, None}
 use Rattle.mod_catalog.specs.declared.catalogue.Catalog.{Catalog}
@@ -29,12 +29,12 @@ closing_lines pei handles end = store_lines pei.store ++ handle_lines handles ++
 abbrev pub pei_lines : PeiMachine → RunEnd → List Line
 pei_lines pei end = pei.lines ++ closing_lines pei no_handles end
 
--- of a boot that handed off: the lines of both phases, and the last lines where DXE has ended
+-- the lines of a boot that handed off: those of both phases, and the last lines if DXE has ended
 abbrev pub both_lines : PeiMachine → DxeMachine → Option DxeEnd → List Line
 both_lines pei dxe None = pei.lines ++ dxe.lines
 both_lines pei dxe (Some end) = pei.lines ++ dxe.lines ++ closing_lines pei dxe.handles (dxe_result end)
 
--- all lines behind a PEI that has ended so
+-- all lines after a PEI that has ended so
 abbrev pub lines_after : Catalog → ℕ → PeiMachine → Option PeiEnd → List Line
 lines_after catalog fuel pei None = pei.lines
 lines_after catalog fuel pei (Some Handoff) = both_lines pei (dxe_end catalog fuel pei.store pei.actions) (dxe_end catalog fuel pei.store pei.actions).ended

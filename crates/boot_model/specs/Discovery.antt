@@ -1,5 +1,5 @@
--- The volumes that DXE discovers: those whose bases FV HOBs tell, each followed by the volumes nested in it, each once; and those that a driver processes.
--- PI 1.8, volume 2, "DXE Dispatcher" and `ProcessFirmwareVolume()`; volume 3, `EFI_HOB_FIRMWARE_VOLUME`.
+-- The volumes that DXE discovers: those whose bases are in FV HOBs, each followed by the volumes nested in it, each once; and those that a driver processes. PI
+-- 1.8, volume 2, "DXE Dispatcher" and `ProcessFirmwareVolume()`; volume 3, `EFI_HOB_FIRMWARE_VOLUME`.
 use Rattle.std.specs.Prelude.{ℕ, List, [], ◌∷◌, ◌++◌, map}
 use Rattle.mod_catalog.specs.{declared.catalogue.Catalog.Catalog, Parts.volume_at}
 use Rattle.boot_model.specs.{declared.line.Line.Line, Reporting.newcomers}

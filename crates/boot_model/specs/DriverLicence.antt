@@ -1,6 +1,5 @@
--- The licences of drivers. A driver has its licence in the machine in which it is scheduled: a place in its volume's a priori list, what its expression asks of the handles, or a place beside the driver that it names.
--- DXE stops only where no driver may start.
--- PI 1.8, volume 2, "DXE Dispatcher".
+-- The licences of drivers. A driver has its licence in the machine in which it is scheduled: a place in its volume's a priori list, a dependency expression
+-- that allows it, or a place next to the driver that it names. DXE stops only when no driver may start. PI 1.8, volume 2, "DXE Dispatcher".
 use Rattle.std.specs.Prelude.{◌≡◌, ◌⊎◌, ℕ, zero, suc, true, false, List, [], ◌∷◌, ◌++◌, map, Option, Some, None, is_some, option_and_then}
 use Rattle.std.specs.List.{list_all}
 use Rattle.pi_base.specs.{declared.guid.Guid.Guid, declared.phase.Phase.TheVariants.Dxe, Lists.Each}
@@ -36,7 +35,7 @@ Leads target x z (suc k) = (y : ℕ) × (target z ≡ Some y) × Leads target x 
 abbrev pub IsCompanionOf : Catalog → DxeMachine → ℕ → ℕ → Type 0
 IsCompanionOf catalog m x z = (k : ℕ) × Leads (target_of catalog m) x z (suc k)
 
--- in a queue one driver stands before another, and between them only companions of either
+-- in a queue one driver is before another, and between them only companions of either
 pub record StandBeside (catalog : Catalog) (m : DxeMachine) (queue : List ℕ) (first second : ℕ) : Type 0 where
   pub front : List ℕ
   pub between : List ℕ
@@ -44,11 +43,11 @@ pub record StandBeside (catalog : Catalog) (m : DxeMachine) (queue : List ℕ) (
   pub split : queue ≡ front ++ first ∷ (between ++ second ∷ back)
   pub companions : Each (λ n. IsCompanionOf catalog m first n ⊎ IsCompanionOf catalog m second n) between
 
--- a driver stands before the one that its BEFORE names
+-- a driver is before the one that its BEFORE names
 abbrev pub IsBeforeNamed : Catalog → DxeMachine → List ℕ → ℕ → Type 0
 IsBeforeNamed catalog m queue number = (target : ℕ) × (named_by before_of catalog m number ≡ Some target) × StandBeside catalog m queue number target
 
--- a driver stands behind the one that its AFTER names
+-- a driver is after the one that its AFTER names
 abbrev pub IsAfterNamed : Catalog → DxeMachine → List ℕ → ℕ → Type 0
 IsAfterNamed catalog m queue number = (target : ℕ) × (named_by after_of catalog m number ≡ Some target) × StandBeside catalog m queue target number
 

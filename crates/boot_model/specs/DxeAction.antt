@@ -28,7 +28,7 @@ pub record DxeReply : Type 0 where
   pub sweep : Option ProtocolSweep
   pub volumes : List ℕ
 
--- what an action of DXE does; there is none of its own that is no call
+-- what an action of DXE does; every action of its own is a call
 abbrev pub DxeEffect : Type 0
 DxeEffect = OfEach DxeReply ⊥
 
@@ -40,7 +40,7 @@ dxe_told m registers extra = record { status = Success; extra = extra; machine =
 abbrev pub dxe_refusal : DxeMachine → DriverFrame → Word → DxeReply
 dxe_refusal m frame status = record (dxe_told m frame.registers X.Nothing) { status = status }
 
--- the answer that an argument has, where there is one, and else a refusal
+-- the answer that an argument has, if there is one, and else a refusal
 abbrev pub dxe_where : {A : Type 0} → Option A → (A → DxeReply) → DxeMachine → DriverFrame → Word → DxeReply
 dxe_where None reply m frame status = dxe_refusal m frame status
 dxe_where (Some argument) reply m frame status = reply argument
@@ -65,12 +65,12 @@ abbrev pub install_answer : HandleService ℕ → DxeMachine → DriverFrame →
 install_answer (Ok (handle, new)) m frame form h guid value = installed_on m frame form h guid value handle new
 install_answer (Err status) m frame form h guid value = dxe_refusal m frame status
 
--- the handle that an install is asked for: none for a new one
+-- the handle on which an install puts the interface; nothing for a new handle
 abbrev pub install_target : DriverFrame → ℕ → ℕ → Option (Option ℕ)
 install_target frame zero h = Some None
 install_target frame (suc form) h = option_map (λ handle. Some handle) (handle_in frame.registers h)
 
--- the same of a handle, or of none, and a value
+-- the reply of an install on a handle or on a new one, if the registers hold the handle and the value
 abbrev pub install_reply : DxeMachine → DriverFrame → ℕ → ℕ → Guid → (Option ℕ × ℕ) → DxeReply
 install_reply m frame form h guid argument = install_answer (install_interface m.handles argument.0 guid argument.1) m frame form h guid argument.1
 
@@ -127,15 +127,15 @@ process_volume catalog m frame volume =
 abbrev pub process_reply : Catalog → DxeMachine → DriverFrame → ℕ → DxeReply
 process_reply catalog m frame base = dxe_where (volume_at catalog base) (process_volume catalog m frame) m frame NotFound
 
--- the answer of a read of memory: the bytes at an address, where they lie in one region
+-- the reply to a read of memory: the bytes at an address, if one region has all of them
 abbrev pub peek_reply : DxeMachine → DriverFrame → ℕ → ℕ → DxeReply
 peek_reply m frame n at = dxe_where (bytes_at m.store at n) (λ bytes. dxe_told m frame.registers (X.Bytes (record { items = bytes }))) m frame NotFound
 
--- a call whose arguments stand in registers
+-- a call whose arguments are in registers
 abbrev pub dxe_call_where : {A : Type 0} → CallName → Option A → (A → DxeReply) → DxeMachine → DriverFrame → DxeEffect
 dxe_call_where name argument reply m frame = Called name (dxe_where argument reply m frame InvalidParameter)
 
--- what an action does in a frame; an action of PEI is none of a DXE script
+-- what an action does in a frame; an action of PEI is not part of a DXE script
 abbrev pub own_dxe_effect : Catalog → DxeMachine → DriverFrame → Action → DxeEffect
 own_dxe_effect catalog m frame (A.Peek v n) = dxe_call_where C.Peek (number_in frame.registers v) (peek_reply m frame n) m frame
 own_dxe_effect catalog m frame (A.DxeInstall form h guid v) = dxe_call_where C.Install (both (install_target frame form h) (number_in frame.registers v)) (install_reply m frame form h guid) m frame

@@ -1,6 +1,6 @@
--- The next driver: the head of the scheduled queue; where it is empty, the first of the group of the first eligible driver in discovered order.
--- A driver whose BEFORE or AFTER names another is its companion: it is never eligible by itself, and comes with the group of the driver that it names.
--- PI 1.8, volume 2, "DXE Dispatcher", "Dependency Expressions" and "A Priori File"; the order of companions is own.
+-- The next driver: the head of the scheduled queue; if the queue is empty, the first of the group of the first eligible driver in discovered order. A driver
+-- whose BEFORE or AFTER names another is its companion: it is never eligible by itself, and comes with the group of the driver that it names. PI 1.8, volume 2,
+-- "DXE Dispatcher", "Dependency Expressions" and "A Priori File"; the order of companions is own.
 use Rattle.std.specs.Prelude.{ℕ, zero, suc, Bool, false, ◌==◌, ◌&&◌, not, List, [], ◌∷◌, ◌++◌, length, map, Option, Some, None, filter, find, flat_map, option_and_then}
 use Rattle.std.specs.List.{list_any, list_all}
 use Rattle.pi_base.specs.{declared.guid.Guid.Guid, declared.phase.Phase.TheVariants.Dxe, Guids.same_guid}
@@ -27,11 +27,11 @@ a_priori_drivers catalog volumes =
 abbrev pub discovered_order : Catalog → DxeMachine → List ℕ
 discovered_order catalog m = drivers_of catalog m.discovered
 
--- whether a driver stands in the queue
+-- whether a driver is in the queue
 abbrev pub is_scheduled : DxeMachine → ℕ → Bool
 is_scheduled m number = list_any (λ next. next.module_number == number) m.scheduled
 
--- whether a driver neither stands in the queue nor has started
+-- whether a driver neither is in the queue nor has started
 abbrev pub is_waiting : DxeMachine → ℕ → Bool
 is_waiting m number = not (is_scheduled m number) && not (has_number m.started number)
 
@@ -50,17 +50,17 @@ abbrev pub asks_for_request : Option Part → Bool
 asks_for_request None = false
 asks_for_request (Some part) = elim part.expr [ E.Absent ↦ false | E.Malformed at ↦ false | E.Held expression ↦ is_sor expression ]
 
--- a driver with SOR that nobody requested
+-- a driver with SOR that no module requested
 abbrev pub is_unrequested : Catalog → DxeMachine → ℕ → Bool
 is_unrequested catalog m number = asks_for_request (part_at Dxe catalog number) && not (has_number m.requested number)
 
--- whether an expression lets a driver start over the handles; without one all architectural protocols are asked for
+-- whether an expression allows a driver to start over the handles; without one, it needs all architectural protocols
 abbrev pub lets_driver_start : HandleState → PartExpr → Bool
 lets_driver_start h E.Absent = list_all (has_protocol h) ARCHITECTURAL
 lets_driver_start h (E.Malformed at) = false
 lets_driver_start h (E.Held expression) = depex_holds (has_protocol h) expression
 
--- whether a driver's expression lets it start
+-- whether a driver's expression allows it to start
 abbrev pub driver_may_start : HandleState → Option Part → Bool
 driver_may_start h None = false
 driver_may_start h (Some part) = lets_driver_start h part.expr
@@ -73,7 +73,7 @@ is_eligible_driver catalog m number = not (is_unrequested catalog m number) && d
 abbrev pub driver_named : Catalog → DxeMachine → Guid → Option ℕ
 driver_named catalog m name = find (λ number. same_guid (module_name catalog number) name) (discovered_order catalog m)
 
--- the name behind BEFORE
+-- the name after BEFORE
 abbrev pub before_of : PartExpr → Option Guid
 before_of E.Absent = None
 before_of (E.Malformed at) = None
@@ -81,7 +81,7 @@ before_of (E.Held (D.Before name)) = Some name
 before_of (E.Held (D.After name)) = None
 before_of (E.Held (D.Expr sor node)) = None
 
--- the name behind AFTER
+-- the name after AFTER
 abbrev pub after_of : PartExpr → Option Guid
 after_of E.Absent = None
 after_of (E.Malformed at) = None
@@ -94,11 +94,11 @@ abbrev pub is_that : ℕ → Option ℕ → Bool
 is_that target None = false
 is_that target (Some number) = number == target
 
--- whether the name that an expression gives is that of this driver
+-- whether an expression names this driver
 abbrev pub targets : Catalog → DxeMachine → ℕ → Option Guid → Bool
 targets catalog m target name = is_that target (option_and_then (driver_named catalog m) name)
 
--- the name that a driver's expression gives by one of the two forms
+-- the name that one of the two forms of a driver's expression has
 abbrev pub name_by : (PartExpr → Option Guid) → Catalog → ℕ → Option Guid
 name_by form catalog number = option_and_then (λ part. form part.expr) (part_at Dxe catalog number)
 
@@ -137,7 +137,7 @@ driver_licence (Some part) = licence_in_group part.expr
 abbrev pub schedule_of : Catalog → List ℕ → List Scheduled
 schedule_of catalog numbers = map (λ number. record { module_number = number; licence = driver_licence (part_at Dxe catalog number) }) numbers
 
--- the queue, or where it is empty the group of the first eligible driver that waits
+-- the queue, or if it is empty the group of the first eligible driver that waits
 abbrev pub queue_from : List Scheduled → List Scheduled → List Scheduled
 queue_from [] group = group
 queue_from (first ∷ rest) group = first ∷ rest
@@ -146,7 +146,7 @@ queue_from (first ∷ rest) group = first ∷ rest
 abbrev pub first_eligible : Catalog → DxeMachine → Option ℕ
 first_eligible catalog m = find (is_eligible_driver catalog m) (waiting catalog m)
 
--- what is scheduled with it: its group, and nothing where there is none
+-- what is scheduled with a driver: its group, or nothing if there is no driver
 abbrev pub group_scheduled : Catalog → DxeMachine → Option ℕ → List Scheduled
 group_scheduled catalog m None = []
 group_scheduled catalog m (Some number) = schedule_of catalog (companion_group catalog m number)
@@ -160,6 +160,6 @@ abbrev pub head_of : List Scheduled → Option (Scheduled × List Scheduled)
 head_of [] = None
 head_of (first ∷ rest) = Some (first, rest)
 
--- the next driver, and the queue behind it
+-- the next driver, and the queue after it
 abbrev pub next_driver : Catalog → DxeMachine → Option (Scheduled × List Scheduled)
 next_driver catalog m = head_of (driver_queue catalog m)

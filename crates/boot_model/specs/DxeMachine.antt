@@ -1,5 +1,5 @@
--- The boot machine in DXE: the volumes that were discovered, the drivers that were requested, scheduled and started, the handles, the notifications, the scripts that run, and the lines that were printed.
--- The store is that of the hand-off and changes no more.
+-- The boot machine in DXE: the volumes that were discovered, the drivers that were requested, scheduled and started, the handles, the notifications, the
+-- scripts that run, and the lines that were printed. The store is that of the hand-off and does not change.
 -- PI 1.8, volume 2, "DXE Dispatcher"; the record is own.
 use Rattle.std.specs.Prelude.{ℕ, List, ◌++◌, Option}
 use Rattle.boot_model.specs.{declared.phase_end.DxeEnd.DxeEnd, declared.line.Line.Line, PeiMachine.Number, PeiMachine.HandleIn}

@@ -32,7 +32,7 @@ abbrev pub IsDxeRun : Catalog → ℕ → DxeMachine → List DxeMachine → Typ
 IsDxeRun catalog fuel m [] = is_some m.ended ≡ true
 IsDxeRun catalog fuel m (later ∷ rest) = (m.ended ≡ None) × (later ≡ dxe_step catalog fuel m) × IsDxeRun catalog fuel later rest
 
--- the machine after at most n steps: it stays as it is where it has ended
+-- the machine after at most n steps: once it has ended it stays as it is
 abbrev pub dxe_run : Catalog → ℕ → ℕ → DxeMachine → DxeMachine
 dxe_run catalog fuel zero m = m
 dxe_run catalog fuel (suc n) m = elim m.ended [ Some end ↦ m | None ↦ dxe_run catalog fuel n (dxe_step catalog fuel m) ]

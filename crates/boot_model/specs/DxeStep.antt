@@ -1,5 +1,5 @@
--- One step of the boot machine in DXE: the first of its cases that applies. A notification of the top frame's sweep begins; else the top frame takes its next action.
--- Where no script runs, the next driver starts; else DXE stops.
+-- One step of the boot machine in DXE: the first of its cases that applies. A notification of the top frame's sweep begins; else the top frame takes its next
+-- action. If no script runs, the next driver starts; else DXE stops.
 -- PI 1.8, volume 2, "DXE Dispatcher"; the frames and their bounds are own.
 use Rattle.std.specs.Prelude.{ℕ, ◌+◌, ◌-◌, Bool, false, if◌then◌else◌, List, [], ◌∷◌, Option, Some, None, option_map, slice_get, unwrap_or, length, nat_le, map, find, option_and_then}
 use Rattle.pi_base.specs.{declared.phase.Phase.TheVariants.Dxe, declared.word.Word.TheVariants.Success, Guids.same_guid, Lists.numbers}
@@ -33,7 +33,7 @@ is_of_sweep m sweep place = elim (slice_get m.notes place) [ None ↦ false | So
 abbrev pub next_place : DxeMachine → ProtocolSweep → Option ℕ
 next_place m sweep = find (is_of_sweep m sweep) (numbers sweep.note_at (sweep.note_to - sweep.note_at))
 
--- the notification there, and the sweep behind it
+-- the notification there, and the sweep after it
 abbrev pub next_note : DxeMachine → ProtocolSweep → Option (ProtocolNote × ProtocolSweep)
 next_note m sweep = option_and_then (λ place. option_map (λ note. (note, record sweep { note_at = place + 1 })) (slice_get m.notes place)) (next_place m sweep)
 
@@ -41,12 +41,12 @@ next_note m sweep = option_and_then (λ place. option_map (λ note. (note, recor
 abbrev pub frame_case : DxeMachine → DriverFrame → List DriverFrame → DxeCase
 frame_case m frame below = elim (option_and_then (next_note m) frame.sweep) [ None ↦ DxeActs frame below | Some pair ↦ DxeFires pair.0 pair.1 frame below ]
 
--- where no script runs: the next driver starts, or DXE stops
+-- if no script runs: the next driver starts, or DXE stops
 abbrev pub queue_case : Option (Scheduled × List Scheduled) → DxeCase
 queue_case None = DxeStops
 queue_case (Some pair) = DxeStarts pair.0 pair.1
 
--- the case by the frames that stand
+-- the case by the frames that are running
 abbrev pub dxe_case_in : Catalog → DxeMachine → List DriverFrame → DxeCase
 dxe_case_in catalog m [] = queue_case (next_driver catalog m)
 dxe_case_in catalog m (frame ∷ below) = frame_case m frame below
@@ -59,12 +59,12 @@ dxe_case_of catalog m = dxe_case_in catalog m m.frames
 abbrev pub protocol_line : Catalog → ProtocolSweep → ProtocolNote → Line
 protocol_line catalog sweep note = L.NotifyProtocol (module_volume catalog note.module_number) (module_name catalog note.module_number) sweep.guid
 
--- a notification begins, and the sweep stands behind it
+-- a notification begins, and the sweep is after it
 abbrev pub protocol_begun : Catalog → DxeMachine → ProtocolNote → ProtocolSweep → DriverFrame → List DriverFrame → DxeMachine
 protocol_begun catalog m note sweep frame below =
     record (dxe_printed m (protocol_line catalog sweep note ∷ [])) { frames = protocol_frame sweep note ∷ swept (frame ∷ below) sweep }
 
--- a notification begins, unless as many frames stand as may
+-- a notification begins, unless the most frames are running
 abbrev pub dxe_fired : Catalog → DxeMachine → ProtocolNote → ProtocolSweep → DriverFrame → List DriverFrame → DxeMachine
 dxe_fired catalog m note sweep frame below =
     if nat_le MOST_FRAMES (length m.frames) then record m { ended = Some DxeEnds.Deep } else protocol_begun catalog m note sweep frame below
@@ -85,7 +85,7 @@ after_dxe_effect m frame below (Skipped n) = record m { frames = past frame n �
 after_dxe_effect m frame below (Returned status) = record (dxe_printed m (L.End status ∷ [])) { frames = below }
 after_dxe_effect m frame below (Own own) = absurd own
 
--- the action at which a frame stands
+-- the next action of a frame
 abbrev pub dxe_action_at : Catalog → DriverFrame → Action
 dxe_action_at catalog frame = unwrap_or (slice_get (block_of Dxe catalog frame.module_number frame.block) frame.position) (Ret Success)
 

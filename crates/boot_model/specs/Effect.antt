@@ -17,7 +17,7 @@ pub data Effect (R O : Type 0) : Type 0 where
   Returned : (status : Word) → Effect R O
   Own : (own : O) → Effect R O
 
--- a register becomes a number, where there is one
+-- a register becomes a number, if there is one
 abbrev pub number_written : {R O : Type 0} → List Register → ℕ → Option ℕ → Effect R O
 number_written registers r None = Wrote registers InvalidParameter
 number_written registers r (Some n) = Wrote (slice_set registers r (Number n)) Success

@@ -17,7 +17,7 @@ depex_holds has (D.Before name) = false
 depex_holds has (D.After name) = false
 depex_holds has (D.Expr sor node) = truth has node
 
--- whether the expression of a part lets it start over the installed PPIs
+-- whether the expression of a part allows it to start over the installed PPIs
 abbrev pub lets_start : StoreState → PartExpr → Bool
 lets_start s E.Absent = true
 lets_start s (E.Malformed at) = false

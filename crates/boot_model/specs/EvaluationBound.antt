@@ -1,7 +1,7 @@
--- How many evaluations of expressions a phase may take: one for each part of a volume that is reported or discovered, and, for each GUID of which an event may have changed whether it is installed, one for each waiting part whose expression pushes that GUID.
--- The events are a successful install or reinstall, the core's install, and in DXE a successful install or uninstall.
--- An event counts the parts that wait in the machine before it: those of a volume that it reports are counted once, with their volume. A PEIM waits until it starts, a driver until it is scheduled.
--- Own.
+-- How many evaluations of expressions a phase may take. There is one for each part of a volume that is reported or discovered. For each GUID of an event that
+-- may have changed whether it is installed, there is one for each waiting part whose expression pushes that GUID. The events are a successful install or
+-- reinstall, the core's install, and in DXE a successful install or uninstall. An event counts the parts that wait in the machine before it; those of a volume
+-- that it reports are counted once, with their volume. A PEIM waits until it starts, a driver until it is scheduled. Own.
 use Rattle.std.specs.Prelude.{ℕ, zero, suc, ◌+◌, Bool, false, ◌&&◌, ◌||◌, not, if◌then◌else◌, nat_le, List, [], ◌∷◌, ◌++◌, length, map, filter, sum_by, Some, None, Ok, Err, unwrap_or, option_map, option_to_list}
 use Rattle.pi_base.specs.{declared.guid.Guid.Guid, declared.phase.Phase.Phase}
 use Rattle.pi_base.specs.declared.phase.Phase.TheVariants.{Pei, Dxe}
@@ -30,7 +30,7 @@ tree_pushes guid (Not node) = tree_pushes guid node
 tree_pushes guid (And first second) = tree_pushes guid first || tree_pushes guid second
 tree_pushes guid (Or first second) = tree_pushes guid first || tree_pushes guid second
 
--- whether an expression does; BEFORE and AFTER push none
+-- whether an expression pushes a GUID; BEFORE and AFTER push none
 abbrev pub expression_pushes : Guid → PartExpr → Bool
 expression_pushes guid E.Absent = false
 expression_pushes guid (E.Malformed at) = false
@@ -55,7 +55,7 @@ is_called (Logged text) = false
 is_called (Skipped n) = false
 is_called (Returned status) = false
 
--- the places of the descriptors that an action of PEI installs or puts away
+-- the places of the descriptors that an action of PEI installs or replaces
 abbrev pub changed_places : Frame → Action → List ℕ
 changed_places frame (A.Install list) = unwrap_or (option_map offsets (descriptors_in frame.registers list)) []
 changed_places frame (A.Reinstall old new) = offsets (option_to_list (descriptor_in frame.registers old) ++ option_to_list (descriptor_in frame.registers new))
@@ -65,7 +65,7 @@ changed_places frame _ = []
 abbrev pub action_guids : StoreState → Frame → Action → List Guid
 action_guids s frame action = if is_called (effect s frame action) then map (guid_at s) (changed_places frame action) else []
 
--- the GUID that the core's install puts in, where it succeeds
+-- the GUID that the core's install adds, if it succeeds
 abbrev pub core_guids : Service Sweep → List Guid
 core_guids (Ok done) = MEMORY_PPI ∷ []
 core_guids (Err fault) = []

@@ -14,7 +14,7 @@ no_registers = replicate REGISTERS Empty
 abbrev pub frame_at : {W : Type 0} → ℕ → ℕ → List Register → Frame W
 frame_at number block registers = record { module_number = number; block = block; position = 0; registers = registers; last = Success; sweep = None }
 
--- a notification's frame has what it is told in its first two registers
+-- a notification's frame has what it receives in its first two registers
 abbrev pub notified : {W : Type 0} → ℕ → ℕ → Register → Register → Frame W
 notified number block first second = frame_at number block (slice_set (slice_set no_registers 0 first) 1 second)
 
@@ -23,11 +23,11 @@ abbrev pub start_frames : {W : Type 0} → ℕ → List (List Action) → List (
 start_frames number [] = []
 start_frames number (block ∷ blocks) = frame_at number 0 no_registers ∷ []
 
--- the frame behind its action and n more, its sweep closed
+-- the frame after its action and n more, its sweep closed
 abbrev pub past : {W : Type 0} → Frame W → ℕ → Frame W
 past frame n = record frame { position = frame.position + 1 + n; sweep = None }
 
--- the open sweep stands behind what was visited
+-- the open sweep is after what was visited
 abbrev pub swept : {W : Type 0} → List (Frame W) → W → List (Frame W)
 swept [] sweep = []
 swept (frame ∷ below) sweep = record frame { sweep = Some sweep } ∷ below

@@ -1,6 +1,6 @@
--- A boot in which the dispatchers choose freely: any eligible PEIM may start in the place of the first, a second start too, and any eligible driver, with its group, in the place of the first.
--- Every other step is that of the machine, and so are the opening, the hand-off, the last lists and the result.
--- PI 1.8, volumes 1 and 2, leave the order to the dispatchers.
+-- A boot in which the dispatchers choose freely: any eligible PEIM may start in the place of the first, also for a second start, and any eligible driver, with
+-- its group, in the place of the first. Every other step is that of the machine, and so are the opening, the hand-off, the last lists and the result. PI 1.8,
+-- volumes 1 and 2, leave the order to the dispatchers.
 use Rattle.std.specs.Prelude.{◌≡◌, ℕ, true, List, [], ◌∷◌, Option, Some, None, is_some}
 use Rattle.pi_base.specs.declared.phase.Phase.TheVariants.{Dxe}
 use Rattle.mod_catalog.specs.{declared.catalogue.Catalog.Catalog, Parts.has_number, Parts.part_at}
@@ -17,7 +17,7 @@ use Rattle.boot_model.specs.DxeStep.{DxeCase, DxeFires, DxeActs, DxeStarts, DxeS
 abbrev pub MayStart : Catalog → PeiMachine → ℕ → Type 0
 MayStart catalog m number = (has_number (pei_order catalog m.reported) number ≡ true) × (is_eligible catalog m number ≡ true)
 
--- a machine that may come behind a case: where a PEIM starts it may be any that may, and each other case has one outcome
+-- a machine that may follow a case: when a PEIM starts it may be any eligible one, and each other case has one outcome
 abbrev pub IsFreeIn : Catalog → ℕ → PeiMachine → PeiCase → PeiMachine → Type 0
 IsFreeIn catalog fuel m (Fires firing sweep) later = later ≡ in_case catalog fuel m (Fires firing sweep)
 IsFreeIn catalog fuel m (Acts frame below) later = later ≡ in_case catalog fuel m (Acts frame below)
@@ -49,7 +49,7 @@ abbrev pub IsFreeStart : Catalog → DxeMachine → List Scheduled → DxeMachin
 IsFreeStart catalog m [] later = (number : ℕ) × MaySchedule catalog m number × IsStarted catalog m (group_scheduled catalog m (Some number)) later
 IsFreeStart catalog m (next ∷ queue) later = IsStarted catalog m (next ∷ queue) later
 
--- a machine of DXE that may come behind a case
+-- a machine of DXE that may come after a case
 abbrev pub IsFreeInDxe : Catalog → ℕ → DxeMachine → DxeCase → DxeMachine → Type 0
 IsFreeInDxe catalog fuel m (DxeFires note sweep frame below) later = later ≡ in_dxe_case catalog fuel m (DxeFires note sweep frame below)
 IsFreeInDxe catalog fuel m (DxeActs frame below) later = later ≡ in_dxe_case catalog fuel m (DxeActs frame below)
@@ -66,11 +66,11 @@ abbrev pub last_of_dxe : DxeMachine → List DxeMachine → DxeMachine
 last_of_dxe m [] = m
 last_of_dxe m (later ∷ rest) = last_of_dxe later rest
 
--- all lines of a boot that goes freely from a machine of DXE on, behind this machine of PEI
+-- all lines of a boot that goes freely from a machine of DXE on, after this machine of PEI
 abbrev pub AreFreeDxeLines : Catalog → ℕ → PeiMachine → DxeMachine → List Line → Type 0
 AreFreeDxeLines catalog fuel pei m lines = (run : List DxeMachine) × IsFreeDxeRun catalog fuel m run × (lines ≡ both_lines pei (last_of_dxe m run) (last_of_dxe m run).ended)
 
--- all lines behind a PEI that has ended so: behind a hand-off DXE goes freely from its opening
+-- all lines after a PEI that has ended so: after a hand-off DXE goes freely from its opening
 abbrev pub AreFreeLinesAfter : Catalog → ℕ → PeiMachine → Option PeiEnd → List Line → Type 0
 AreFreeLinesAfter catalog fuel pei None lines = lines ≡ lines_after catalog fuel pei None
 AreFreeLinesAfter catalog fuel pei (Some Handoff) lines = AreFreeDxeLines catalog fuel pei (dxe_opening catalog pei.store pei.actions) lines

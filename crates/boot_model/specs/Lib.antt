@@ -47,7 +47,7 @@ pub mod Listing
 pub mod Audit
 -- What a machine that runs keeps.
 pub mod MachineFacts
--- Each start has its licence, and none comes twice but one registered for shadow.
+-- Each start has its licence, and no module starts twice but one registered for shadow.
 pub mod Licence
 -- The move changes no PPI, notification or other HOB.
 pub mod Unchanged

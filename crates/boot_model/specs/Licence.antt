@@ -1,6 +1,5 @@
--- What holds of every run of PEI: no part starts twice but one that registered for shadow; each start has its licence in the machine before it.
--- The move changes no PPI, notification or other HOB, and PEI stops only where no part of a reported volume may start.
--- PI 1.8, volume 1, "PEI Dispatcher".
+-- What holds of every run of PEI: no part starts twice but one that registered for shadow; each start has its licence in the machine before it. The move
+-- changes no PPI, notification or other HOB, and PEI stops only when no part of a reported volume may start. PI 1.8, volume 1, "PEI Dispatcher".
 use Rattle.std.specs.Prelude.{◌≡◌, ◌≢◌, ℕ, Bool, zero, suc, true, false, List, [], ◌∷◌, Some, None, is_some, ⊤}
 use Rattle.pi_base.specs.{declared.phase.Phase.Phase, declared.phase.Phase.TheVariants.Pei, Lists.Each}
 use Rattle.depex_code.specs.declared.depex.Depex.{Depex}
@@ -14,7 +13,7 @@ use Rattle.boot_model.specs.Eligible.{depex_holds, is_eligible, licence_at}
 use Rattle.boot_model.specs.PeiStep.{pei_step, case_of, Starts, Moves, Stops}
 use Rattle.boot_model.specs.PeiRun.{pei_run, pei_opening}
 
--- no number stands in the list twice
+-- no number is in the list twice
 abbrev pub AllDiffer : List ℕ → Type 0
 AllDiffer [] = ⊤
 AllDiffer (first ∷ rest) = (has_number rest first ≡ false) × AllDiffer rest

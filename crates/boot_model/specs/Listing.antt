@@ -40,7 +40,7 @@ dispatch_lines s = L.Dispatches (length s.dispatches) ∷ map (dispatch_line s) 
 abbrev pub pending_lines : StoreState → List Line
 pending_lines s = L.Pendings (length s.pendings) ∷ map (pending_line s) s.pendings
 
--- the HOBs, of which the first stands at `at`
+-- the HOBs, of which the first is at `at`
 abbrev pub hob_lines_from : StoreState → ℕ → List HobEntry → List Line
 hob_lines_from s at [] = []
 hob_lines_from s at (hob ∷ hobs) = L.Hob hob.kind (body_bytes s (at + header_len) hob.body) ∷ hob_lines_from s (at + hob_len hob) hobs

@@ -1,4 +1,4 @@
--- What a machine of PEI that runs keeps: registers hold pools and descriptors that are there, sweeps lie within the lists, and frames are few and of modules.
+-- What a running machine of PEI keeps: registers hold pools and descriptors that exist, sweeps are within the lists, and frames are few and belong to modules.
 -- Own.
 use Rattle.std.specs.Prelude.{ℕ, ◌≤◌, ◌<◌, ◌^◌, List, length, IfSome, ⊤}
 use Rattle.boot_model.specs.{declared.frame.TheConstants.MOST_FRAMES, declared.frame.Register.Register, PeiMachine.PeiMachine}
@@ -32,7 +32,7 @@ pub record IsSound (m : PeiMachine) : Type 0 where
   pub core_sweep : IfSome m.core_sweep (IsSweepOf m.store)
   pub few : length m.frames ≤ MOST_FRAMES
 
--- a notification that begins is told of a descriptor that is there and of a value of 64 bits, and its entry is a block of a module
+-- a notification that begins receives a descriptor that exists and a value of 64 bits, and its entry is a block of a module
 pub record IsFiring (s : StoreState) (firing : Firing) : Type 0 where
   pub ppi : IsDesc s firing.ppi
   pub value : firing.value < 2 ^ 64

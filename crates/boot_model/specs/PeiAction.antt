@@ -68,7 +68,7 @@ abbrev pub sweep_reply : Service Sweep → List ℕ → StoreState → List Regi
 sweep_reply (Ok (sweep, new)) installs s registers = record (told new registers X.Nothing) { sweep = Some sweep; installs = installs }
 sweep_reply (Err fault) installs s registers = refusal s registers (status_of fault)
 
--- the reply that an argument has, where the registers hold one
+-- the reply that an argument has, if the registers hold one
 abbrev pub reply_where : {A : Type 0} → Option A → (A → Reply) → StoreState → List Register → Word → Reply
 reply_where None reply s registers status = refusal s registers status
 reply_where (Some argument) reply s registers status = reply argument
@@ -78,11 +78,11 @@ abbrev pub pool_reply : StoreState → Frame → ℕ → ℕ → Reply
 pool_reply s frame r size =
     answer_reply (pool s size) (λ made. slice_set frame.registers r (PoolIn made)) (λ made. X.Number (s.base + made.offset)) s frame.registers
 
--- a write into a pool, where the pool has so many bytes
+-- a write into a pool, if the pool has so many bytes
 abbrev pub store_reply : StoreState → Frame → Option StoreState → Reply
 store_reply s frame new = reply_where new (λ after. told after frame.registers X.Nothing) s frame.registers InvalidParameter
 
--- a read of memory: the bytes at an address, where they lie in one region
+-- a read of memory: the bytes at an address, if one region has all of them
 abbrev pub peek_reply : StoreState → Frame → ℕ → ℕ → Reply
 peek_reply s frame n at = reply_where (bytes_at s at n) (λ bytes. told s frame.registers (X.Bytes (record { items = bytes }))) s frame.registers NotFound
 
@@ -108,11 +108,11 @@ abbrev pub desc_reply : StoreState → Frame → ℕ → DescKind → (GuidFrom 
 desc_reply s frame d kind argument =
     answer_reply (desc s kind argument.0 argument.1) (λ made. slice_set frame.registers d (DescriptorIn made)) (λ made. X.Number (s.base + made.offset)) s frame.registers
 
--- what a descriptor is made of: its GUID and its number
+-- the parts of a descriptor: its GUID and its number
 abbrev pub desc_argument : Frame → DescKind → GuidArg → ℕ → Option (GuidFrom × ℕ)
 desc_argument frame kind guid arg = both (guid_arg frame.registers guid) (desc_number frame.module_number frame.registers kind arg)
 
--- `InstallPpi()`: the callbacks are visited, and the PPIs may tell of volumes
+-- `InstallPpi()`: the callbacks are visited, and the PPIs may report volumes
 abbrev pub install_reply : StoreState → Frame → List Desc → Reply
 install_reply s frame list = sweep_reply (install s list frame.module_number) (offsets list) s frame.registers
 
@@ -156,11 +156,11 @@ abbrev pub mode_reply : StoreState → Frame → ℕ → ℕ → Reply
 mode_reply s frame zero r = told s (slice_set frame.registers r (Number s.boot_mode)) (X.Number s.boot_mode)
 mode_reply s frame (suc form) r = reply_where (number_in frame.registers r) (set_mode_reply s frame) s frame.registers InvalidParameter
 
--- a call whose arguments stand in registers
+-- a call whose arguments are in registers
 abbrev pub call_where : {A : Type 0} → CallName → Option A → (A → Reply) → StoreState → Frame → Effect
 call_where name argument reply s frame = Called name (reply_where argument reply s frame.registers InvalidParameter)
 
--- what an action of PEI's own does in a frame; an action of DXE is none of a PEI script
+-- what an action of PEI's own does in a frame; an action of DXE is not part of a PEI script
 abbrev pub own_effect : StoreState → Frame → Action → Effect
 own_effect s frame (A.Addr v x offset) = number_written frame.registers v (option_map (λ place. s.base + place + offset) (offset_of (register frame.registers x)))
 own_effect s frame (A.Pool r size) = Called C.Pool (pool_reply s frame r size)

@@ -1,6 +1,6 @@
--- The next PEIM: the first eligible part of the PEI order, read from the cursor to the end and then from the front to the cursor. The cursor stands behind the PEIM started last.
--- The order is the volumes as they were reported; in a volume the a priori files in list order, then the others by place.
--- PI 1.8, volume 1, "PEI Dispatcher" and "A Priori File"; the rotation is own.
+-- The next PEIM: the first eligible part of the PEI order, read from the cursor to the end and then from the front to the cursor. The cursor is after the PEIM
+-- started last. The order is the volumes as they were reported; in a volume the a priori files in list order, then the others by place. PI 1.8, volume 1, "PEI
+-- Dispatcher" and "A Priori File"; the rotation is own.
 use Rattle.std.specs.Prelude.{ℕ, ◌+◌, Bool, false, ◌==◌, if◌then◌else◌, List, [], ◌∷◌, ◌++◌, Option, Some, None, is_none, filter, find, take, drop, length, flat_map}
 use Rattle.pi_base.specs.{declared.phase.Phase.TheVariants.Pei, Lists.numbers}
 use Rattle.mod_catalog.specs.{declared.catalogue.Catalog.Catalog, Parts.parts_in, Parts.rank_at}
@@ -31,7 +31,7 @@ rotated cursor order = drop cursor order ++ take cursor order
 abbrev pub next_peim : Catalog → PeiMachine → Option ℕ
 next_peim catalog m = find (is_eligible catalog m) (rotated m.cursor (pei_order catalog m.reported))
 
--- the place behind a module in the order
+-- the place after a module in the order
 abbrev pub cursor_behind : List ℕ → ℕ → ℕ
 cursor_behind [] number = 0
 cursor_behind (first ∷ rest) number = if first == number then 1 else 1 + cursor_behind rest number

@@ -32,7 +32,7 @@ abbrev pub last_machine : PeiMachine → List PeiMachine → PeiMachine
 last_machine m [] = m
 last_machine m (later ∷ rest) = last_machine later rest
 
--- the machine after at most n steps: it stays as it is where it has ended
+-- the machine after at most n steps: once it has ended it stays as it is
 abbrev pub pei_run : Catalog → ℕ → ℕ → PeiMachine → PeiMachine
 pei_run catalog fuel zero m = m
 pei_run catalog fuel (suc n) m = elim m.ended [ Some end ↦ m | None ↦ pei_run catalog fuel n (pei_step catalog fuel m) ]

@@ -1,6 +1,6 @@
--- One step of the boot machine in PEI: the first of its cases that applies. A pair of the open sweep that fires begins a callback; else the top frame takes its next action.
--- Where no script runs and no sweep is open, memory moves if it is due; else the first queued pair leaves the queue and runs; else the next PEIM starts; else PEI stops.
--- PI 1.8, volume 1, "PEI Dispatcher", `NotifyPpi()`, "Installing PEI Memory"; the frames and their bounds are own.
+-- One step of the boot machine in PEI: the first of its cases that applies. A pair of the open sweep that fires begins a callback; else the top frame takes its
+-- next action. If no script runs and no sweep is open, memory moves if it is due; else the first queued pair leaves the queue and runs; else the next PEIM
+-- starts; else PEI stops. PI 1.8, volume 1, "PEI Dispatcher", `NotifyPpi()`, "Installing PEI Memory"; the frames and their bounds are own.
 use Rattle.std.specs.Prelude.{ℕ, ◌+◌, ◌/◌, ◌%◌, ◌&&◌, not, if◌then◌else◌, List, [], ◌∷◌, ◌++◌, Option, Some, None, option_map, slice_get, unwrap_or, Ok, Err, length, nat_le, map, option_and_then, option_to_list, flat_map}
 use Rattle.pi_base.specs.declared.phase.Phase.TheVariants.{Pei}
 use Rattle.pi_base.specs.declared.word.Word.TheVariants.{Success, AlreadyStarted}
@@ -48,7 +48,7 @@ abbrev pub acts : List Frame → Option PeiCase
 acts [] = None
 acts (frame ∷ below) = Some (Acts frame below)
 
--- memory is due, and the store moves
+-- if memory is due, the store moves
 abbrev pub moves : PeiMachine → Option PeiCase
 moves m = option_map (λ new. Moves new) (migration m.store)
 
@@ -60,7 +60,7 @@ pops m = option_map (λ pair. Pops pair.0 pair.1) (queue_pop m.store)
 abbrev pub starts : Catalog → PeiMachine → Option PeiCase
 starts catalog m = option_map (λ number. Starts number) (next_peim catalog m)
 
--- the first of these that applies; where none does, PEI stops
+-- the first of these that applies; if none does, PEI stops
 abbrev pub first_that_applies : List (Option PeiCase) → PeiCase
 first_that_applies [] = Stops
 first_that_applies (Some case ∷ others) = case
@@ -78,7 +78,7 @@ module_of firing = firing.entry / BLOCKS
 abbrev pub notification_frame : Firing → Frame
 notification_frame firing = notified_frame (module_of firing) (firing.entry % BLOCKS) firing
 
--- the line of a callback: its module, and the GUID that it was told of
+-- the line of a callback: its module, and the GUID for which it runs
 abbrev pub callback_line : Catalog → Firing → Line
 callback_line catalog firing = L.NotifyCallback (module_volume catalog (module_of firing)) (module_name catalog (module_of firing)) firing.guid
 
@@ -86,7 +86,7 @@ callback_line catalog firing = L.NotifyCallback (module_volume catalog (module_o
 abbrev pub dispatch_line : Catalog → Firing → Line
 dispatch_line catalog firing = L.NotifyDispatch (module_volume catalog (module_of firing)) (module_name catalog (module_of firing)) firing.guid
 
--- where no frame stands the core's sweep is the open one, and stands behind what was visited
+-- if no frame is running, the core's sweep is the open one, and is past what was visited
 abbrev pub core_swept : List Frame → Sweep → Option Sweep → Option Sweep
 core_swept [] sweep old = Some sweep
 core_swept (frame ∷ below) sweep old = old
@@ -99,7 +99,7 @@ callback_begun catalog m firing sweep =
       core_sweep = core_swept m.frames sweep m.core_sweep;
     }
 
--- unless as many frames stand as may
+-- a notification begins, unless the most frames are running
 abbrev pub fired : Catalog → PeiMachine → Firing → Sweep → PeiMachine
 fired catalog m firing sweep = if nat_le MOST_FRAMES (length m.frames) then record m { ended = Some Deep } else callback_begun catalog m firing sweep
 
@@ -135,7 +135,7 @@ after_effect catalog m frame below (Logged text) = record (printed m (L.Log (rec
 after_effect catalog m frame below (Skipped n) = record m { frames = past frame n ∷ below }
 after_effect catalog m frame below (Returned status) = record (printed m (L.End status ∷ [])) { frames = below }
 
--- the action at which a frame stands
+-- the next action of a frame
 abbrev pub action_at : Catalog → Frame → Action
 action_at catalog frame = unwrap_or (slice_get (block_of Pei catalog frame.module_number frame.block) frame.position) (Ret Success)
 
@@ -163,7 +163,7 @@ abbrev pub start_lines : Line → List (List Action) → List Line
 start_lines line [] = line ∷ L.End Success ∷ []
 start_lines line (block ∷ blocks) = line ∷ []
 
--- a second start puts the part among those started again
+-- a second start adds the part to those that started again
 abbrev pub with_start : PeiMachine → ℕ → PeiMachine
 with_start m number = record m {
   started = if has_number m.started number then m.started else number ∷ m.started;
@@ -174,7 +174,7 @@ with_start m number = record m {
 abbrev pub start_line : Catalog → PeiMachine → ℕ → Licence → Line
 start_line catalog m number licence = L.PeiStart (module_volume catalog number) (module_name catalog number) licence
 
--- a part starts by a licence, and the cursor stands behind it
+-- a part starts by a licence, and the cursor is after it
 abbrev pub started_by : Catalog → PeiMachine → ℕ → Part → Licence → PeiMachine
 started_by catalog m number part licence =
     record (printed (with_start m number) (start_lines (start_line catalog m number licence) part.script.blocks)) {

@@ -48,7 +48,7 @@ pub record IsPeimState (m : PeiMachine) (number : ℕ) (state : PeimState) : Typ
   pub registered : has_number m.shadows number ≡ has_registered state
   pub again : has_number m.again number ≡ is_done state
 
--- the state of a module, by those of all; one behind their end has not started
+-- the state of a module, by those of all; one after their end has not started
 abbrev pub state_at : List PeimState → ℕ → PeimState
 state_at states number = unwrap_or (slice_get states number) NotDispatched
 

@@ -6,13 +6,13 @@ use Rattle.mod_catalog.specs.{declared.catalogue.Catalog.Catalog, declared.catal
 use Rattle.phys_mem.specs.declared.rom.Rom.{Rom}
 use Rattle.store_model.specs.StoreState.{Board}
 
--- the first of these images, where the entry is a volume of the plan; a nested volume lies in the one that it is nested in
+-- the volume as mapped, from the first of these images, if the entry is a volume of the plan; a nested volume is inside its parent
 abbrev pub mapped : VolumeEntry → Option ℕ → List (List ℕ) → List Rom
 mapped entry (Some parent) images = []
 mapped entry None [] = []
 mapped entry None (image ∷ images) = record { base = entry.base; bytes = take entry.len image } ∷ []
 
--- the images that are left behind an entry
+-- the images that are left after an entry
 abbrev pub left_by : Option ℕ → List (List ℕ) → List (List ℕ)
 left_by (Some parent) images = images
 left_by None [] = []

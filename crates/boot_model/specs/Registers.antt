@@ -66,13 +66,13 @@ descriptor_in registers r = descriptor_of (register registers r)
 abbrev pub handle_in : List Register → ℕ → Option ℕ
 handle_in registers r = handle_of (register registers r)
 
--- both of two, where both are there
+-- both of two, if both are there
 abbrev pub both : {A B : Type 0} → Option A → Option B → Option (A × B)
 both None other = None
 both (Some a) None = None
 both (Some a) (Some b) = Some (a, b)
 
--- the descriptors in these registers, where each holds one
+-- the descriptors in these registers, if each holds one
 abbrev pub descriptors_in : List Register → List ℕ → Option (List Desc)
 descriptors_in registers [] = Some []
 descriptors_in registers (r ∷ rs) = option_map (λ pair. pair.0 ∷ pair.1) (both (descriptor_in registers r) (descriptors_in registers rs))

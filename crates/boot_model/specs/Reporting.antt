@@ -1,5 +1,6 @@
--- The volumes that a call reports. A PPI with the GUID of the volume information tells of the volume at an address; where it is a catalogued one that was not reported, it is reported, and after it each volume nested in it.
--- PI 1.8, volume 1, `EFI_PEI_FIRMWARE_VOLUME_INFO_PPI`; that the core reports nested volumes by itself is own.
+-- The volumes that a call reports. A PPI with the GUID of the volume information refers to the volume at an address. If that is a catalogued volume that was
+-- not reported, it is reported, and after it each volume nested in it. PI 1.8, volume 1, `EFI_PEI_FIRMWARE_VOLUME_INFO_PPI`; that the core reports nested
+-- volumes by itself is own.
 use Rattle.std.specs.Prelude.{ℕ, Bool, ◌||◌, not, if◌then◌else◌, List, [], ◌∷◌, ◌++◌, Option, Some, None, filter, option_and_then, drop}
 use Rattle.pi_base.specs.{declared.guid.Guid.Guid, Field.little_number, declared.known_guid.TheConstants.VOLUME_INFO_PPI, Guids.same_guid}
 use Rattle.mod_catalog.specs.declared.catalogue.Catalog.{Catalog}
@@ -12,7 +13,7 @@ use Rattle.mod_catalog.specs.Parts.{has_number, family, volume_at}
 abbrev pub volume_info_len : ℕ
 volume_info_len = 48
 
--- where its FvInfo stands in the bytes of the PPI, behind its FvFormat
+-- the offset of FvInfo in the bytes of the PPI, after its FvFormat
 abbrev pub volume_info_at : ℕ
 volume_info_at = 16
 
@@ -20,11 +21,11 @@ volume_info_at = 16
 abbrev pub is_file_system : Guid → Bool
 is_file_system guid = same_guid guid FILE_SYSTEM2 || same_guid guid FILE_SYSTEM3
 
--- the volume that these bytes tell of
+-- the volume to which these bytes refer
 abbrev pub told_by : Catalog → List ℕ → Option ℕ
 told_by catalog bytes = if is_file_system (Guids.guid_at bytes 0) then volume_at catalog (little_number 8 (drop volume_info_at bytes)) else None
 
--- the volume that the PPI whose descriptor stands at a place tells of
+-- the volume to which the PPI whose descriptor is at a place refers
 abbrev pub told_at : Catalog → StoreState → ℕ → Option ℕ
 told_at catalog s place =
     if same_guid (guid_at s place) VOLUME_INFO_PPI

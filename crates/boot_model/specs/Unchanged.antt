@@ -32,7 +32,7 @@ pub record KeepsNotification (old new : StoreState) (place : ℕ) : Type 0 where
   pub guid : guid_at new place ≡ guid_at old place
   pub entry : number_at new place ≡ number_at old place
 
--- a queued pair keeps its notification, and the PPI of which it is told
+-- a queued pair keeps its notification and its PPI
 pub record KeepsPending (old new : StoreState) (pending : Pending) : Type 0 where
   pub notification : KeepsNotification old new pending.descriptor
   pub ppi : KeepsPpi old new pending.ppi
@@ -43,7 +43,7 @@ KeepsNumber old new Ppi number later = IsSamePlace old new number later
 KeepsNumber old new Callback number later = later ≡ number
 KeepsNumber old new Dispatch number later = later ≡ number
 
--- a descriptor keeps its kind, its GUID, the address where that stands in a volume, and its number
+-- a descriptor keeps its kind, its GUID, the GUID's address if that is in a volume, and its number
 pub record KeepsDescriptor (old new : StoreState) (d e : DescriptorBody) : Type 0 where
   pub kind : e.kind ≡ d.kind
   pub guid : e.guid ≡ d.guid
@@ -62,7 +62,7 @@ KeepsBody old new place Node later = later ≡ Node
 KeepsBody old new place (Allocation a) later = later ≡ Allocation a
 KeepsBody old new place (Descriptor d) later = KeepsNamed (is_named old place) old new place d later
 
--- where there was a body there is one, and where there was none there is none
+-- there is a body at a place if and only if there was one before
 abbrev pub KeepsPlace : StoreState → StoreState → ℕ → Option Body → Option Body → Type 0
 KeepsPlace old new place None later = later ≡ None
 KeepsPlace old new place (Some body) None = ⊥

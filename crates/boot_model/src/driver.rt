@@ -3,7 +3,7 @@ use crate::frame::Frame;
 use crate::licence::Licence;
 use pi_base::Guid;
 
-/// The notifications of a protocol that a call has still to visit, with the interface and the handle of the call.
+/// The notifications of a protocol that a call still has to visit, with the interface and the handle of the call.
 #[derive(Clone, Copy)]
 pub struct ProtocolSweep {
     pub guid: Guid,
@@ -11,7 +11,7 @@ pub struct ProtocolSweep {
     pub handle: u32,
     /// The next notification's place.
     pub note_at: u32,
-    /// The place behind the last one registered before the call.
+    /// The place after the last one registered before the call.
     pub note_to: u32,
 }
 
@@ -27,7 +27,7 @@ pub struct ProtocolNote {
     pub block: u8,
 }
 
-/// A driver that is to start, and why.
+/// A driver in the scheduled queue, and why it starts.
 #[derive(Clone, Copy)]
 pub struct Scheduled {
     /// The number of the module.

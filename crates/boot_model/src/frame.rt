@@ -2,7 +2,7 @@
 use pi_base::Word;
 use store_model::{Desc, Pool, Sweep};
 
-/// How many frames stand at most.
+/// How many frames are at most.
 pub const MOST_FRAMES: usize = 64;
 
 /// How many registers a frame has.
@@ -11,7 +11,7 @@ pub const REGISTERS: usize = act_code::REGISTERS as usize;
 /// How many blocks an entry counts for one module.
 pub const BLOCKS: u32 = act_code::MOST_BLOCKS as u32;
 
-/// What a register holds.
+/// The contents of a register.
 #[derive(Clone, Copy, PartialEq, Eq)]
 pub enum Register {
     Empty,
@@ -22,7 +22,7 @@ pub enum Register {
     HandleIn(u32),
 }
 
-/// A script that runs: where it stands, and what it holds. `W` is what a call of its phase has still to visit.
+/// A running script: the place of its next action, and its registers. `W` is what a call of its phase still has to visit.
 #[derive(Clone, Copy)]
 pub struct Frame<W> {
     /// The number of the module.
@@ -40,7 +40,7 @@ pub struct Frame<W> {
 /// A script of PEI.
 pub type PeiFrame = Frame<Sweep>;
 
-// What stands in a place for a frame that is not used.
+// What is in a place for a frame that is not used.
 impl<W> Default for Frame<W> {
     fn default() -> Frame<W> {
         Frame {

@@ -1,6 +1,6 @@
 //! Why a module starts.
 
-/// Why a module starts, as its line names it.
+/// Why a module starts, as its start line prints it.
 #[derive(Clone, Copy, PartialEq, Eq)]
 pub enum Licence {
     /// Its volume's a priori file lists it (PI 1.8, volumes 1 and 2).
@@ -11,8 +11,8 @@ pub enum Licence {
     True,
     /// It registered for shadow, and memory was moved (PI 1.8, volume 1, `RegisterForShadow`).
     Shadow,
-    /// It stands before the driver that its BEFORE names (PI 1.8, volume 2).
+    /// It is before the driver that its BEFORE names (PI 1.8, volume 2).
     Before,
-    /// It stands after the driver that its AFTER names.
+    /// It starts after the driver that its AFTER names.
     After,
 }

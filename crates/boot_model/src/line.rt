@@ -8,7 +8,7 @@ use pi_base::{Guid, Seq, Word};
 /// How many bytes a script logs or reads at once.
 pub const SHOWN_LEN: usize = 64;
 
-/// A printed line: one variant a form, its fields in the order of the line. `volume`, `by` and `block` are numbers of volumes, modules and blocks.
+/// A printed line: one variant for each form, its fields in the order of the line. `volume`, `by` and `block` are numbers of volumes, modules and blocks.
 #[derive(Drop)]
 pub enum Line {
     /// A volume is reported to the PEI core.
@@ -212,7 +212,7 @@ pub enum CallName {
     Dispatch,
 }
 
-/// What a `call` line shows behind its status.
+/// What a `call` line shows after its status.
 #[derive(Drop)]
 pub enum Extra {
     /// Nothing.
@@ -232,7 +232,7 @@ pub enum Reason {
     False,
     /// It registered for shadow and was not started again.
     Shadow,
-    /// Its expression begins with SOR, and nobody requested it.
+    /// Its expression begins with SOR, and no module requested it.
     Unrequested,
     /// It waits for the driver that its BEFORE names.
     Before,
@@ -245,7 +245,7 @@ pub enum Reason {
 /// How a run ends.
 #[derive(Clone, Copy)]
 pub enum RunEnd {
-    /// Both phases came to their end.
+    /// Both phases ended.
     Done,
     /// PEI stopped without permanent memory.
     NoMemory,
@@ -268,7 +268,7 @@ pub enum ExpressionWord {
     Malformed(u32),
     /// A tree.
     Tree,
-    /// A tree behind SOR.
+    /// A tree after SOR.
     Sor,
     /// BEFORE a driver.
     Before(Guid),

@@ -2,7 +2,7 @@
 ghost use Rattle.std.specs.Prelude.{◌≡◌};
 ghost use Rattle.boot_model.specs.PeimState.{state_at};
 
-/// How far a module has come in PEI: the four states that EDK2's dispatcher keeps for a PEIM.
+/// How far a module has come in PEI: the four states of a PEIM in EDK2's dispatcher.
 #[derive(Clone, Copy, PartialEq, Eq)]
 pub enum PeimState {
     /// It has not started (`PEIM_STATE_NOT_DISPATCHED`).
@@ -15,7 +15,7 @@ pub enum PeimState {
     Done,
 }
 
-/// The state of a module, by the states of all: a module behind their end has not started.
+/// The state of a module in the list of all states. A module past the end of the list has not started.
 pub fn state_of(states: &[PeimState], number: u32) -> PeimState
     ensures { result ≡ state_at states.now number }
 {

@@ -9,9 +9,9 @@ pub enum PeiEnd {
     NoMemory,
     /// Memory has moved, and the DXE IPL is not installed.
     NoIpl,
-    /// As many actions were taken as may, and one more was due.
+    /// The fuel is used up, and one more action was to run.
     Spent,
-    /// As many frames stood as may, and a notification was due.
+    /// The most frames are running, and a notification was to begin.
     Deep,
 }
 
@@ -20,8 +20,8 @@ pub enum PeiEnd {
 pub enum DxeEnd {
     /// No driver is scheduled, and none that waits may start.
     Done,
-    /// As many actions were taken as may, and one more was due.
+    /// The fuel is used up, and one more action was to run.
     Spent,
-    /// As many frames stood as may, and a notification was due.
+    /// The most frames are running, and a notification was to begin.
     Deep,
 }

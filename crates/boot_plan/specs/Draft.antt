@@ -24,7 +24,7 @@ pub record IsInRange (draft : Draft) : Type 0 where
   pub fuel : IfSome draft.fuel (λ amount. (1 ≤ amount.value) × (amount.value ≤ MOST_FUEL))
   pub pages : IfSome draft.pages (λ amount. (amount.value % PAGE_LEN ≡ 0) × (amount.value ≤ MOST_PAGES))
 
--- no line of its kind stands before, where the kind comes once
+-- no earlier line has its kind, if the kind may occur only once
 abbrev pub HasPlace : List Said → Entry ℕ → Type 0
 HasPlace before (Temp base size) = temps before ≡ []
 HasPlace before (Ram base size) = rams before ≡ []
@@ -40,7 +40,7 @@ IsEntryInRange draft (Volume base name) = IsVolumeInRange (record { base = base;
 IsEntryInRange draft (Fuel count) = (1 ≤ count) × (count ≤ MOST_FUEL)
 IsEntryInRange draft (Pages size) = (size % PAGE_LEN ≡ 0) × (size ≤ MOST_PAGES)
 
--- what adding a line with its number gives: the draft with it, or its fault, memory aside
+-- adding a line with its number gives the draft with it or its fault, unless memory runs out
 abbrev pub AddsLine : List Said → ℕ → List ℕ → Result (Unit {0}) PlanFault → Draft → Type 0
 AddsLine before number line (Ok _) draft = (line_cause before line ≡ None) × Keeps (before ++ said_from number (line ∷ [])) draft × IsInRange draft
 AddsLine before number line (Err fault) draft = fault.cause ≢ Memory → (fault.line ≡ number) × (line_cause before line ≡ Some fault.cause)

@@ -9,13 +9,13 @@ pub data Entry (N : Type 0) : Type 0 where
   Fuel : N → Entry N
   Pages : N → Entry N
 
--- an entry of two numbers, where both words spell one
+-- an entry of two numbers, if both words spell one
 abbrev pub both : (ℕ → ℕ → Entry ℕ) → Option ℕ → Option ℕ → Option (Entry ℕ)
 both entry None second = None
 both entry (Some first) None = None
 both entry (Some first) (Some second) = Some (entry first second)
 
--- the entry with its numbers read, where each word spells one
+-- the entry with its numbers read, if each word spells one
 abbrev pub read_entry : Entry (List ℕ) → Option (Entry ℕ)
 read_entry (Temp base size) = both (λ base size. Temp base size) (number_of base) (number_of size)
 read_entry (Ram base size) = both (λ base size. Ram base size) (number_of base) (number_of size)

@@ -1,4 +1,5 @@
--- The forms of a line (own): `temp BASE SIZE`, `ram BASE SIZE`, `volume BASE NAME`, `fuel N` and `pages SIZE`. Words are separated by one or more spaces, and no space stands before the first or behind the last.
+-- The forms of a line (own): `temp BASE SIZE`, `ram BASE SIZE`, `volume BASE NAME`, `fuel N` and `pages SIZE`. Words are separated by one or more spaces, and
+-- no space is before the first or after the last.
 use Rattle.std.specs.Prelude.{ℕ, ◌&&◌, nat_le, if◌then◌else◌, List, [], ◌∷◌, length, Option, Some, None, codes, bytes_eq}
 use Rattle.boot_plan.specs.Entry.{Entry, Temp, Ram, Volume, Fuel, Pages}
 use Rattle.line_words.specs.Words.{words, is_plain}

@@ -1,4 +1,4 @@
--- The plan that a text stands for, or its first fault (own). Exactly one of them holds of a text, for one value.
+-- The plan that a text spells, or its first fault (own). A text has exactly one of them, and only one value of it.
 use Rattle.std.specs.Prelude.{◌≡◌, ◌⊎◌, ℕ, ◌+◌, ◌<◌, Bool, ◌&&◌, nat_lt, if◌then◌else◌, List, [], ◌∷◌, length, take, slice_index_or, max, Option, Some, None}
 use Rattle.boot_plan.specs.{declared.draft.Area.Area, declared.draft.Amount.Amount, declared.plan.Plan.Plan}
 use Rattle.boot_plan.specs.{declared.plan.PlanVolume.PlanVolume, declared.fault.PlanFault.PlanFault, declared.fault.PlanCause.PlanCause}
@@ -47,7 +47,7 @@ abbrev pub value_or : ℕ → List Amount → ℕ
 value_or default [] = default
 value_or default (amount ∷ others) = amount.value
 
--- the one line of a kind gives this span
+-- the one line of a kind has this span
 abbrev pub Gives : List Area → ℕ → ℕ → Type 0
 Gives areas base len = (line : ℕ) × (areas ≡ record { line = line; base = base; size = len } ∷ [])
 
@@ -60,7 +60,7 @@ pub record Makes (count : ℕ) (all : List Said) (plan : Plan) : Type 0 where
   pub fuel : plan.fuel ≡ value_or DEFAULT_FUEL (fuels all)
   pub pages : plan.pages ≡ value_or 0 (pages all)
 
--- the plan that lines stand for
+-- the plan that lines spell
 abbrev pub StandFor : List (List ℕ) → Plan → Type 0
 StandFor lines plan = AreSound lines × Makes (length lines) (said lines) plan
 

@@ -10,7 +10,7 @@ pub record Said : Type 0 where
   pub line : ℕ
   pub entry : Entry ℕ
 
--- the entry of a line that is not passed over, where it has a form and numbers
+-- the entry of a line that a reader does not skip, if it has a form and numbers
 abbrev pub entry_of : List ℕ → Option (Entry ℕ)
 entry_of line = if is_passed_over line then None else option_and_then read_entry (form_of line)
 

@@ -15,7 +15,7 @@ use line_words::is_passed_over;
 use pi_base::{OutOfMemory, PAGE_LEN, Seq};
 use std::alloc::Global;
 
-// Memory that a line gives.
+// Memory from one line of a plan.
 #[derive(Clone, Copy)]
 pub struct Area {
     pub line: u32,
@@ -23,7 +23,7 @@ pub struct Area {
     pub size: u64,
 }
 
-// A number that a line gives.
+// A number from one line of a plan.
 #[derive(Clone, Copy)]
 pub struct Amount {
     pub line: u32,

@@ -4,7 +4,7 @@ ghost use Rattle.boot_plan.specs.declared.fault.PlanCause.TheVariants.{Memory};
 
 use pi_base::OutOfMemory;
 
-/// What is wrong with a plan. The numbers are own.
+/// What is wrong with a plan. The project chose the numbers.
 #[derive(Clone, Copy, Debug, PartialEq, Eq)]
 pub enum PlanCause {
     /// The line has no form: its first word, the number of its words, a byte of it or its name is not of the format.
@@ -28,7 +28,7 @@ pub enum PlanCause {
 /// The first fault of a plan.
 #[derive(Clone, Copy, Debug)]
 pub struct PlanFault {
-    /// The line that has it, from 1; 0 where memory is wanting.
+    /// The line that has it, from 1; 0 if memory runs out.
     pub line: u32,
     /// What is wrong there.
     pub cause: PlanCause,

@@ -31,7 +31,7 @@ fn memory_fault(temp: &Area, ram: &Area, pages: &Option<Amount>) -> Option<PlanF
     }
 }
 
-// The fuel that a line gives, or the usual one.
+// The fuel of the `fuel` line, or the default.
 fn fuel_of(fuel: Option<Amount>) -> u32
     requires { IfSome fuel (λ fuel. fuel.value ≤ MOST_FUEL) }
     ensures { result ≡ value_or DEFAULT_FUEL (option_to_list fuel) }
@@ -42,7 +42,7 @@ fn fuel_of(fuel: Option<Amount>) -> u32
     }
 }
 
-// The bytes of early pages that a line gives, or none.
+// The bytes of early pages from their line, or 0.
 fn pages_of(pages: Option<Amount>) -> u64
     ensures { result ≡ value_or 0 (option_to_list pages) }
 {
@@ -64,7 +64,7 @@ fn span_of(area: Area) -> Span
     }
 }
 
-// The plan after so many lines, or what they lack.
+// The plan after so many lines, or what is missing.
 pub(crate) fn finish(draft: Draft, count: u32) -> Result<Plan, PlanFault>
     requires range { IsInRange draft }
     requires count { count + 1 < 2 ^ 32 }

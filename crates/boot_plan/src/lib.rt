@@ -1,6 +1,6 @@
 //! The text of a boot plan (own format): the memory, the volumes, the fuel and the early pages of a boot, or the first fault of the text with its line.
 //!
-//! Tried in `text_trials`: `plans`.
+//! Tested in `text_trials`: `plans`.
 #![tactic(auto)]
 
 mod draft;

@@ -24,7 +24,7 @@ pub const MOST_RAM: u64 = 0x1000_0000;
 /// The greatest number of actions of a run.
 pub const MOST_FUEL: u64 = 1_000_000;
 
-/// The number of actions of a run where the plan gives none.
+/// The fuel of a run if the plan gives none.
 pub const DEFAULT_FUEL: u32 = 100_000;
 
 /// The greatest size of the page region, in bytes.

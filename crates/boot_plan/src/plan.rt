@@ -10,17 +10,17 @@ pub struct PlanVolume {
     pub name: Seq<u8>,
 }
 
-/// What a boot starts from.
+/// What a boot starts from: memory, fuel and volumes.
 #[derive(Drop)]
 pub struct Plan {
     /// Temporary RAM.
     pub temp: Span,
-    /// RAM, in which permanent memory will lie.
+    /// RAM, in which permanent memory will be.
     pub ram: Span,
     /// The volumes in the order of the text; the first is the boot volume.
     pub volumes: Seq<PlanVolume>,
     /// How many actions the run may take.
     pub fuel: u32,
-    /// The bytes at the end of temporary RAM that pages are taken from before migration, 0 for none.
+    /// How many bytes at the end of temporary RAM serve pages before migration, or 0.
     pub pages: u64,
 }

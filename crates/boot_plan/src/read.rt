@@ -12,7 +12,7 @@ use std::alloc::Global;
 
 /// Reads the text of a plan, of fewer than 2^32 - 1 bytes.
 ///
-/// The fault is the first one of the text, and its line is counted from 1. Want of memory is `Memory` at line 0.
+/// The fault is the first one of the text, and lines count from 1. If memory runs out, the fault is `Memory` at line 0.
 pub fn read_plan(alloc: Global, text: &[u8]) -> Result<Plan, PlanFault>
     requires { length text.now < 2 ^ 32 - 1 }
     ensures plan { IfOk result (IsPlan text.now) }
@@ -31,7 +31,7 @@ pub fn read_plan(alloc: Global, text: &[u8]) -> Result<Plan, PlanFault>
     finish(draft, count)
 }
 
-/// Each text is a plan or has a first fault, never both, and one plan or one fault.
+/// A text is one plan, or it has one first fault, and never both.
 pub fn one_reading()
     ensures plans { (text : List ℕ) (a b : Plan) → IsPlan text a → IsPlan text b → a ≡ b }
     ensures faults { (text : List ℕ) (a b : PlanFault) → IsPlanFault text a → IsPlanFault text b → a ≡ b }

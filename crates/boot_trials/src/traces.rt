@@ -10,7 +10,7 @@ use trace_reader::{TraceFault, read_trace};
 /// The texts are shorter.
 const MOST_TEXT: usize = 10_000;
 
-/// Texts, and the first line of no form; 0 where there is none.
+/// Texts, and the first line of no form; 0 if there is none.
 static TEXTS: [(&[u8], u32); 61] = [
     // No line, and a line of each form.
     (b"", 0),
@@ -101,7 +101,7 @@ static TEXTS: [(&[u8], u32); 61] = [
         b"pei start 0 00000000-0000-0000-0000-00000000000A absent\n",
         1,
     ),
-    // Behind others.
+    // After others.
     (b"report 0\npei stop\nlog a", 3),
     (b"report 0\nreport x\nreport y\n", 2),
 ];

@@ -54,7 +54,7 @@ fn store(alloc: Global) -> PlainStore
     PlainStore::new(alloc, temp, 0, ram, Seq::new(alloc))
 }
 
-/// Registers of the frame: numbers, the bases of volumes, a base where no volume is, and handles.
+/// Registers of the frame: numbers, the bases of volumes, a base if no volume is, and handles.
 const FIVE: u8 = 1;
 
 const SIX: u8 = 2;
@@ -151,7 +151,7 @@ fn are_few(services: &DxeServices) -> bool
     services.handles().made() < 10 && services.handles().len() < 10 && services.note(9).is_none()
 }
 
-// The reply of a call. None where memory is wanting.
+// The reply of a call. None if memory runs out.
 fn reply_of(
     services: &mut DxeServices,
     store: &PlainStore,
@@ -186,11 +186,11 @@ fn services_at(alloc: Global, catalog: &Catalog, bases: &[u64]) -> Option<DxeSer
 /// A call with its status, the number that its line shows, up to which notification it visits those of its protocol, and the registers that it writes, where they are looked at.
 type Row = (Call, Word, Option<u64>, Option<u32>, Option<Writes>);
 
-/// What is left behind calls: the module and the block of the first notification, whether there is a second, how many interfaces there are,
-/// whether there is a third, and how many volumes are discovered.
+/// What is left after calls: the module and the block of the first notification, whether there is a second, how many interfaces there are, whether there is a
+/// third, and how many volumes are discovered.
 type Left = (Option<(u32, u8)>, bool, usize, bool, usize);
 
-/// The bases of the volumes that are discovered first, calls in order, and what is left behind them.
+/// The bases of the volumes that are discovered first, calls in order, and what is left after them.
 struct Case {
     bases: &'static [u64],
     calls: &'static [Row],
@@ -457,7 +457,7 @@ fn left_in(services: &DxeServices) -> Left {
     )
 }
 
-// The first of a case's calls, by its number, that is answered in another way, and what is left behind them.
+// The first of a case's calls, by its number, that is answered in another way, and what is left after them.
 fn answered(
     alloc: Global,
     store: &PlainStore,
@@ -483,7 +483,7 @@ fn try_all(rt: &impl Abort, alloc: Global, store: &PlainStore, catalog: &Catalog
     }
 }
 
-// Only this function owns a catalogue and a store, with one call behind them: each exit of an owner is dear to prove.
+// Only this function owns a catalogue and a store, with one call after them: each exit of an owner is dear to prove.
 #[test]
 fn calls_of_drivers_answer_by_their_rows(rt: HostRuntime) {
     let catalog = catalogue(&rt, rt.alloc(), TWO, &[DRIVERS, EMPTY_VOLUME]);

@@ -22,10 +22,10 @@ pub(crate) const BASE: u64 = 0x10_0000;
 
 pub(crate) const OTHER_BASE: u64 = 0x20_0000;
 
-/// The base of a volume that is nested in the first file of the first one: behind the headers of the volume, the file and the section, of 72, 24 and 4 bytes.
+/// The base of a volume that is nested in the first file of the first one: after the headers of the volume, the file and the section, of 72, 24 and 4 bytes.
 pub(crate) const NESTED_BASE: u64 = 0x10_0064;
 
-/// The GUID that ends with a byte behind zeros.
+/// The GUID that ends with a byte after zeros.
 pub(crate) fn guid(last: u8) -> Guid {
     let mut bytes = [0u8; 16];
     bytes[15] = last;
@@ -53,7 +53,7 @@ fn images_of(rt: &impl Abort, alloc: Global, volumes: &[&str]) -> Seq<Seq<u8>> {
     images
 }
 
-/// The catalogue of a plan and its volumes. The test fails where memory is wanting, or where a text has a fault.
+/// The catalogue of a plan and its volumes. The test fails if memory runs out, or where a text has a fault.
 pub(crate) fn catalogue(rt: &impl Abort, alloc: Global, plan: &str, volumes: &[&str]) -> Catalog
     ensures { IsWellFormed result }
 {

@@ -4,7 +4,7 @@ use Rattle.pi_base.specs.declared.guid.Guid.{Guid}
 use Rattle.depex_code.specs.declared.opcode.Opcode.{Opcode}
 use Rattle.depex_code.specs.declared.opcode.Opcode.TheVariants.{Push, And, Or, Not, True, False}
 
--- how many values there are after an opcode, where its operands are there
+-- how many values there are after an opcode, if its operands are there
 abbrev pub depth_after : Opcode → ℕ → Option ℕ
 depth_after True depth = Some (depth + 1)
 depth_after False depth = Some (depth + 1)

@@ -9,7 +9,7 @@ use Rattle.depex_code.specs.{declared.fault.DepexFault.TheVariants.Malformed, de
 use Rattle.depex_code.specs.Instruction.{instruction_bytes, IsWhole}
 use Rattle.pi_base.specs.Lists.{Begins}
 
--- SOR in front, where it is there
+-- SOR before the tree, if the expression has it
 abbrev pub sor_front : Bool → List Instruction
 sor_front true = instruction.Sor ∷ []
 sor_front false = []
@@ -31,20 +31,20 @@ IsOfPhase Dxe expression = ⊤
 abbrev pub bytes_of : List Instruction → List ℕ
 bytes_of = flat_map instruction_bytes
 
--- an expression of the phase stands at the front of the bytes: its one spelling, of at most 1,024 opcodes
+-- an expression of the phase is at the front of the bytes: its one spelling, of at most 1,024 opcodes
 pub record Reads (phase : Phase) (bytes : List ℕ) (expression : Depex) : Type 0 where
   pub suits : IsOfPhase phase expression
   pub guids : AllByRecursion IsWhole (instructions expression)
   pub here : Begins bytes (bytes_of (instructions expression))
   pub few : length (instructions expression) ≤ 1024
 
--- an expression of the phase has these opcodes in front, and others behind them
+-- an expression of the phase has these opcodes in front, and others after them
 abbrev pub GoesOn : Phase → List Instruction → List Instruction → Type 0
 GoesOn phase front behind =
     (expression : Depex) × IsOfPhase phase expression × AllByRecursion IsWhole (instructions expression) × (instructions expression ≡ front ++ behind)
 
--- Some opcodes are the front of an expression, which has more of them, and stand at the front of the bytes. Behind them no opcode stands
--- with which they are the front of an expression, or they are 1,024. The place is the one behind them.
+-- Some opcodes begin an expression and are at the front of the bytes. The bytes continue with no opcode that still begins an expression, or there are already
+-- 1,024. The place is the one after them.
 pub record IsMalformed (phase : Phase) (bytes : List ℕ) (at : ℕ) : Type 0 where
   pub front : List Instruction
   pub more : (next : Instruction) × (behind : List Instruction) × GoesOn phase front (next ∷ behind)

@@ -4,7 +4,7 @@ use Rattle.depex_code.specs.declared.opcode.Opcode.TheVariants as opcode
 use Rattle.depex_code.specs.declared.instruction.Instruction.{Instruction}
 use Rattle.depex_code.specs.declared.instruction.Instruction.TheVariants as instruction
 
--- an opcode's byte, and behind BEFORE, AFTER and PUSH the bytes of the GUID
+-- an opcode's byte, and after BEFORE, AFTER and PUSH the bytes of the GUID
 abbrev pub instruction_bytes : Instruction → List ℕ
 instruction_bytes (instruction.Before guid) = 0 ∷ guid.0
 instruction_bytes (instruction.After guid) = 1 ∷ guid.0

@@ -11,7 +11,7 @@ use Rattle.depex_code.specs.{declared.reading.Turn.Turn, Depth.depth_after, Tree
 use Rattle.depex_code.specs.declared.reading.Turn.TheVariants as turn
 use Rattle.depex_code.specs.{TreeCode.built, TreeCode.stack_after, Instruction.IsWhole, Expression.bytes_of}
 
--- the GUID at the front, and the bytes behind it
+-- the GUID at the front, and the bytes after it
 abbrev pub guid_front : List ℕ → Option (Guid × List ℕ)
 guid_front bytes = if nat_lt (length bytes) 16 then None else Some (guid_at bytes 0, drop 16 bytes)
 
@@ -19,7 +19,7 @@ guid_front bytes = if nat_lt (length bytes) 16 then None else Some (guid_at byte
 abbrev pub with_guid : (Guid → Instruction) → List ℕ → Option (Instruction × List ℕ)
 with_guid made bytes = option_map (λ x. (made x.0, x.1)) (guid_front bytes)
 
--- the opcode at the front, and the bytes behind it
+-- the opcode at the front, and the bytes after it
 unfoldable pub instruction_at : List ℕ → Option (Instruction × List ℕ)
 instruction_at [] = None
 instruction_at (code ∷ rest) =
@@ -35,7 +35,7 @@ instruction_at (code ∷ rest) =
     else if code == 9 then Some (instruction.Sor, rest)
     else None
 
--- what stands next does not go on with a tree whose stack is this one
+-- the next opcode cannot continue a tree with this stack
 abbrev pub Blocks : List DepexTree → Option (Instruction × List ℕ) → Type 0
 Blocks stack None = ⊤
 Blocks stack (Some (instruction.Of code, rest)) = built code stack ≡ None
@@ -44,7 +44,7 @@ Blocks stack (Some (instruction.Before guid, rest)) = ⊤
 Blocks stack (Some (instruction.After guid, rest)) = ⊤
 Blocks stack (Some (instruction.Sor, rest)) = ⊤
 
--- the same of a tree that has left so many values
+-- the next opcode cannot continue a tree that has left so many values
 abbrev pub BlocksAt : ℕ → Option (Instruction × List ℕ) → Type 0
 BlocksAt depth None = ⊤
 BlocksAt depth (Some (instruction.Of code, rest)) = depth_after code depth ≡ None
@@ -53,7 +53,7 @@ BlocksAt depth (Some (instruction.Before guid, rest)) = ⊤
 BlocksAt depth (Some (instruction.After guid, rest)) = ⊤
 BlocksAt depth (Some (instruction.Sor, rest)) = ⊤
 
--- what stands next in a tree that has left so many values
+-- what is next in a tree that has left so many values
 abbrev pub Goes : ℕ → Option (Instruction × List ℕ) → Turn → Type 0
 Goes depth next (turn.Opcode code after rest) = (next ≡ Some (instruction.Of code, rest.now)) × (depth_after code depth ≡ Some after)
 Goes depth next turn.End = ((rest : List ℕ) × (next ≡ Some (instruction.End, rest))) × (depth ≡ 1)
@@ -63,7 +63,7 @@ Goes depth next turn.Stuck = BlocksAt depth next
 abbrev pub IsTreeRead : List ℕ → ℕ → DepexTree → Type 0
 IsTreeRead bytes room node = (length (postfix node) < room) × AllByRecursion IsWhole (map instruction.Of (postfix node)) × Begins bytes (bytes_of (map instruction.Of (postfix node) ++ instruction.End ∷ []))
 
--- the bytes begin with opcodes of trees, behind which none goes on or there is no room
+-- the bytes begin with opcodes of a tree, after which no opcode can follow, or there is no room for one
 pub record IsStuck (bytes : List ℕ) (from room at : ℕ) : Type 0 where
   pub code : List Opcode
   pub stack : List DepexTree
@@ -79,7 +79,7 @@ abbrev pub IsTreeRefused : List ℕ → ℕ → ℕ → DepexFault → Type 0
 IsTreeRefused bytes from room (Malformed at) = IsStuck bytes from room at
 IsTreeRefused bytes from room Memory = ⊤
 
--- an expression of BEFORE or AFTER, which is read where END is next
+-- an expression of BEFORE or AFTER, which is read if END is next
 abbrev pub IsBeside : Depex → List ℕ → List ℕ → Result Depex DepexFault → Type 0
 IsBeside depex bytes rest (Ok read) = (read ≡ depex) × ((after : List ℕ) × (instruction_at rest ≡ Some (instruction.End, after)))
 IsBeside depex bytes rest (Err fault) = (fault ≡ Malformed (length bytes - length rest)) × ((after : List ℕ) → instruction_at rest ≢ Some (instruction.End, after))

@@ -13,7 +13,7 @@ pub data DepexTree : Type 0 where
   And : DepexTree → DepexTree → DepexTree
   Or : DepexTree → DepexTree → DepexTree
 
--- the postfix opcodes of a tree: each operator stands behind its operands
+-- the postfix opcodes of a tree: each operator is after its operands
 abbrev pub postfix : DepexTree → List Opcode
 postfix True = opcode.True ∷ []
 postfix False = opcode.False ∷ []
@@ -22,7 +22,7 @@ postfix (Not node) = postfix node ++ opcode.Not ∷ []
 postfix (And first second) = postfix first ++ (postfix second ++ opcode.And ∷ [])
 postfix (Or first second) = postfix first ++ (postfix second ++ opcode.Or ∷ [])
 
--- whether a tree holds where the GUIDs that pass the test are there
+-- whether a tree is true if the GUIDs that pass the test are installed
 abbrev pub truth : (Guid → Bool) → DepexTree → Bool
 truth has True = true
 truth has False = false

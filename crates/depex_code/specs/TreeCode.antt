@@ -1,4 +1,4 @@
--- A tree is had back from its opcodes: each opcode takes its operands off a stack of trees, the last one on top, and puts its tree there.
+-- A tree is recovered from its opcodes: each opcode takes its operands off a stack of trees, the last one on top, and pushes its own tree.
 use Rattle.std.specs.Prelude.{◌≡◌, ℕ, zero, suc, List, [], ◌∷◌, ◌++◌, map, Option, Some, None, option_and_then, refl}
 use Rattle.std.proofs.Common.{sym, ap, ◌∙◌, append_assoc}
 use Rattle.std.proofs.lemmas.List.{append-nil}
@@ -7,7 +7,7 @@ use Rattle.depex_code.specs.declared.opcode.Opcode.{Opcode}
 use Rattle.depex_code.specs.declared.opcode.Opcode.TheVariants as opcode
 use Rattle.depex_code.specs.Tree.{DepexTree, True, False, Push, Not, And, Or, postfix}
 
--- the stack after an opcode, where its operands are there
+-- the stack after an opcode, if its operands are there
 abbrev pub built : Opcode → List DepexTree → Option (List DepexTree)
 built opcode.True stack = Some (True ∷ stack)
 built opcode.False stack = Some (False ∷ stack)
@@ -26,14 +26,14 @@ abbrev pub stack_after : List Opcode → List DepexTree → Option (List DepexTr
 stack_after [] stack = Some stack
 stack_after (code ∷ rest) stack = option_and_then (λ next. stack_after rest next) (built code stack)
 
--- the tree that stands alone on the stack
+-- the tree that is alone on the stack
 abbrev pub alone : Option (List DepexTree) → DepexTree
 alone (Some (node ∷ [])) = node
 alone (Some (node ∷ (other ∷ stack))) = True
 alone (Some []) = True
 alone None = True
 
--- the tree that the opcodes spell, where they spell one
+-- the tree that the opcodes spell, if they spell one
 abbrev pub tree_of : List Opcode → DepexTree
 tree_of code = alone (stack_after code [])
 
@@ -63,7 +63,7 @@ of_numbers numbers = tree_of (map (λ n. opcode_of n.0 n.1) numbers)
 regroup : (first second : List Opcode) (code : Opcode) (rest : List Opcode) → (first ++ (second ++ code ∷ [])) ++ rest ≡ first ++ (second ++ code ∷ rest)
 regroup first second code rest = append_assoc first (second ++ code ∷ []) rest ∙ ap (λ codes. first ++ codes) (append_assoc second (code ∷ []) rest)
 
--- the opcodes of a tree put it on the stack
+-- after the opcodes of a tree, the tree is on top of the stack
 pub stack_after-postfix : (node : DepexTree) (rest : List Opcode) (stack : List DepexTree) → stack_after (postfix node ++ rest) stack ≡ stack_after rest (node ∷ stack)
 stack_after-postfix True rest stack = refl
 stack_after-postfix False rest stack = refl
@@ -96,6 +96,6 @@ tree_of-postfix node = ap alone (ap (λ code. stack_after code []) (sym (append-
 pub tree_back : (node : DepexTree) → of_numbers (numbers_of node) ≡ node
 tree_back node = ap tree_of (opcodes_back (postfix node)) ∙ tree_of-postfix node
 
--- a tree is told apart by its opcodes
+-- two trees differ exactly if their opcodes do
 abbrev pub tree_code : Coded DepexTree
 tree_code = code_by (List (ℕ × List ℕ)) (coded_list (coded× coded_ℕ (coded_list coded_ℕ))) numbers_of of_numbers tree_back

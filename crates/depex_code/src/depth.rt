@@ -4,7 +4,7 @@ ghost use Rattle.depex_code.specs.{Depth.depth_after, Tree.postfix, TreeCode.sta
 
 use crate::opcode::Opcode;
 
-/// How many values there are after an opcode. None where its operands are not there.
+/// How many values there are after an opcode. None if its operands are not there.
 pub fn depth_after(opcode: &Opcode, depth: usize) -> Option<usize>
     requires { depth + 1 < 2 ^ 64 }
     ensures { result ≡ depth_after opcode.now depth }
@@ -16,7 +16,7 @@ pub fn depth_after(opcode: &Opcode, depth: usize) -> Option<usize>
     }
 }
 
-/// How many trees the opcodes spell, one behind the other. None where an operand is not there.
+/// How many trees the opcodes spell, one after the other. None where an operand is not there.
 pub fn depth_of(code: &[Opcode]) -> Option<usize>
     ensures { result ≡ option_map length (stack_after code.now []) }
 {

@@ -7,9 +7,9 @@ use pi_base::OutOfMemory;
 /// Why an expression could not be read.
 #[derive(Clone, Copy, Debug)]
 pub enum DepexFault {
-    /// No expression stands at the front of the bytes. The offset of the first opcode that fails, in the bytes that were handed in.
+    /// The bytes begin with no expression. It has the offset of the first opcode that fails, counted from the first byte that was handed in.
     Malformed(u32),
-    /// Want of memory.
+    /// Memory ran out.
     Memory,
 }
 

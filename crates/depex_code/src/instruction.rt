@@ -9,9 +9,9 @@ use pi_base::{GUID_LEN, Guid};
 /// An opcode of a dependency expression (PI 1.8, volume 1, "Dependency Expression Instruction Set"; volume 2 has `EFI_DEP_BEFORE`, `EFI_DEP_AFTER` and `EFI_DEP_SOR`).
 #[derive(Clone, Copy)]
 pub enum Instruction {
-    /// Directly before the driver of a file name.
+    /// The driver starts directly before the driver of this file name.
     Before(Guid),
-    /// Directly after the driver of a file name.
+    /// The driver starts directly after the driver of this file name.
     After(Guid),
     /// An opcode of a tree.
     Of(Opcode),
@@ -21,7 +21,7 @@ pub enum Instruction {
     Sor,
 }
 
-// The GUID at the front of the bytes, and the bytes behind it.
+// The GUID at the front of the bytes, and the bytes after it.
 fn guid_front(bytes: &[u8]) -> Option<(Guid, &[u8])>
     ensures { option_map (λ x. (x.0, x.1.now)) result ≡ guid_front bytes.now }
 {
@@ -31,7 +31,7 @@ fn guid_front(bytes: &[u8]) -> Option<(Guid, &[u8])>
     Some((Guid::at(bytes, 0), &bytes[GUID_LEN..]))
 }
 
-/// The opcode at the front of the bytes, and the bytes behind it. None where no opcode stands there whole.
+/// The opcode at the front of the bytes, and the bytes after it. None if the bytes hold no whole opcode.
 #[tactic(auto, unfolding(crate::specs::Reading::instruction_at))]
 pub fn instruction_at(bytes: &[u8]) -> Option<(Instruction, &[u8])>
     ensures { option_map (λ x. (x.0, x.1.now)) result ≡ instruction_at bytes.now }

@@ -11,7 +11,7 @@ pub fn one_reading()
     ensures some { (phase : Phase) (bytes : List ℕ) → ((e : Depex) × Reads phase bytes e) ⊎ ((at : ℕ) × IsMalformed phase bytes at) }
 {}
 
-/// No two trees have the same postfix opcodes, so `from_code` gives back the tree that `code` was asked of.
+/// No two trees have the same postfix opcodes, so `from_code` returns the tree that `code` was asked of.
 pub fn one_tree()
     ensures { (node other : DepexTree) → postfix node ≡ postfix other → node ≡ other }
 {}

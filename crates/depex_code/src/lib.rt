@@ -1,6 +1,6 @@
 //! Dependency expressions: their bytes, their trees, and whether they hold (PI 1.8, volume 1, "Dependency Expressions").
 //!
-//! Tried in `text_trials`: `expressions`.
+//! Tested in `text_trials`: `expressions`.
 #![tactic(auto)]
 
 mod depex;

@@ -15,17 +15,17 @@ use std::alloc::Global;
 /// The most opcodes that an expression may have, END and SOR among them (own).
 pub const MOST_OPCODES: usize = 1024;
 
-/// What stands next in a tree.
+/// What is next in a tree.
 enum Turn<'a> {
-    /// An opcode, the depth after it, and the bytes behind it.
+    /// An opcode, the depth after it, and the bytes after it.
     Opcode(Opcode, usize, &'a [u8]),
     /// The end of the one tree.
     End,
-    /// Nothing that goes on.
+    /// Nothing that continues the tree.
     Stuck,
 }
 
-// What stands at the front of the bytes, in a tree that has left so many values.
+// What is at the front of the bytes, in a tree that has left so many values.
 fn next_turn(bytes: &[u8], depth: usize) -> Turn<'_>
     requires { depth + 1 < 2 ^ 64 }
     ensures { Goes depth (instruction_at bytes.now) result }
@@ -73,7 +73,7 @@ fn tree_at(alloc: Global, bytes: &[u8], from: u32, room: usize) -> Result<Tree, 
     Err(malformed(from, bytes, rest))
 }
 
-// The driver's name that BEFORE or AFTER has, with its END behind it.
+// The driver's name that BEFORE or AFTER has, with its END after it.
 fn beside(depex: Depex, bytes: &[u8], rest: &[u8]) -> Result<Depex, DepexFault>
     requires part { length rest.now ≤ length bytes.now }
     requires near { length bytes.now - length rest.now < 2 ^ 32 }
@@ -114,13 +114,15 @@ fn driver_depex(
     }
 }
 
-/// The dependency expression at the front of the bytes; bytes behind its END are ignored. In PEI it is a tree without SOR.
-/// Malformed has the offset of the first opcode that fails: the end of the bytes; an unknown opcode or one not of the phase; an operand cut short; SOR, BEFORE or AFTER anywhere but first;
-/// another opcode than END after BEFORE or AFTER; an operator with too few values; END with another number of values than one; the 1,025th opcode (own).
+/// Reads the dependency expression at the front of the bytes. Bytes after its END are ignored. In PEI an expression is a tree without SOR.
+///
+/// `Malformed` has the offset of the first opcode that fails. An opcode fails if it is: the end of the bytes; unknown or not of the phase; cut short in its
+/// operand; SOR, BEFORE or AFTER anywhere but first; anything but END after BEFORE or AFTER; an operator with too few values; END with a number of values other
+/// than one; the 1,025th opcode (own).
 pub fn read_depex(alloc: Global, bytes: &[u8], phase: Phase) -> Result<Depex, DepexFault>
-    // What is read is the expression that stands there.
+    // What is read is the expression that is there.
     ensures read { IfOk result (Reads phase bytes.now) }
-    // Where nothing is read, it is malformed there, unless memory ran out.
+    // If nothing is read, it is malformed there, unless memory ran out.
     ensures refused { IfErr result (IsRefused phase bytes.now) }
 {
     match phase {

@@ -10,7 +10,7 @@ pub trait GuidSet {
     /// Whether a GUID is in the set.
     ghost has_guid: { Self → Guid → Bool };
 
-    /// Whether the set is in order, so that it may be asked.
+    /// Whether the set is well formed, so that it may be asked.
     ghost in_order: { Self → Type 0 };
 
     /// Whether a GUID is in the set.

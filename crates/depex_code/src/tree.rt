@@ -10,7 +10,7 @@ use pi_base::Seq;
 use std::marker::Model;
 use std::sync::ledger::Ledger;
 
-/// What a dependency expression says, kept as the postfix opcodes of its tree, so that no file can make a call recurse deeply.
+/// A dependency expression as the postfix opcodes of its tree. So no file can make a call recurse deeply.
 #[derive(Drop)]
 pub struct Tree {
     code: Seq<Opcode>,
@@ -34,7 +34,7 @@ impl Tree {
     ghost use Rattle.std.specs.Prelude.{◌≡◌, ◌≤◌, ◌+◌, length, IfSome, IfNone};
     ghost use Rattle.depex_code.specs.Tree.{DepexTree, postfix, truth};
 
-    /// The tree whose postfix opcodes these are. None where there is none, and the opcodes are then given up.
+    /// The tree that has these postfix opcodes. None if there is none; the opcodes are then dropped.
     pub fn from_code(code: Seq<Opcode>) -> Option<Tree>
         ensures some { IfSome result (λ node. postfix node ≡ code) }
         ensures none { IfNone result ((node : DepexTree) → postfix node ≡ code → ⊥) }
@@ -61,7 +61,7 @@ impl Tree {
         self.code.as_slice()
     }
 
-    /// Whether the tree holds over a set of GUIDs, in one step.
+    /// Whether the tree is true if exactly the GUIDs of the set are installed. It counts one step.
     pub fn holds<G: GuidSet, L: Ledger>(&self, set: &G, steps: &mut Steps<L>) -> bool
         requires order { G.in_order set.now }
         requires few { length (postfix self.now) ≤ 1023 }

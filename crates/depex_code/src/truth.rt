@@ -6,7 +6,7 @@ use crate::opcode::Opcode;
 use crate::set::GuidSet;
 use crate::values::Values;
 
-// Takes an opcode's operands off, and puts its value there.
+// Replaces an opcode's operands on the stack by its value.
 fn apply<G: GuidSet>(values: &mut Values, opcode: &Opcode, set: &G)
     requires order { G.in_order set.now }
     requires operands { IsSome (values_after (G.has_guid set.now) opcode.now values.old) }

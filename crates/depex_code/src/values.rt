@@ -6,7 +6,7 @@ use std::marker::Model;
 /// The most values that a tree within the limit of opcodes can push.
 pub const MOST_VALUES: usize = 1023;
 
-/// Values, the last one first. It takes no memory.
+/// A stack of values, the last one first. It allocates nothing.
 #[derive(Drop)]
 pub struct Values {
     held: [bool; MOST_VALUES],
@@ -24,7 +24,7 @@ impl Model for Values {
 }
 
 impl Values {
-    /// No values.
+    /// An empty stack.
     pub fn new() -> Values
         ensures { result ≡ [] }
     {
@@ -34,7 +34,7 @@ impl Values {
         }
     }
 
-    /// One value more.
+    /// Pushes a value.
     pub fn push(&mut self, value: bool)
         requires { length self.old < 1023 }
         ensures { self.new ≡ value ∷ self.old }
@@ -43,7 +43,7 @@ impl Values {
         self.held[self.top] = value;
     }
 
-    /// Takes the last value off.
+    /// Removes the last value and returns it.
     pub fn pop(&mut self) -> bool
         requires { 0 < length self.old }
         ensures { self.old ≡ result ∷ self.new }

@@ -44,7 +44,7 @@ fn put_code(out: &mut Seq<u8>, code: &[Opcode]) -> Result<(), OutOfMemory>
     Ok(())
 }
 
-// SOR in front of a tree.
+// SOR before a tree.
 fn sor_front(sor: bool) -> &'static [u8]
     ensures { result.now ≡ bytes_of (sor_front sor) }
 {
@@ -60,7 +60,7 @@ fn put_tree(out: &mut Seq<u8>, sor: bool, tree: &Tree) -> Result<(), OutOfMemory
     out.push(END)
 }
 
-// Adds the name of a driver that stands beside another.
+// Adds the file name of the driver that BEFORE or AFTER has.
 fn put_beside(out: &mut Seq<u8>, code: u8, guid: &Guid) -> Result<(), OutOfMemory>
     ensures { OnOk result (out.new ≡ out.old ++ ((code ∷ guid.now.0) ++ 8 ∷ [])) }
 {
@@ -79,7 +79,7 @@ fn put_depex(out: &mut Seq<u8>, depex: &Depex) -> Result<(), OutOfMemory>
     }
 }
 
-/// The one spelling of an expression, which `read_depex` reads as the expression again where it has at most `MOST_OPCODES` opcodes.
+/// The one spelling of an expression. If it has at most `MOST_OPCODES` opcodes, `read_depex` reads it as the same expression.
 pub fn write_depex(alloc: Global, depex: &Depex) -> Result<Seq<u8>, OutOfMemory>
     ensures { IfOk result (λ bytes. bytes ≡ bytes_of (instructions depex.now)) }
 {

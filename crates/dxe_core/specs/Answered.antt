@@ -1,5 +1,5 @@
--- The answers of the services, and what a service does from each machine that has what the services stand on.
--- Own; PI 1.8, volume 2, "Protocol Handler Services" and "DXE Services".
+-- The answers of the services, and what a service does from each machine that has what the services act on. Own; PI 1.8, volume 2, "Protocol Handler Services"
+-- and "DXE Services".
 use Rattle.std.specs.Prelude.{◌≡◌, ℕ, ◌≤◌, ◌+◌, length, None, Some, Result, Ok, Err}
 use Rattle.pi_base.specs.{declared.guid.Guid.Guid, declared.word.Word.Word, declared.memory.OutOfMemory.OutOfMemory}
 use Rattle.pi_base.specs.declared.word.Word.TheVariants as S
@@ -15,7 +15,7 @@ use Rattle.phase_parts.specs.declared.registers.Writes.{Writes}
 use Rattle.phase_parts.specs.declared.registers.Writes.TheVariants as W
 use Rattle.dxe_core.specs.{Event.quiet, Services.Services, Services.AreServicesOf, Reply.Replies}
 
--- an answer without notifications to visit, of a call that did nothing that an event tells
+-- an answer without notifications to visit, of a call whose event is quiet
 abbrev pub answered : CallName → Word → Extra → Writes → Reply
 answered name status extra writes = record { name = name; status = status; extra = extra; writes = writes; sweep = None; event = quiet }
 
@@ -35,7 +35,7 @@ swept name extra writes sweep = record (told name extra writes) { sweep = Some s
 abbrev pub did : Event → Reply → Reply
 did event reply = record reply { event = event }
 
--- a fault of the handles is a refusal with its status; want of memory is none
+-- a fault of the handles is a refusal with its status; running out of memory is not one
 abbrev pub refused : CallName → HandleFault → Result Reply OutOfMemory
 refused name F.InvalidParameter = Ok (refusal name S.InvalidParameter)
 refused name F.NotFound = Ok (refusal name S.NotFound)
@@ -50,13 +50,13 @@ abbrev pub Serves : Catalog → Services → DriverFrame → Action → Result R
 Serves catalog services frame action result new =
     (m : DxeMachine) → AreServicesOf catalog m services → Replies catalog m frame action result new
 
--- the action that names an address in a register, where this volume is mapped there, from each machine that has these services
+-- the action that names an address in a register, if this volume is mapped there, from each machine that has these services
 abbrev pub ProcessesVolume : Catalog → Services → ℕ → Result Reply OutOfMemory → Services → Type 0
 ProcessesVolume catalog services volume result new =
     (m : DxeMachine) (frame : DriverFrame) (v base : ℕ) → AreServicesOf catalog m services
     → number_in frame.registers v ≡ Some base → volume_at catalog base ≡ Some volume → Replies catalog m frame (A.Process v) result new
 
--- at most one handle more was made, one interface more stands and one notification more is registered, and there are as many flags as there were
+-- at most one handle was made, one interface added and one notification registered, and the number of flags is unchanged
 pub record GrowByOne (old new : Services) : Type 0 where
   pub made : new.handles.made ≤ old.handles.made + 1
   pub interfaces : length new.handles.interfaces ≤ length old.handles.interfaces + 1

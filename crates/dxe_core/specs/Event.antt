@@ -1,12 +1,12 @@
--- What an event of the machine did, beside its lines: the protocol that it changed, the driver that it requested, and how many volumes it discovered; and what it leaves.
--- Own; PI 1.8, volume 2, "Protocol Handler Services" and "DXE Services".
+-- What an event of the machine did, apart from its lines: the protocol that it changed, the driver that it requested, and how many volumes it discovered; and
+-- what it leaves. Own; PI 1.8, volume 2, "Protocol Handler Services" and "DXE Services".
 use Rattle.std.specs.Prelude.{◌≡◌, ℕ, true, List, ◌++◌, length, None, Some, IfSome, option_to_list}
 use Rattle.pi_base.specs.declared.guid.Guid.{Guid}
 use Rattle.mod_catalog.specs.{declared.catalogue.Catalog.Catalog, Parts.has_number}
 use Rattle.boot_model.specs.{DxeMachine.DxeMachine, DxeChoice.a_priori_drivers, DxeChoice.discovered_order}
 use Rattle.dxe_core.specs.declared.event.Event.{Event}
 
--- it did none of these
+-- an event that did none of these
 abbrev pub quiet : Event
 quiet = record { changed = None; requested = None; discovered = 0 }
 
@@ -26,7 +26,8 @@ discovers count = record quiet { discovered = count }
 abbrev pub IsDiscoveredDriver : Catalog → DxeMachine → ℕ → Type 0
 IsDiscoveredDriver catalog m number = has_number (discovered_order catalog m) number ≡ true
 
--- what an event leaves: the volumes that it discovered stand behind those that there were, and their a priori drivers behind the queue; so does the driver that it requested, one of a discovered volume; nothing has started
+-- what an event leaves: the volumes that it discovered are after those that there were, and their a priori drivers after the queue; so does the driver that it
+-- requested, one of a discovered volume; nothing has started
 pub record EventLeaves (catalog : Catalog) (event : Event) (m later : DxeMachine) : Type 0 where
   pub volumes : List ℕ
   pub count : event.discovered ≡ length volumes

@@ -12,6 +12,6 @@ lists_of lists = map (λ entry. (entry.0, entry.1.items)) lists.lists.entries
 abbrev pub numbers_under : NumberLists → Guid → List ℕ
 numbers_under lists name = numbers_at (lists_of lists) name
 
--- a number has come behind those of this name, if there is one, and each other name has those that it had
+-- a number was added to those of this name, if there is one, and each other name has those that it had
 abbrev pub IsPushed : NumberLists → Option Guid → ℕ → NumberLists → Type 0
 IsPushed old name number new = (other : Guid) → numbers_under new other ≡ numbers_under old other ++ (if gives other name then number ∷ [] else [])

@@ -24,7 +24,7 @@ pub record AreDriverNames (catalog : Catalog) (drivers : List ℕ) (names : Name
   pub afters_are : (name : Guid) → numbers_under names.afters name ≡ givers after_of catalog drivers name
   pub asking_are : (name : Guid) → numbers_under names.asking name ≡ askers catalog drivers name
 
--- the names of some drivers have become those of these drivers and others behind them
+-- the names of some drivers have become those of these drivers and others after them
 abbrev pub NamesGrow : Catalog → Names → List ℕ → Names → Type 0
 NamesGrow catalog old more new = (drivers : List ℕ) → AreDriverNames catalog drivers old → AreDriverNames catalog (drivers ++ more) new
 

@@ -1,5 +1,6 @@
--- The discovered volumes, their drivers in discovered order, the first driver of each file name, and for each file name the drivers whose BEFORE or whose AFTER gives it and those of this name that a request is waited for, in discovered order.
--- PI 1.8, volume 2, "DXE Dispatcher", "Dependency Expressions" and `Schedule()`; that they are kept by name is own.
+-- The discovered volumes, their drivers in discovered order, the first driver of each file name, and for each file name the drivers whose BEFORE or AFTER has
+-- it and those of this name that wait for a request, in discovered order. PI 1.8, volume 2, "DXE Dispatcher", "Dependency Expressions" and `Schedule()`; that
+-- they are kept by name is own.
 use Rattle.std.specs.Prelude.{◌≡◌, ℕ, Bool, false, ◌&&◌, if◌then◌else◌, List, [], ◌++◌, Option, Some, None, is_none, find, filter, unwrap_or}
 use Rattle.pi_base.specs.{declared.phase.Phase.TheVariants.Dxe, declared.guid.Guid.Guid, Guids.same_guid, GuidMap.value_of}
 use Rattle.mod_catalog.specs.{declared.catalogue.Catalog.Catalog, declared.catalogue.PartExpr.PartExpr}
@@ -25,11 +26,11 @@ numbers_at lists name = unwrap_or (value_of lists name) []
 abbrev pub first_driver : Drivers → Guid → Option ℕ
 first_driver order name = value_of order.first name
 
--- the drivers whose BEFORE gives a file name
+-- the drivers whose BEFORE has a file name
 abbrev pub befores_of : Drivers → Guid → List ℕ
 befores_of order name = numbers_at order.befores name
 
--- the drivers whose AFTER gives it
+-- the drivers whose AFTER has it
 abbrev pub afters_of : Drivers → Guid → List ℕ
 afters_of order name = numbers_at order.afters name
 
@@ -37,7 +38,7 @@ afters_of order name = numbers_at order.afters name
 abbrev pub asking_of : Drivers → Guid → List ℕ
 asking_of order name = numbers_at order.asking name
 
--- whether a driver's BEFORE, or its AFTER, gives this name
+-- whether a driver's BEFORE, or its AFTER, has this name
 abbrev pub gives : Guid → Option Guid → Bool
 gives name None = false
 gives name (Some other) = same_guid other name
@@ -64,7 +65,7 @@ pub record IsOrderOf (catalog : Catalog) (volumes : List ℕ) (order : Drivers) 
   pub afters_are : (name : Guid) → afters_of order name ≡ givers after_of catalog (drivers_of catalog volumes) name
   pub asking_are : (name : Guid) → asking_of order name ≡ askers catalog (drivers_of catalog volumes) name
 
--- what is kept of some volumes has become that of these volumes and others behind them: one that is new, and each nested in it that is
+-- what is kept of some volumes has become that of these volumes and others after them: one that is new, and each nested in it that is
 abbrev pub OrderGrows : Catalog → Drivers → ℕ → Drivers → Type 0
 OrderGrows catalog old volume new =
     (volumes : List ℕ) → IsOrderOf catalog volumes old → IsOrderOf catalog (volumes ++ newcomers catalog volumes (Some volume)) new

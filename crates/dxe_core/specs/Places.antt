@@ -1,4 +1,4 @@
--- Where interfaces stand in a list that is in order of handle.
+-- The places of interfaces in a list that is in order of handle.
 -- Own.
 use Rattle.std.specs.Prelude.{◌≡◌, ℕ, zero, suc, ◌<◌, ◌==◌, Bool, true, false, List, [], ◌∷◌, Option, Some, None, Result, Ok, Err}
 use Rattle.std.specs.List.{list_any}
@@ -7,7 +7,7 @@ use Rattle.store_model.specs.{declared.interface.Interface.Interface, HandleStat
 use Rattle.dxe_core.specs.declared.database.fault.HandleFault.{HandleFault}
 use Rattle.dxe_core.specs.declared.database.fault.HandleFault.TheVariants as F
 
--- the interfaces of a handle stand from one place to before another, those of lower handles before them, and those of higher ones behind
+-- the interfaces of a handle are from one place to before another, those of lower handles before them, and those of higher ones after
 abbrev pub IsStretch : ℕ → List Interface → ℕ → ℕ → Type 0
 IsStretch handle [] begin end = (begin ≡ 0) × (end ≡ 0)
 IsStretch handle (i ∷ is) (suc begin) (suc end) = (i.handle < handle) × IsStretch handle is begin end

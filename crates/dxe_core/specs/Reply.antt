@@ -1,5 +1,4 @@
--- What a call that takes an action of DXE's own answers: what the action does by the definition, with the machine behind it.
--- Own; PI 1.8, volume 2.
+-- What a call that takes an action of DXE's own answers: what the action does by the definition, with the machine after it. Own; PI 1.8, volume 2.
 use Rattle.std.specs.Prelude.{◌≡◌, ℕ, if◌then◌else◌, List, [], Result, Ok, Err, ⊤, option_to_list}
 use Rattle.pi_base.specs.{declared.guid.Guid.Guid, declared.memory.OutOfMemory.OutOfMemory, declared.word.Word.Word}
 use Rattle.act_code.specs.declared.action.Action.{Action}
@@ -12,7 +11,7 @@ use Rattle.boot_laws.specs.UnrequestedDrivers.{WaitForRequest}
 use Rattle.phase_parts.specs.Writes.{written}
 use Rattle.dxe_core.specs.{Event.EventLeaves, declared.reply.Reply.Reply, Services.Services, Services.AreServicesOf}
 
--- the machine's reply, by the registers before it, the machine behind it and the volumes that it discovered
+-- the machine's reply, by the registers before it, the machine after it and the volumes that it discovered
 abbrev pub reply_in : Reply → List Register → DxeMachine → List ℕ → DxeReply
 reply_in reply registers later volumes = record {
   status = reply.status;
@@ -23,11 +22,11 @@ reply_in reply registers later volumes = record {
   volumes = volumes;
 }
 
--- the protocols that an action changes whose call has this status: none, where it is refused
+-- the protocols that an action changes if its call has this status: none if it is refused
 abbrev pub changed_by : Action → Word → List Guid
 changed_by action status = if is_success status then changed_protocols action else []
 
--- what a service keeps beside what the services stand on and what its event leaves
+-- a service leaves the store, the count of actions, the lines and the end of the machine unchanged
 pub record KeepsRest (m later : DxeMachine) : Type 0 where
   pub store : later.store ≡ m.store
   pub actions : later.actions ≡ m.actions

@@ -1,5 +1,4 @@
--- Which of the drivers that a request is waited for it asks for, where flags tell which drivers were requested.
--- PI 1.8, volume 2, `Schedule()`.
+-- Which of the drivers that wait for a request have one, if flags say which drivers were requested. PI 1.8, volume 2, `Schedule()`.
 use Rattle.std.specs.Prelude.{ℕ, Bool, ◌&&◌, not, List, Option, is_some, slice_get, find}
 use Rattle.act_code.specs.declared.action.Action.{Action}
 use Rattle.mod_catalog.specs.declared.catalogue.Catalog.{Catalog}

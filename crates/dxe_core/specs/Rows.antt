@@ -1,4 +1,4 @@
--- A call answers as its row does; a refusal, and want of memory, leave the handles as they were.
+-- A call answers as its row says. A refusal, and running out of memory, leave the handles as they were.
 -- PI 1.8, volume 2, "Protocol Handler Services".
 use Rattle.std.specs.Prelude.{◌≡◌, Result, Ok, Err, IsOk, ⊤}
 use Rattle.pi_base.specs.declared.word.Word.TheVariants as W

@@ -1,5 +1,5 @@
--- What the services of DXE stand on: the handles, the notifications, the discovered volumes with their drivers, and which drivers were requested.
--- Own; PI 1.8, volume 2.
+-- What the services of DXE act on: the handles, the notifications, the discovered volumes with their drivers, and which drivers were requested. Own; PI 1.8,
+-- volume 2.
 use Rattle.std.specs.Prelude.{◌≡◌, ◌≤◌, ℕ, Bool, false, List, length, slice_get, unwrap_or}
 use Rattle.mod_catalog.specs.{declared.catalogue.Catalog.Catalog, Parts.has_number}
 use Rattle.store_model.specs.HandleState.{HandleState}
@@ -13,7 +13,7 @@ pub record Services : Type 0 where
   pub order : Drivers
   pub requested : List Bool
 
--- the flag of a module; one behind the flags has none
+-- the flag of a module; a number past the flags has none
 abbrev pub flag_at : List Bool → ℕ → Bool
 flag_at flags number = unwrap_or (slice_get flags number) false
 
@@ -32,7 +32,7 @@ pub record AreServicesOf (catalog : Catalog) (m : DxeMachine) (s : Services) : T
 abbrev pub AreServicesFor : Catalog → Services → Type 0
 AreServicesFor catalog s = length s.requested ≡ length catalog.modules
 
--- no more handles were made, interfaces stand and notifications are registered than actions were taken
+-- no more handles were made, interfaces added and notifications registered than actions were taken
 pub record AreCounted (actions : ℕ) (s : Services) : Type 0 where
   pub made : s.handles.made ≤ actions
   pub interfaces : length s.handles.interfaces ≤ actions

@@ -7,7 +7,7 @@ use Rattle.boot_model.specs.DxeMachine.{DxeMachine, DriverFrame}
 use Rattle.phase_parts.specs.declared.fuel.Fuel.{Fuel}
 use Rattle.dxe_core.specs.Services.{Services, AreCounted, AreServicesFor, AreServicesOf}
 
--- what is kept: the scripts that run, the actions that were taken and may be, and what the services stand on
+-- what is kept: the scripts that run, the actions that were taken and may be taken, and what the services act on
 pub record DxeCore : Type 0 where
   pub frames : List DriverFrame
   pub fuel : Fuel
@@ -26,7 +26,7 @@ pub record IsFor (catalog : Catalog) (fuel : ℕ) (core : DxeCore) : Type 0 wher
   pub counted : AreCounted core.fuel.taken core.services
   pub fuelled : core.fuel.limit ≡ fuel
 
--- the core beside its store stands for the machine
+-- the core with its store stands for the machine
 pub record StandsFor {M : Type 0} (stands : M → StoreState → Type 0) (held : M) (catalog : Catalog) (kept : DxeCore) (m : DxeMachine) : Type 0 where
   pub store : stands held m.store
   pub core : IsCoreOf catalog kept m

@@ -15,14 +15,14 @@ use Rattle.dxe_core.specs.declared.stepped.Stepped.TheVariants.{Went, Idle, Ende
 use Rattle.dxe_core.specs.Standing.{DxeCore, IsCoreOf, IsFor, StandsFor}
 use Rattle.boot_trace.specs.Printing.{Texts}
 
--- a call of the core: the core and the sink's text before it, and behind it
+-- a call of the core: the core and the sink's text before it, and after it
 pub record CoreCall : Type 0 where
   pub before : DxeCore
   pub later : DxeCore
   pub old : Option (List ℕ)
   pub new : Option (List ℕ)
 
--- what its sink holds, before it and behind it
+-- what its sink holds, before it and after it
 abbrev pub texts_of : CoreCall → Texts
 texts_of call = record { old = call.old; new = call.new }
 
@@ -36,12 +36,12 @@ pub record IsEvent (catalog : Catalog) (fuel : ℕ) (m : DxeMachine) (event : Ev
   pub others : (guid : Guid) → is_among guid (option_to_list event.changed) ≡ false → has_protocol (dxe_step catalog fuel m).handles guid ≡ has_protocol m.handles guid
   pub left : EventLeaves catalog event m (dxe_step catalog fuel m)
 
--- the machine is the later one now, and its lines were put
+-- the machine is the later one now, and its lines were written
 pub record HasStepped (Stands : DxeMachine → Type 0) (m later : DxeMachine) (t : Texts) : Type 0 where
   pub printed : Printed m later t
   pub machine : Stands later
 
--- the machine is as it was, and nothing was put
+-- the machine is as it was, and nothing was written
 pub record IsAsBefore (Stands : DxeMachine → Type 0) (m : DxeMachine) (t : Texts) : Type 0 where
   pub text : Appends t.old t.new []
   pub machine : Stands m
@@ -65,7 +65,7 @@ StepsTo Stands catalog fuel m t (Ok Idle) = IsIdle m × IsAsBefore Stands m t
 StepsTo Stands catalog fuel m t (Ok (Ended end)) = IsCutOff Stands catalog fuel m end t
 StepsTo Stands catalog fuel m t (Err halt) = PrintedPart m (dxe_step catalog fuel m) t
 
--- a step of the core, from each machine that it stands for beside its store, and in which drivers wait for their request
+-- a step of the core, from each machine that it stands for with its store, and in which drivers wait for their request
 abbrev pub Steps : {M : Type 0} → (M → StoreState → Type 0) → M → Catalog → CoreCall → Result Stepped Halt → Type 0
 Steps stands store catalog call result =
     (m : DxeMachine) (fuel : ℕ) → IsFor catalog fuel call.before → StandsFor stands store catalog call.before m → WaitForRequest catalog m

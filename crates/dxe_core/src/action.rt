@@ -21,7 +21,8 @@ use mod_catalog::Catalog;
 use pi_base::{OutOfMemory, Word};
 use store_model::PeiStore;
 
-/// Takes an action of a DXE script that scripts of PEI do not have, from the frame in which it stands: what the frame then holds is still to be written. A refusal changes nothing; want of memory leaves the services unfinished.
+/// Takes an action that only DXE scripts have. What it writes to its frame is still to be done by the caller. A refusal changes nothing. If memory runs out,
+/// the services are left unfinished.
 pub fn take_own<M: PeiStore>(
     services: &mut DxeServices,
     store: &M,

@@ -24,14 +24,14 @@ use std::alloc::Global;
 use std::marker::Model;
 use store_model::PeiStore;
 
-/// The DXE core, and the machine of DXE that it stands for beside its store, whatever is scheduled and has started.
+/// The DXE core. With its store it stands for a machine of DXE, apart from what is scheduled and has started.
 pub struct Dxe {
     pub(crate) frames: Frames<ProtocolSweep>,
     pub(crate) fuel: Fuel,
     pub(crate) services: DxeServices,
 }
 
-// What it is made of is dropped by one proof, which all that own one call.
+// One drop function for the whole core keeps the proofs of the calls that own one small.
 impl Drop for Dxe {
     fn drop(self) {
         let Dxe {
@@ -54,7 +54,8 @@ impl Model for Dxe {
 }
 
 impl Dxe {
-    /// The core at the opening: the volumes at these bases have just been discovered. `fuel` is how many actions may be taken, and `taken` how many PEI took.
+    /// The core at the opening: the volumes at these bases have just been discovered. `fuel` is how many actions may be taken, and `taken` how many of them PEI
+    /// took.
     pub fn begin(
         alloc: Global,
         catalog: &Catalog,
@@ -74,7 +75,7 @@ impl Dxe {
         })
     }
 
-    /// One step of the machine, with its lines.
+    /// Does one step of the machine, and prints its lines.
     pub fn step<M: PeiStore, S: Sink>(
         &mut self,
         store: &M,
@@ -102,7 +103,7 @@ impl Dxe {
         }
     }
 
-    /// A driver starts, by its licence, where no script runs.
+    /// Starts a driver, by its licence, if no script runs.
     pub fn start<S: Sink>(
         &mut self,
         catalog: &Catalog,
@@ -131,7 +132,7 @@ impl Dxe {
         self.services.handles()
     }
 
-    /// The handles, for whoever goes on behind DXE.
+    /// The handles, for what follows DXE.
     pub fn into_handles(self) -> Handles
         ensures { result ≡ self.services.handles }
     {
@@ -157,14 +158,14 @@ impl Dxe {
         self.services.requested()
     }
 
-    /// Whether no script runs: a start is left, or the end.
+    /// Whether no script runs: only a start or the end is left.
     pub fn is_idle(&self) -> bool
         ensures { IsTrue result ↔ (self.now.frames ≡ []) }
     {
         self.frames.top().is_none()
     }
 
-    /// The module whose script runs. None where none does.
+    /// The module whose script runs. None if no script runs.
     pub fn running(&self) -> Option<u32>
         ensures { result ≡ option_map (λ frame. frame.module_number) (top_of self.now.frames) }
     {
@@ -174,14 +175,14 @@ impl Dxe {
         }
     }
 
-    /// The actions that were taken, those of PEI with them.
+    /// How many actions were taken, those of PEI included.
     pub fn actions(&self) -> u32
         ensures { result ≡ self.now.fuel.taken }
     {
         self.fuel.taken
     }
 
-    /// How many actions may be taken.
+    /// How many actions may be taken in all.
     pub fn fuel(&self) -> u32
         ensures { result ≡ self.now.fuel.limit }
     {

@@ -4,7 +4,7 @@ ghost use Rattle.dxe_core.specs.Event as E;
 
 use pi_base::Guid;
 
-/// What an event of the machine did, beside its lines.
+/// What an event of the machine did, apart from its lines.
 #[derive(Clone, Copy)]
 pub struct Event {
     /// The protocol that it installed or uninstalled.
@@ -16,7 +16,7 @@ pub struct Event {
 }
 
 impl Event {
-    /// It did none of these.
+    /// An event that did none of these.
     pub fn quiet() -> Event
         ensures { result ≡ E.quiet }
     {

@@ -13,7 +13,7 @@ use boot_model::{CallName, DriverFrame, Extra, Register};
 use phase_parts::{Write, Writes, handle_in, number_in};
 use pi_base::{Guid, OutOfMemory, Word};
 
-// The handle in one register and the number in another, where both hold one.
+// The handle in one register and the number in another, if both hold one.
 fn handle_and_number(frame: &DriverFrame, h: u8, v: u8) -> Option<(u32, u64)>
     ensures { result ≡ both (R.handle_in frame.now.registers h) (R.number_in frame.now.registers v) }
 {
@@ -26,7 +26,7 @@ fn handle_and_number(frame: &DriverFrame, h: u8, v: u8) -> Option<(u32, u64)>
     }
 }
 
-// The handle in one register and the numbers in two others, where all hold one.
+// The handle in one register and the numbers in two others, if all three are there.
 fn handle_and_numbers(frame: &DriverFrame, h: u8, old: u8, new: u8) -> Option<(u32, (u64, u64))>
     ensures { result ≡ both (R.handle_in frame.now.registers h)
         (both (R.number_in frame.now.registers old) (R.number_in frame.now.registers new)) }

@@ -3,7 +3,7 @@
 //! the drivers of the discovered volumes: in discovered order, by the names of their files, with those that name them in BEFORE and AFTER, and those that a
 //! request is waited for.
 //!
-//! Tried in `boot_trials`: `tests`; in `choice_trials`: `calls`, `drivers`.
+//! Tested in `boot_trials`: `tests`; in `choice_trials`: `calls`, `drivers`.
 #![tactic(auto)]
 
 mod act;

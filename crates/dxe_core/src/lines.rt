@@ -31,7 +31,7 @@ pub(crate) fn start_line(catalog: &Catalog, next: &Scheduled) -> Line
     }
 }
 
-/// Puts a line for each volume that is discovered. Where the sink fails, a prefix of the text was put.
+/// Prints a line for each discovered volume. If the sink fails, a prefix of the text was written.
 pub fn put_volumes<S: Sink>(sink: &mut S, volumes: &[u32]) -> Result<(), SinkFault>
     ensures text { Puts result (S.text sink.old) (S.text sink.new) (text_of (discovery_lines volumes.now)) }
     ensures cause { SinkFaultsAfter result (S.faults sink.old) (S.faults sink.new) }
@@ -42,7 +42,7 @@ pub fn put_volumes<S: Sink>(sink: &mut S, volumes: &[u32]) -> Result<(), SinkFau
     Ok(())
 }
 
-/// Puts the line of a call, and one for each volume that it discovers. Where the sink fails, a prefix of their text was put.
+/// Puts the line of a call, and one for each volume that it discovers. If the sink fails, a prefix of their text was written.
 pub(crate) fn put_reply<S: Sink>(sink: &mut S, call: Line, volumes: &[u32]) -> Result<(), SinkFault>
     ensures text { Puts result (S.text sink.old) (S.text sink.new) (text_of (call ∷ discovery_lines volumes.now)) }
     ensures cause { SinkFaultsAfter result (S.faults sink.old) (S.faults sink.new) }

@@ -45,7 +45,7 @@ impl NumberLists {
         }
     }
 
-    // Puts a number behind those of a name.
+    // Puts a number after those of a name.
     fn push(&mut self, name: Guid, number: u32) -> Result<(), OutOfMemory>
         ensures { OnOk result (IsPushed self.old (Some name) number self.new) }
     {
@@ -62,7 +62,7 @@ impl NumberLists {
         }
     }
 
-    /// Puts a number behind those of a name, where a name is given.
+    /// Adds a number to those of a name, if a name is given.
     pub(crate) fn push_under(&mut self, name: Option<Guid>, number: u32) -> Result<(), OutOfMemory>
         ensures { OnOk result (IsPushed self.old name number self.new) }
     {

@@ -12,7 +12,7 @@ use phase_parts::{name_of, part_of};
 use pi_base::{Guid, GuidMap, OutOfMemory, Phase};
 use std::alloc::Global;
 
-/// For each file name its first driver, the drivers whose BEFORE and whose AFTER gives it, and those of this name that a request is waited for, each in discovered order.
+/// For each file name: its first driver, the drivers whose BEFORE or AFTER has it, and those of this name that wait for a request, each in discovered order.
 #[derive(Drop)]
 pub(crate) struct Names {
     pub(crate) first: GuidMap<u32>,
@@ -21,7 +21,7 @@ pub(crate) struct Names {
     pub(crate) asking: NumberLists,
 }
 
-// The names that the expression of a driver gives in BEFORE and in AFTER.
+// The names that a driver's expression has in BEFORE and in AFTER.
 fn given_by(catalog: &Catalog, number: u32) -> (Option<Guid>, Option<Guid>)
     ensures before { result.0 ≡ C.name_by C.before_of catalog.now number }
     ensures after { result.1 ≡ C.name_by C.after_of catalog.now number }
@@ -36,7 +36,8 @@ fn given_by(catalog: &Catalog, number: u32) -> (Option<Guid>, Option<Guid>)
     }
 }
 
-// Whether a driver starts on request alone: its expression begins with SOR (PI 1.8, volume 2, "Dependency Expressions"), and its volume's a priori list, which would have it scheduled without, has it not.
+// Whether a driver starts on request alone: its expression begins with SOR (PI 1.8, volume 2, "Dependency Expressions"), and it is not in its volume's a priori
+// list, which would schedule it without a request.
 fn waits_for_request(part: &Part) -> bool
     ensures { result ≡ (is_none part.now.rank && C.asks_for_request (Some part.now)) }
 {
@@ -62,7 +63,7 @@ fn name_asked(catalog: &Catalog, number: u32) -> Option<Guid>
     }
 }
 
-// Gives a name its first number, if it has none.
+// Sets the first number of a name, if it has none.
 fn put_first(first: &mut GuidMap<u32>, name: Guid, number: u32) -> Result<(), OutOfMemory>
     ensures { OnOk result (IsFirstOfName first.old name number first.new) }
 {

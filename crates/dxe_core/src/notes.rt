@@ -1,4 +1,4 @@
-// The notifications of protocols, in the order in which they were registered, and where those of a protocol stand.
+// The notifications of protocols, in the order of their registration, and the places of those of each protocol.
 ghost use Rattle.std.specs.Prelude.{◌≡◌, ◌∷◌, ◌++◌, [], OnOk, OnErr, length, option_copied, slice_get};
 ghost use Rattle.guid_lists.specs.Places.{IsFirstFrom};
 ghost use Rattle.dxe_core.specs.Notes.{is_note};
@@ -30,7 +30,7 @@ impl Model for Notes {
 }
 
 impl Notes {
-    /// None. It takes no memory.
+    /// No notifications. It allocates nothing.
     pub(crate) fn new(alloc: Global) -> Notes
         ensures { result ≡ [] }
     {
@@ -61,7 +61,7 @@ impl Notes {
         self.places.next(guid, from)
     }
 
-    /// Adds a notification behind the others. Where memory is wanting they stay as they were.
+    /// Adds a notification after the others. If memory runs out, they stay as they were.
     pub(crate) fn push(&mut self, note: ProtocolNote) -> Result<(), OutOfMemory>
         ensures ok { OnOk result (self.new ≡ self.old ++ note ∷ []) }
         ensures err { OnErr result (self.new ≡ self.old) }

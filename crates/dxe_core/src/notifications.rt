@@ -10,7 +10,7 @@ use boot_model::{CallName, DriverFrame, Extra, ProtocolNote};
 use phase_parts::Writes;
 use pi_base::{Guid, OutOfMemory};
 
-/// The action `notify`: the notification is behind those that are registered.
+/// The action `notify`: the notification is after those that are registered.
 pub(crate) fn notify(
     services: &mut DxeServices,
     frame: &DriverFrame,

@@ -15,7 +15,7 @@ use boot_trace::put_made;
 use mod_catalog::Catalog;
 use phase_parts::{begin_notification, notified};
 
-// The frame in which a notification runs: it is told the interface and the handle.
+// The frame in which a notification runs: it receives the interface and the handle.
 fn notification_frame(note: &ProtocolNote, sweep: &ProtocolSweep) -> DriverFrame
     ensures { result ≡ protocol_frame sweep.now note.now }
 {
@@ -27,7 +27,7 @@ fn notification_frame(note: &ProtocolNote, sweep: &ProtocolSweep) -> DriverFrame
     )
 }
 
-// The first notification of a sweep's protocol that it has still to visit, and the sweep behind it.
+// The first notification of a sweep's protocol that it has still to visit, and the sweep after it.
 fn next_of(services: &DxeServices, sweep: ProtocolSweep) -> Option<(ProtocolNote, ProtocolSweep)>
     ensures { (m : DxeMachine) → m.notes ≡ services.now.notes → result ≡ next_note m sweep }
 {
@@ -49,7 +49,7 @@ fn next_of(services: &DxeServices, sweep: ProtocolSweep) -> Option<(ProtocolNote
 }
 
 impl Dxe {
-    // The notification of the top frame's call that begins next, and the sweep behind it.
+    // The notification of the top frame's call that begins next, and the sweep after it.
     pub(crate) fn next_notification(&self) -> Option<(ProtocolNote, ProtocolSweep)>
         ensures { (m : DxeMachine) → m.notes ≡ self.now.services.notes → result ≡ next_of_top m self.now.frames }
     {
@@ -59,7 +59,7 @@ impl Dxe {
         }
     }
 
-    // The notification begins, unless as many frames stand as may.
+    // Begins a notification, unless the most frames are running.
     pub(crate) fn notify<S: Sink>(
         &mut self,
         catalog: &Catalog,

@@ -12,7 +12,7 @@ use pi_base::{Guid, OutOfMemory, Phase};
 use std::alloc::Global;
 use std::marker::Model;
 
-/// The discovered volumes and their drivers. Names are found by a map, whatever GUIDs the images choose.
+/// The discovered volumes and their drivers. A map finds drivers by name, whatever GUIDs the images choose.
 #[derive(Drop)]
 pub struct DriverOrder {
     volumes: VolumeList,
@@ -94,7 +94,7 @@ impl DriverOrder {
         Ok(count)
     }
 
-    /// Discovers one volume more, if it is new, and after it each volume nested in it that is. Want of memory leaves the order unfinished.
+    /// Discovers one more volume, if it is new, and after it each new volume nested in it. If memory runs out, the order is left unfinished.
     pub fn add(&mut self, catalog: &Catalog, volume: u32) -> Result<(), OutOfMemory>
         requires catalog { IsWellFormed catalog.now }
         requires order { (volumes : List ℕ) × IsOrderOf catalog.now volumes self.old }
@@ -105,14 +105,14 @@ impl DriverOrder {
         Ok(())
     }
 
-    /// The volumes, by number.
+    /// The numbers of the volumes, in discovered order.
     pub fn volumes(&self) -> &[u32]
         ensures { result.now ≡ self.now.volumes }
     {
         self.volumes.as_slice()
     }
 
-    /// The last so many of them.
+    /// The last `count` of the volumes.
     pub fn newest(&self, count: usize) -> &[u32]
         ensures { (before volumes : List ℕ) → self.now.volumes ≡ before ++ volumes → count ≡ length volumes
             → result.now ≡ volumes }
@@ -128,35 +128,35 @@ impl DriverOrder {
         self.volumes.has(volume)
     }
 
-    /// The drivers, by the numbers of their modules.
+    /// The numbers of the drivers' modules, in discovered order.
     pub fn drivers(&self) -> &[u32]
         ensures { result.now ≡ self.now.drivers }
     {
         self.drivers.as_slice()
     }
 
-    /// The first driver of a file name.
+    /// The first driver with a file name. None if no driver has it.
     pub fn named(&self, name: &Guid) -> Option<u32>
         ensures { result ≡ first_driver self.now name.now }
     {
         self.names.first.get(name)
     }
 
-    /// The drivers whose BEFORE gives a file name.
+    /// The drivers whose BEFORE has this file name.
     pub fn befores(&self, name: &Guid) -> &[u32]
         ensures { result.now ≡ befores_of self.now name.now }
     {
         self.names.befores.of(name)
     }
 
-    /// The drivers whose AFTER gives a file name.
+    /// The drivers whose AFTER has this file name.
     pub fn afters(&self, name: &Guid) -> &[u32]
         ensures { result.now ≡ afters_of self.now name.now }
     {
         self.names.afters.of(name)
     }
 
-    /// The drivers of a file name that a request is waited for: they start on request alone, and their volumes' a priori lists have them not.
+    /// The drivers with a file name that wait for a request: they start on request alone, and are not in their volumes' a priori lists.
     pub fn asking(&self, name: &Guid) -> &[u32]
         ensures { result.now ≡ asking_of self.now name.now }
     {

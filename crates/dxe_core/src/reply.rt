@@ -8,7 +8,7 @@ use boot_model::{CallName, Extra, ProtocolSweep};
 use phase_parts::Writes;
 use pi_base::{OutOfMemory, Word};
 
-/// What a service answers to a script.
+/// The answer of a service to a script.
 #[derive(Drop)]
 pub struct Reply {
     pub name: CallName,
@@ -66,7 +66,7 @@ impl Reply {
         }
     }
 
-    // The same of a call that did this.
+    // The same answer, of a call that did this.
     pub(crate) fn did(mut self, event: Event) -> Reply
         ensures { result ≡ A.did event self }
     {
@@ -74,7 +74,7 @@ impl Reply {
         self
     }
 
-    // What a script is told of a fault of the handles. Want of memory is no answer to it.
+    // The answer to a script if the handles refuse. Running out of memory is not an answer.
     pub(crate) fn refused(name: CallName, fault: HandleFault) -> Result<Reply, OutOfMemory>
         ensures { result ≡ A.refused name fault }
     {

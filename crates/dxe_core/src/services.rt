@@ -1,4 +1,4 @@
-//! What the services of DXE stand on.
+//! What the services of DXE act on.
 ghost use Rattle.std.specs.Prelude.{◌≡◌, ◌<◌, ◌^◌, [], ℕ, length, IfOk, slice_get, option_copied, replicate, false};
 ghost use Rattle.store_model.specs.StoreState.{StoreState};
 ghost use Rattle.mod_catalog.specs.WellFormed.{IsWellFormed};
@@ -15,7 +15,7 @@ use pi_base::{Guid, OutOfMemory, Seq};
 use std::alloc::Global;
 use std::marker::Model;
 
-/// What the services of DXE stand on: the handles, the notifications, the discovered volumes with their drivers, and the requests.
+/// What the services of DXE act on: the handles, the notifications, the discovered volumes with their drivers, and the requests.
 #[derive(Drop)]
 pub struct DxeServices {
     pub(crate) handles: Handles,
@@ -47,7 +47,7 @@ fn flags_down(alloc: Global, count: usize) -> Result<Seq<bool>, OutOfMemory>
 }
 
 impl DxeServices {
-    /// At the opening: the volumes at these bases are discovered, and there is no handle, no notification and no request.
+    /// The services at the opening: the volumes at these bases are discovered, and there is no handle, no notification and no request.
     pub fn begin(
         alloc: Global,
         catalog: &Catalog,
@@ -59,7 +59,7 @@ impl DxeServices {
         ensures made { IfOk result (AreServicesFor catalog.now) }
         ensures counted { IfOk result (AreCounted 0) }
     {
-        // The flags first: less is dropped where memory ends.
+        // The flags first: less is dropped if memory ends.
         let requested = flags_down(alloc, catalog.modules.len())?;
         let order = DriverOrder::discover(alloc, catalog, bases)?;
         Ok(DxeServices {
@@ -77,7 +77,7 @@ impl DxeServices {
         &self.handles
     }
 
-    /// The handles, for whoever goes on behind DXE.
+    /// The handles, for what follows DXE.
     pub fn into_handles(self) -> Handles
         ensures { result ≡ self.handles }
     {
@@ -91,7 +91,7 @@ impl DxeServices {
         &self.order
     }
 
-    /// The notification in a place, in the order in which they were registered.
+    /// The notification at a place, from 0, in the order of registration. None past the last.
     pub fn note(&self, place: u32) -> Option<&ProtocolNote>
         ensures { option_copied result ≡ slice_get self.now.notes place }
     {

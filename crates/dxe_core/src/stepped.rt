@@ -9,6 +9,6 @@ pub enum Stepped {
     Went(Event),
     /// Nothing: no script runs. A start is left, or the end.
     Idle,
-    /// Nothing: DXE ends by `Spent` or by `Deep`. The machine is as it was, and nothing was put.
+    /// Nothing: DXE ends by `Spent` or by `Deep`. The machine is as it was, and nothing was written.
     Ended(DxeEnd),
 }

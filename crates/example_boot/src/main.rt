@@ -15,7 +15,7 @@ const ORDER_LIMIT: usize = 0x100_0000;
 /// The most starts that are followed.
 const MOST_STARTS: usize = 0xFFFF_FFFF;
 
-// Counts the lines that are put, and keeps none.
+// A sink that counts lines and keeps none.
 #[derive(Drop)]
 struct LineCount {
     lines: u64,
@@ -24,7 +24,7 @@ struct LineCount {
 impl Sink for LineCount {
     ghost use Rattle.std.specs.Prelude.{None};
 
-    // It tells nothing of the text, and never fails.
+    // Its text is never known, and it never fails.
     ghost text = { λ _. None };
 
     ghost faults = { λ _. 0 };
@@ -60,13 +60,13 @@ fn put_count(rt: &HostRuntime) -> io::Result<()> {
     println!(rt; "{lines} lines, status {status}")
 }
 
-// A GUID, behind a space.
+// A GUID, after a space.
 fn put_guid(rt: &HostRuntime, guid: &Guid) -> io::Result<()> {
     io::writer(rt).write_all(b" ")?;
     io::writer(rt).write_all(guid.to_text().as_slice())
 }
 
-// What stands against the start of a line.
+// Prints why the start of a line is not possible.
 fn put_against(rt: &HostRuntime, line: u32, against: &Against) -> io::Result<()> {
     println!(rt; "no {line}")?;
     match against {

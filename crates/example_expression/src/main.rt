@@ -10,7 +10,7 @@ use std::io::{self, Write};
 // SOR, TRUE, NOT, END, as a section of type 13 has them.
 const EXPRESSION: [u8; 4] = [0x09, 0x06, 0x05, 0x08];
 
-// The text of an expression of DXE, or the offset from which on there is none.
+// The text of an expression of DXE, or the offset at which there is none.
 fn text_of(alloc: Global, bytes: &[u8]) -> Result<Seq<u8>, DepexFault> {
     let depex = read_depex(alloc, bytes, Phase::Dxe)?;
     match print_depex(alloc, &depex) {

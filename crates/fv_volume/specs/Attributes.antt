@@ -59,7 +59,7 @@ attributes_byte attributes large = alignment_bits attributes.alignment + (if att
 abbrev pub alignment_with : ℕ → Option Alignment
 alignment_with bits = find (λ alignment. alignment_bits alignment == bits) ALIGNMENTS
 
--- those of a file that may stand anywhere
+-- the attributes of a file without an alignment
 abbrev pub plain_attributes : FileAttributes
 plain_attributes = record { fixed = false; alignment = Byte }
 

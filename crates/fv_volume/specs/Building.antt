@@ -1,4 +1,4 @@
--- A built volume, and what stands against one. (PI 1.8, volume 3, firmware volumes.)
+-- A built volume, and why one cannot be built. (PI 1.8, volume 3, firmware volumes.)
 use Rattle.std.specs.Prelude.{◌≡◌, ℕ, ◌+◌, ◌-◌, ◌^◌, List, ◌++◌, length, map, replicate, min, Option, Some, None, if◌then◌else◌, nat_lt}
 use Rattle.std.specs.List.{list_any}
 use Rattle.fv_volume.specs.{declared.frame.TheConstants.ALIGNMENT, declared.search.TheConstants.MOST_FILES}
@@ -10,7 +10,7 @@ use Rattle.fv_volume.specs.declared.build.volume_header.VolumeForm.{VolumeForm}
 use Rattle.fv_volume.specs.Header.{head_of, plain, volume_header}
 use Rattle.fv_volume.specs.Front.{ext_at, name_part, front_len}
 
--- the files behind so many bytes, each at the next multiple of 8, with erased bytes between
+-- the files after so many bytes, each at the next multiple of 8, with erased bytes between
 abbrev pub files_bytes : FileSystem → ℕ → List NewFile → List ℕ
 files_bytes file_system from files = laid ALIGNMENT ERASED from (map (file_bytes file_system) files)
 
@@ -18,7 +18,7 @@ files_bytes file_system from files = laid ALIGNMENT ERASED from (map (file_bytes
 abbrev pub need : FileSystem → ℕ → List NewFile → ℕ
 need file_system from files = from + length (files_bytes file_system from files)
 
--- the files behind so many bytes of a volume of this length, and erased bytes behind them
+-- the files after so many bytes of a volume of this length, and erased bytes after them
 abbrev pub filled_from : FileSystem → ℕ → List NewFile → ℕ → List ℕ
 filled_from file_system from files len = files_bytes file_system from files ++ replicate (len - need file_system from files) ERASED
 
@@ -32,11 +32,11 @@ volume_bytes form name files len =
 abbrev pub built_as : VolumeForm → List NewFile → ℕ → List ℕ
 built_as form files len = volume_bytes form None files len
 
--- one with the usual header that tells of no attributes but its erase polarity
+-- a volume with the usual header, with no attributes but its erase polarity
 abbrev pub built : FileSystem → List NewFile → ℕ → List ℕ
 built file_system files len = built_as (plain file_system) files len
 
--- what stands first against files behind so many bytes of a volume of this length, in this order; nothing where they have room
+-- the first reason why files cannot be laid after so many bytes of a volume of this length, in this order; nothing if they have room
 abbrev pub fault_from : FileSystem → ℕ → List NewFile → ℕ → Option BuildFault
 fault_from file_system from files len =
     if nat_lt MOST_FILES (length files) then Some TooMany
@@ -44,11 +44,11 @@ fault_from file_system from files len =
     else if nat_lt len (need file_system from files) then Some (NoRoom (min (need file_system from files) (2 ^ 64 - 1)) len)
     else None
 
--- what stands first against a volume; nothing where it can be built
+-- the first reason why a volume cannot be built; nothing if it can
 abbrev pub volume_fault : VolumeForm → Option VolumeName → List NewFile → ℕ → Option BuildFault
 volume_fault form name files len = fault_from form.file_system (front_len form name) files len
 
--- a refusal tells what stands against the volume; memory can be wanting only where nothing does
+-- a refusal gives the reason why the volume cannot be built; memory runs out only if there is no such reason
 abbrev pub IsRefusal : VolumeForm → Option VolumeName → List NewFile → ℕ → BuildFault → Type 0
 IsRefusal form name files len Memory = volume_fault form name files len ≡ None
 IsRefusal form name files len fault = volume_fault form name files len ≡ Some fault

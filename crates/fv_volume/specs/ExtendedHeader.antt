@@ -5,11 +5,11 @@ use Rattle.fv_volume.specs.{declared.volume_header.TheConstants.EXT_HEADER_OFFSE
 use Rattle.fv_volume.specs.{declared.volume_header.VolumeHeader.VolumeHeader, declared.extended_header.ExtendedHeader.ExtendedHeader}
 use Rattle.fv_volume.specs.{declared.fault.VolFault.VolFault, declared.fault.VolCause.TheVariants.ExtHeader}
 
--- the extended header lacks its place
+-- the extended header is not at a valid place
 abbrev pub misplaced : Result (Option ExtendedHeader) VolFault
 misplaced = Err (record { at = EXT_HEADER_OFFSET_AT; cause = ExtHeader })
 
--- the extended header of a place and ExtHeaderSize: behind the header and inside FvLength
+-- the extended header of a place and ExtHeaderSize: after the header and inside FvLength
 abbrev pub extended_with : List ℕ → VolumeHeader → ℕ → ℕ → Result (Option ExtendedHeader) VolFault
 extended_with bytes header at size =
     if at == 0 then Ok None

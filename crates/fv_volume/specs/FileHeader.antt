@@ -15,11 +15,11 @@ fields_at image at len size = record {
   size = size;
 }
 
--- whether a large file's header stands at a place: only FFS3 has them
+-- whether a large file's header is at a place: only FFS3 has them
 abbrev pub is_large : List ℕ → Format → ℕ → Bool
 is_large image format at = format.large_files && is_set (slice_index image (at + ATTRIBUTES_AT)) LARGE_FILE
 
--- the header at a place, none where it passes the end; a large file has its size in ExtendedSize
+-- the file header at an offset, none if it passes the end; a large file has its size in ExtendedSize
 abbrev pub file_header : List ℕ → Format → ℕ → Option FileHeader
 file_header image format at =
     if not (is_large image format at) then Some (fields_at image at HEADER_LEN (little_number 3 (drop (at + SIZE_AT) image)))

@@ -15,7 +15,7 @@ state_of_bits bits =
     else if is_set bits HEADER_CONSTRUCTION then HeaderConstruction
     else Blank
 
--- a bit is set where the State byte differs from an erased one
+-- a bit is set if the State byte differs there from an erased one
 abbrev pub file_state : ℕ → ℕ → FileState
 file_state erased byte = state_of_bits (bit_xor byte erased)
 

@@ -1,4 +1,4 @@
--- The two file systems, and the sizes that their fields can tell. (PI 1.8, volume 3.)
+-- The two file systems, and the sizes that their fields can hold. (PI 1.8, volume 3.)
 use Rattle.std.specs.Prelude.{ℕ, List}
 use Rattle.fv_volume.specs.declared.volume_header.TheConstants.{FFS2, FFS3}
 use Rattle.fv_volume.specs.declared.build.file_system.TheConstants.{MOST_SIZE, MOST_EXTENDED_SIZE}

@@ -10,7 +10,7 @@ use Rattle.fv_volume.specs.ExtendedHeader.{extended_header}
 abbrev pub aligned : ℕ → ℕ
 aligned n = (n + (ALIGNMENT - 1)) / ALIGNMENT * ALIGNMENT
 
--- the search begins behind the extended header, or behind the header where there is none
+-- the search begins after the extended header, or after the header if there is none
 abbrev pub frame_with : VolumeHeader → Option ExtendedHeader → Frame
 frame_with header None = record { len = header.len; name = None; start = aligned header.header_len; format = format_of header }
 frame_with header (Some extended) = record { len = header.len; name = Some extended.name; start = aligned extended.end; format = format_of header }

@@ -1,4 +1,4 @@
--- The generated volume (own): n modules, each waiting for the PPI of the one at half its number, which stands behind it.
+-- The generated volume (own): n modules, each waiting for the PPI of the one at half its number, which is after it.
 use Rattle.std.specs.Prelude.{ℕ, suc, zero, ◌+◌, ◌-◌, ◌/◌, ◌%◌, Bool, false, List, [], ◌∷◌, ◌++◌, map, replicate, ◌==◌, if◌then◌else◌}
 use Rattle.pi_base.specs.{declared.guid.Guid.Guid, declared.phase.Phase.TheVariants.Pei, declared.word.Word.TheVariants.Success}
 use Rattle.fv_volume.specs.declared.file_type.TheConstants.{PEIM}
@@ -21,7 +21,7 @@ numbered family number = record { 0 = family ∷ (replicate 13 0 ++ number / 256
 abbrev pub installs : ℕ → ℕ → Guid → ℕ → List Action
 installs r d ppi value = Set r value ∷ Desc d 0 (Inline ppi) r ∷ Install (d ∷ []) ∷ []
 
--- the first module says where permanent memory is
+-- the first module reports permanent memory
 abbrev pub memory_said : Bool → List Action
 memory_said first = if first then Set 2 MEMORY_BASE ∷ Set 3 MEMORY_LEN ∷ Memory 2 3 ∷ [] else []
 
@@ -36,7 +36,7 @@ actions_of first last i = installs 0 1 (numbered PPIS i) i ++ (memory_said first
 abbrev pub script_of : Bool → Bool → ℕ → Script
 script_of first last i = record { phase = Pei; blocks = actions_of first last i ∷ [] }
 
--- the bytes of an expression that holds where a PPI is installed
+-- the bytes of an expression that is true once a PPI is installed
 abbrev pub waits_for : Guid → List ℕ
 waits_for ppi = bytes_of (instructions (Expr false (Push ppi)))
 

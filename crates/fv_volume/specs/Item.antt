@@ -1,4 +1,4 @@
--- What stands at a place of a volume: a dead header, or a file that is skipped, a pad or listed.
+-- What is at a place of a volume: a dead header, or a file that is skipped, a pad or listed.
 -- (PI 1.8, volume 3, the firmware file system.)
 use Rattle.std.specs.Prelude.{ℕ, ◌+◌, ◌-◌, List, [], ◌∷◌, length, take, drop, slice_index, Option, Some, None, Result, Ok, Err, if◌then◌else◌, not, ◌==◌}
 use Rattle.fv_volume.specs.declared.file_header.TheConstants.{HEADER_LEN, STATE_AT}

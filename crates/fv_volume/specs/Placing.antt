@@ -1,4 +1,4 @@
--- How texts are placed one behind another.
+-- How texts are placed one after another.
 use Rattle.std.specs.Prelude.{ℕ, ◌+◌, ◌-◌, ◌%◌, List, [], ◌∷◌, ◌++◌, length, replicate}
 
 -- how many bytes there are from a place to the next multiple of an alignment
@@ -11,7 +11,7 @@ laid alignment between from [] = []
 laid alignment between from (text ∷ rest) =
     replicate (gap alignment from) between ++ (text ++ laid alignment between (from + gap alignment from + length text) rest)
 
--- one behind the other
+-- one after the other
 abbrev pub joined : List (List ℕ) → List ℕ
 joined [] = []
 joined (text ∷ rest) = text ++ joined rest

@@ -23,7 +23,7 @@ AreEach Is (x ∷ xs) [] = ⊥
 abbrev pub IsSectionRead : List ℕ → NewSection → Section → Type 0
 IsSectionRead bytes section read = (read.kind ≡ section.kind) × (take read.body_len (drop read.body_at bytes) ≡ section.body)
 
--- the reader of sections takes so many, and opens none of these types
+-- the reader of sections accepts so many, and opens none of these types
 abbrev pub AreReadable : List NewSection → Type 0
 AreReadable sections = (length sections ≤ MOST_SECTIONS) × All (λ section. (section.kind ≢ COMPRESSION) × (section.kind ≢ GUID_DEFINED)) sections
 
@@ -31,7 +31,7 @@ AreReadable sections = (length sections ≤ MOST_SECTIONS) × All (λ section. (
 abbrev pub AreSectionsRead : List ℕ → List NewSection → Type 0
 AreSectionsRead body sections = (read : List Section) × AreSections body read × AreEach (IsSectionRead body) sections read
 
--- the bytes behind a file's header are those that were handed in, or its sections are
+-- the bytes after a file's header are those that were handed in, or its sections are
 abbrev pub IsBodyRead : List ℕ → Body → Type 0
 IsBodyRead bytes (Sections sections) = AreReadable sections → AreSectionsRead bytes sections
 IsBodyRead bytes (Bytes body) = bytes ≡ body
@@ -47,7 +47,7 @@ pub record IsFileRead (bytes : List ℕ) (file : NewFile) (read : FfsFile) : Typ
 abbrev pub listed : List NewFile → List NewFile
 listed files = filter (λ file. not (file.kind == PAD)) files
 
--- where the files stand that a reader lists, if files are laid from this place on, each at the next multiple of 8
+-- the places of the files that a reader lists, if files are laid from this place on, each at the next multiple of 8
 abbrev pub listed_at : FileSystem → ℕ → List NewFile → List ℕ
 listed_at file_system from [] = []
 listed_at file_system from (file ∷ files) =
@@ -63,7 +63,7 @@ pub record IsReadBack (files : List NewFile) (bytes : List ℕ) : Type 0 where
   pub no_name : volume.name ≡ None
   pub are_files : AreEach (IsFileRead bytes) (listed files) volume.files
 
--- a name has sixteen bytes, and a place that its field can tell
+-- a name has sixteen bytes, and a place that fits its field
 abbrev pub IsWhole : Option VolumeName → Type 0
 IsWhole None = ⊤
 IsWhole (Some name) = (length name.guid.0 ≡ 16) × (name.at < 2 ^ 16)
@@ -72,7 +72,7 @@ abbrev pub guid_of : Option VolumeName → Option Guid
 guid_of None = None
 guid_of (Some name) = Some name.guid
 
--- the bytes are a volume of all of them, of this length and with this name, or with none, whose files are those that were handed in, pads aside, each at
+-- the bytes are a volume of all of them, of this length and with this name, or with none, whose files are those that were handed in, without the pads, each at
 -- its place
 pub record IsReadAs (form : VolumeForm) (name : Option VolumeName) (files : List NewFile) (len : ℕ) (bytes : List ℕ) : Type 0 where
   pub volume : Volume

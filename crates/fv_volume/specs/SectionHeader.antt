@@ -1,4 +1,4 @@
--- The header of a section, and what stands at a place of a stream.
+-- The header of a section, and what is at a place of a stream.
 -- (PI 1.8, volume 3, `EFI_COMMON_SECTION_HEADER` and `EFI_COMMON_SECTION_HEADER2`.)
 use Rattle.std.specs.Prelude.{ℕ, ◌+◌, ◌-◌, List, length, drop, slice_index, Option, Some, None, Result, Ok, Err, if◌then◌else◌, ◌==◌, nat_lt}
 use Rattle.pi_base.specs.Field.{little_number}
@@ -8,13 +8,13 @@ use Rattle.fv_volume.specs.{declared.sections.section_header.SectionHeader.Secti
 use Rattle.fv_volume.specs.declared.sections.fault.SecCause.{SecCause}
 use Rattle.fv_volume.specs.declared.sections.fault.SecCause.TheVariants.{Size, Compressed, GuidDefined}
 
--- the header of an extended section, none where it passes the end
+-- the header of an extended section, none if it passes the end
 abbrev pub extended_header_at : List ℕ → ℕ → ℕ → Option SectionHeader
 extended_header_at bytes at kind =
     if nat_lt (length bytes) (at + EXTENDED_HEADER_LEN) then None
     else Some (record { kind = kind; len = EXTENDED_HEADER_LEN; size = little_number 4 (drop (at + EXTENDED_SIZE_AT) bytes) })
 
--- the header at a place, none where it passes the end: an extended section has its size in the field ExtendedSize
+-- the header at a place, none if it passes the end: an extended section has its size in the field ExtendedSize
 abbrev pub header_at : List ℕ → ℕ → Option SectionHeader
 header_at bytes at =
     let kind = slice_index bytes (at + TYPE_AT) in

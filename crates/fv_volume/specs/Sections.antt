@@ -6,7 +6,7 @@ use Rattle.fv_volume.specs.{declared.sections.stream.TheConstants.ALIGNMENT, dec
 use Rattle.fv_volume.specs.{declared.build.new_file.NewSection.NewSection, Placing.laid}
 use Rattle.fv_volume.specs.FileSystems.{FileSystem, Ffs2, Ffs3, most_section}
 
--- a section with so many bytes of body is extended in FFS3 where the Size field cannot tell its size
+-- a section with so many bytes of body is extended in FFS3 if its size does not fit the Size field
 abbrev pub is_extended : FileSystem → ℕ → Bool
 is_extended Ffs2 body_len = false
 is_extended Ffs3 body_len = nat_lt MOST_SIZE (HEADER_LEN + body_len)
@@ -29,6 +29,6 @@ section_bytes file_system section = section_header file_system section.kind (len
 abbrev pub body_bytes : FileSystem → List NewSection → List ℕ
 body_bytes file_system sections = laid ALIGNMENT 0 0 (map (section_bytes file_system) sections)
 
--- no size field can tell a section's size
+-- a section is too long for its size fields
 abbrev pub is_section_too_long : FileSystem → NewSection → Bool
 is_section_too_long file_system section = nat_lt (most_section file_system) (section_size file_system (length section.body))

@@ -9,7 +9,7 @@ use Rattle.fv_volume.specs.declared.volume_header.FileSystem.TheVariants.{Ffs2, 
 use Rattle.fv_volume.specs.declared.fault.VolCause.{VolCause}
 use Rattle.fv_volume.specs.declared.fault.VolCause.TheVariants.{Signature, Revision, FileSystem as UnknownFileSystem, Length, HeaderLength, HeaderSum}
 
--- the file system whose GUID stands in the header
+-- the file system whose GUID is in the header
 abbrev pub file_system_at : List ℕ → FileSystem
 file_system_at bytes =
     let guid = take GUID_LEN (drop FILE_SYSTEM_AT bytes) in

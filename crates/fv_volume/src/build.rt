@@ -1,6 +1,6 @@
 //! Firmware volumes from lists of files, with a name or without, which the readers of volumes and sections read back.
 //!
-//! Tried in `volume_trials`: `building`, `volume_texts`.
+//! Tested in `volume_trials`: `building`, `volume_texts`.
 
 mod attributes;
 mod fault;

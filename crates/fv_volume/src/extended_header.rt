@@ -1,4 +1,4 @@
-//! The extended header of a volume, which gives its name.
+//! The extended header of a volume, which holds its name.
 ghost use Rattle.std.specs.Prelude.{◌≡◌, ◌≤◌, length, IfOk, IfSome};
 ghost use Rattle.fv_volume.specs.ExtendedHeader.{extended_header};
 
@@ -16,11 +16,11 @@ pub const EXT_HEADER_LEN: usize = 20;
 pub(crate) struct ExtendedHeader {
     /// FvName.
     pub name: Guid,
-    /// The offset of the first byte behind it and its entries, counted from the volume's start.
+    /// The offset of the first byte after it and its entries, counted from the volume's start.
     pub end: usize,
 }
 
-/// The extended header, none where ExtHeaderOffset is 0.
+/// The extended header. None if ExtHeaderOffset is 0.
 pub(crate) fn extended_header(
     bytes: &[u8],
     header: &VolumeHeader,

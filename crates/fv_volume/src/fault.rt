@@ -4,7 +4,7 @@ ghost use Rattle.fv_volume.specs.declared.fault.VolCause.TheVariants.{Memory};
 
 use pi_base::OutOfMemory;
 
-/// What is wrong with a volume. The numbers are own.
+/// What is wrong with a volume. The project chose the numbers.
 #[derive(Clone, Copy, Debug, PartialEq, Eq)]
 pub enum VolCause {
     /// Fewer bytes than the least header has.
@@ -35,8 +35,7 @@ pub enum VolCause {
     Memory = 13,
 }
 
-/// What is wrong, and where: `at` is an offset from the volume's start, that of the field or of the
-/// file's header, and 0 for want of memory.
+/// What is wrong, and where. `at` is an offset from the volume's start: that of the field or of the file's header, or 0 if memory ran out.
 #[derive(Clone, Copy, Debug, PartialEq, Eq)]
 pub struct VolFault {
     pub at: u64,

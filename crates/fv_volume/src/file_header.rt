@@ -40,7 +40,7 @@ pub const LARGE_FILE: u8 = 0x01;
 /// `FFS_ATTRIB_CHECKSUM`.
 pub const CHECKSUM: u8 = 0x40;
 
-/// `FFS_FIXED_CHECKSUM`: the file checksum of a file whose body has none.
+/// `FFS_FIXED_CHECKSUM`: the file checksum of a file whose body is not summed.
 pub const FIXED_CHECKSUM: u8 = 0xaa;
 
 /// The fields of a file's header that are read.
@@ -72,7 +72,7 @@ fn fields_at(image: &[u8], at: usize, len: usize, size: usize) -> FileHeader
     }
 }
 
-/// The header at a place; none where it passes the volume's end.
+/// The file header at an offset. None if it passes the volume's end.
 pub(crate) fn file_header(image: &[u8], format: Format, at: usize) -> Option<FileHeader>
     requires { at + HEADER_LEN ≤ length image.now }
     ensures header { result ≡ file_header image.now format at }

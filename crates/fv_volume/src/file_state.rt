@@ -22,7 +22,7 @@ pub const DELETED: u8 = 0x10;
 /// `EFI_FILE_HEADER_INVALID`.
 pub const HEADER_INVALID: u8 = 0x20;
 
-/// How far a file has come, by the highest bit of its state.
+/// How far the writing of a file has come, by the highest bit of its state.
 ///
 /// PI 1.8, volume 3, file integrity and state.
 #[derive(Clone, Copy)]
@@ -37,7 +37,7 @@ pub(crate) enum FileState {
     HeaderInvalid,
 }
 
-/// The state that a State byte tells; a bit is set where it differs from an erased byte's.
+/// The state that a State byte encodes. A bit is set if it differs from that of an erased byte.
 pub(crate) fn file_state(erased: u8, byte: u8) -> FileState
     ensures { result ≡ file_state erased byte }
 {

@@ -17,14 +17,14 @@ pub const ALIGNMENT: usize = 8;
 pub(crate) struct Frame {
     /// The volume's bytes, headers and all.
     pub len: usize,
-    /// FvName of the extended header, where there is one.
+    /// FvName of the extended header, if there is one.
     pub name: Option<Guid>,
-    /// Where the search for files begins, counted from the volume's start.
+    /// The offset at which the search for files begins, counted from the volume's start.
     pub start: usize,
     pub format: Format,
 }
 
-/// A place rounded up to where a file may begin.
+/// An offset rounded up to where a file may begin.
 pub(crate) fn aligned(at: usize) -> usize
     requires { at + ALIGNMENT ≤ usize.MAX }
     ensures { result ≡ aligned at }

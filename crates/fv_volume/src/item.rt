@@ -1,4 +1,4 @@
-//! What stands at a place of a volume.
+//! What is at a place of a volume.
 ghost use Rattle.std.specs.Prelude.{◌≡◌, ◌≤◌, ◌+◌, length};
 ghost use Rattle.fv_volume.specs.Item.{item_at, item_of};
 
@@ -25,7 +25,7 @@ pub(crate) enum ItemKind {
     Listed(FfsFile),
 }
 
-/// What stands at a place, and the offset of the first byte behind it.
+/// What is at a place, and the offset of the first byte after it.
 #[derive(Clone, Copy)]
 pub(crate) struct Item {
     pub kind: ItemKind,

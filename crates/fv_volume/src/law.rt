@@ -3,7 +3,7 @@ ghost use Rattle.std.specs.Prelude.{◌≡◌, ◌<◌, ◌≤◌, ◌⊎◌, le
 ghost use Rattle.fv_volume.specs.{Volume.IsVolume, Volume.IsFirstFault, declared.volume.Volume.Volume, declared.fault.VolFault.VolFault};
 ghost use Rattle.fv_volume.specs.Places.{AreInside, AreWithin, AreInOrder};
 
-/// All bytes are a volume or have a first fault, never both, and one volume or one fault.
+/// Bytes are one volume, or they have one first fault, and never both.
 pub fn one_reading()
     ensures volumes { (bytes : List ℕ) (a b : Volume) → IsVolume bytes a → IsVolume bytes b → a ≡ b }
     ensures faults { (bytes : List ℕ) (a b : VolFault) → IsFirstFault bytes a → IsFirstFault bytes b → a ≡ b }
@@ -11,7 +11,7 @@ pub fn one_reading()
     ensures some { (bytes : List ℕ) → ((a : Volume) × IsVolume bytes a) ⊎ ((b : VolFault) × IsFirstFault bytes b) }
 {}
 
-/// The files of a volume stand in it one behind the other, and it has some bytes.
+/// The files of a volume follow one another inside it, and it is not empty.
 pub fn places()
     ensures some { (bytes : List ℕ) (volume : Volume) → IsVolume bytes volume → 0 < volume.len }
     ensures within { (bytes : List ℕ) (volume : Volume) → IsVolume bytes volume → AreWithin volume.len volume.files }

@@ -1,4 +1,4 @@
-//! Sections of a file: what stands in a stream of them, or the first thing that is wrong.
+//! Sections of a file: what is in a stream of them, or the first thing that is wrong.
 
 mod fault;
 mod law;

@@ -78,7 +78,7 @@ pub(crate) struct VolumeHeader {
     pub attributes: u32,
     /// HeaderLength: the header's bytes, block map and all.
     pub header_len: usize,
-    /// ExtHeaderOffset: where the extended header stands, 0 where there is none.
+    /// ExtHeaderOffset: the offset of the extended header, or 0 if there is none.
     pub ext_header_at: usize,
     pub revision: u8,
 }
@@ -92,7 +92,7 @@ pub(crate) struct Format {
     pub erased: u8,
 }
 
-// The file system whose GUID stands in the header.
+// The file system whose GUID is in the header.
 fn file_system_at(bytes: &[u8]) -> FileSystem
     requires { LEAST_LEN ≤ length bytes.now }
     ensures { result ≡ file_system_at bytes.now }

@@ -1,4 +1,5 @@
--- The memory space as the state of each of its addresses: that which the last change that holds the address gives it. PI 1.8, volume 2, "Global Coherency Domain Services".
+-- The memory space as the state of each of its addresses: the one that the last change of the address gave it. PI 1.8, volume 2, "Global Coherency Domain
+-- Services".
 use Rattle.std.specs.Prelude.{ℕ, ◌+◌, ◌&&◌, nat_le, nat_lt, if◌then◌else◌, true, false, List, [], ◌∷◌, ◌++◌, fold}
 use Rattle.gcd_map.specs.{declared.state.GcdKind.GcdKind, declared.state.GcdKind.TheVariants.NonExistent}
 use Rattle.gcd_map.specs.{declared.state.SpaceState.SpaceState, declared.state.Effect.Effect}

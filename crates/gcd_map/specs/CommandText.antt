@@ -18,7 +18,7 @@ align_in (Some align) = if nat_lt align ALIGN_END then Some align else None
 abbrev pub align_of : List ℕ → Option ℕ
 align_of word = align_in (number_of word)
 
--- a command, where each of its words is read
+-- a command, if each of its words is read
 abbrev pub of_two : (ℕ → ℕ → Command) → Option ℕ → Option ℕ → Option Command
 of_two command None len = None
 of_two command (Some base) None = None

@@ -31,7 +31,7 @@ AreValid kind len = (0 < len) × (kind ≢ NonExistent)
 abbrev pub AreInvalid : GcdKind → ℕ → Type 0
 AreInvalid kind len = (len ≡ 0) ⊎ (kind ≡ NonExistent)
 
--- memory comes to be
+-- memory is added
 abbrev pub AddRow : GcdKind → ℕ → ℕ → MemorySpace → Result (Unit {0}) GcdWord → MemorySpace → Type 0
 AddRow kind base len old (Ok _) new =
     AreValid kind len × (base + len ≤ old.limit) × AllIn (state_at old) base (base + len) IsAbsent × (new ≡ with_change old (add_change kind base len))
@@ -53,7 +53,7 @@ AllocateRow kind base len old (Err NotFound) new =
     AreValid kind len × ((old.limit < base + len) ⊎ SomeIn (state_at old) base (base + len) (IsNotFreeOf kind)) × (new ≡ old)
 AllocateRow kind base len old (Err Memory) new = new ≡ old
 
--- a base at which so many free addresses of a kind lie, a multiple of the unit
+-- a base with so many free addresses of a kind from it on, a multiple of the unit
 abbrev pub HasRoom : MemorySpace → GcdKind → ℕ → ℕ → ℕ → Type 0
 HasRoom space kind unit len base = (base % unit ≡ 0) × (base + len ≤ space.limit) × AllIn (state_at space) base (base + len) (IsFreeOf kind)
 
@@ -69,7 +69,7 @@ TopRow kind align len old (Err NotFound) new =
     AreValid kind len × (align ≤ MOST_ALIGN) × ((base : ℕ) → HasRoom old kind (2 ^ align) len base → ⊥) × (new ≡ old)
 TopRow kind align len old (Err Memory) new = new ≡ old
 
--- allocated memory is given back
+-- allocated memory is returned
 abbrev pub FreeRow : ℕ → ℕ → MemorySpace → Result (Unit {0}) GcdWord → MemorySpace → Type 0
 FreeRow base len old (Ok _) new =
     (0 < len) × (base + len ≤ old.limit) × AllIn (state_at old) base (base + len) IsAllocated × (new ≡ with_change old (free_change base len))

@@ -17,13 +17,13 @@ abbrev pub BeginsWith : List GcdRange → SpaceState → Type 0
 BeginsWith [] state = ⊥
 BeginsWith (range ∷ ranges) state = state_of range ≡ state
 
--- the last range of the list is taken off where it has this state
+-- the last range of the list is removed if it has this state
 abbrev pub Opens : List GcdRange → ℕ → SpaceState → List GcdRange → ℕ → Type 0
 Opens old from state new base =
     ((old ≡ new) × (base ≡ from) × EndsOther old state)
     ⊎ ((last : GcdRange) × (old ≡ new ++ last ∷ []) × (base ≡ last.base) × (state_of last ≡ state))
 
--- the list goes on from one address to another with a state
+-- the list continues from one address to another with a state
 pub record Extends (old : List GcdRange) (from to : ℕ) (state : SpaceState) (new : List GcdRange) : Type 0 where
   pub covers : (space : ℕ → SpaceState) (start : ℕ) → Cover space start old from → AllIn space from to (λ s. s ≡ state)
       → Cover space start new to
@@ -37,7 +37,7 @@ pub record Extends (old : List GcdRange) (from to : ℕ) (state : SpaceState) (n
 abbrev pub after : (ℕ → SpaceState) → ℕ → ℕ → Effect → ℕ → SpaceState
 after space base end effect = changed space (record { base = base; len = end - base; effect = effect })
 
--- the list goes on with a range in which those addresses have changed
+-- the list continues with a range in which those addresses have changed
 pub record ExtendsBy (old : List GcdRange) (range : GcdRange) (base end : ℕ) (effect : Effect) (new : List GcdRange) : Type 0 where
   pub covers : (space : ℕ → SpaceState) (start : ℕ) → Cover (after space base end effect) start old range.base
       → AllIn space range.base (range.base + range.len) (λ s. s ≡ state_of range)
@@ -47,8 +47,8 @@ pub record ExtendsBy (old : List GcdRange) (range : GcdRange) (base end : ℕ) (
   pub keeps : (first : SpaceState) → BeginsWith old first → BeginsWith new first
   pub begins : 0 < range.len → range.base < base → old ≡ [] → BeginsWith new (state_of range)
 
--- ranges in the place of others in which those addresses have changed; where the first of the others begins before the change, or the last
--- ends behind it, its state stands there still
+-- ranges in the place of others after those addresses have changed; if the first of the others begins before the change, or the last ends after it, that part
+-- keeps its state
 pub record Replaces (old : List GcdRange) (base end : ℕ) (effect : Effect) (new : List GcdRange) : Type 0 where
   pub covers : (space : ℕ → SpaceState) (from to : ℕ) → Cover space from old to → Cover (after space base end effect) from new to
   pub differ : Differ new

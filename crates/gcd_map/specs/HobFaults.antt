@@ -1,4 +1,4 @@
--- Why a HOB list tells no memory space: the first cause in the order of the list's faults, the CPU HOB, the resources and the allocations. The order is own.
+-- Why a HOB list has no memory space: the first cause in the order of the list's faults, the CPU HOB, the resources and the allocations. The order is own.
 use Rattle.std.specs.Prelude.{◌≡◌, ◌⊎◌, ℕ, ◌+◌, ◌^◌, ◌<◌, ◌≤◌, List, [], ◌∷◌, Option, Some, None}
 use Rattle.hob_codec.specs.{declared.fault.HobFault.HobFault, declared.list.HobPlace.HobPlace}
 use Rattle.hob_codec.specs.declared.fault.HobFault.TheVariants as hob

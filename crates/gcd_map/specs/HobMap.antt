@@ -1,4 +1,5 @@
--- The memory space that a HOB list tells: its resources, one after another, and then its allocations. PI 1.8, volume 3, "HOB Code Definitions". Resources of other types are passed over (own).
+-- The memory space that a HOB list describes: its resources, one after another, and then its allocations. PI 1.8, volume 3, "HOB Code Definitions". Resources
+-- of other types are ignored (own).
 use Rattle.std.specs.Prelude.{◌≡◌, ℕ, ◌+◌, ◌^◌, ◌<◌, ◌≤◌, ◌==◌, ◌||◌, if◌then◌else◌, List, [], ◌∷◌, Option, Some, None, option_map, Result, Ok, Err}
 use Rattle.std.specs.Option.{option_or}
 use Rattle.hob_codec.specs.{declared.fault.HobFault.HobFault, declared.list.HobPlace.HobPlace, HobReading.reading, HobList.AreHobs}

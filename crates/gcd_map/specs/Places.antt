@@ -27,7 +27,7 @@ allocation_cause word.AccessDenied = Outside
 allocation_cause word.NotFound = Outside
 allocation_cause word.Memory = Memory
 
--- a stretch cannot follow, and the fault stands at its HOB
+-- a stretch cannot follow, and the fault is at its HOB
 abbrev pub IsFaultOf : (MemorySpace → HobStretch → GcdCause → Type 0) → MemorySpace → HobStretch → GcdFault → Type 0
 IsFaultOf Not space s fault = fault.cause ≢ Memory → (fault.at ≡ s.at) × Not space s fault.cause
 

@@ -9,7 +9,7 @@ state_of range = record { kind = range.kind; allocated = range.allocated }
 abbrev pub DoesFit : GcdRange → Type 0
 DoesFit range = range.base + range.len < 2 ^ 64
 
--- the ranges stand one behind another, from one address to another, and each address has its range's state
+-- the ranges follow one another, from one address to another, and each address has its range's state
 abbrev pub Cover : (ℕ → SpaceState) → ℕ → List GcdRange → ℕ → Type 0
 Cover space from [] to = from ≡ to
 Cover space from (range ∷ ranges) to =

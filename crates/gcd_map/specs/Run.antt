@@ -26,7 +26,7 @@ CommandRow (Top kind align len) old = BaseRow (TopRow kind align len old)
 CommandRow (Free base len) old = PlainRow (FreeRow base len old)
 CommandRow (Remove base len) old = PlainRow (RemoveRow base len old)
 
--- commands with their answers, of which none is want of memory, lead from one space to another
+-- commands with their answers lead from one space to another, and memory never ran out
 abbrev pub IsRun : MemorySpace → List (Command × Answer) → MemorySpace → Type 0
 IsRun old [] new = new ≡ old
 IsRun old (step ∷ steps) new =

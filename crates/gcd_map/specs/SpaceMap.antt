@@ -6,7 +6,7 @@ pub record IsSpaceMap (space : MemorySpace) (ranges : List GcdRange) : Type 0 wh
   pub covered : Cover (state_at space) 0 ranges space.limit
   pub merged : Differ ranges
 
--- what the map of the code is: the address behind the last, and the ranges
+-- what the map of the code is: the address after the last, and the ranges
 pub record MapState : Type 0 where
   pub limit : ℕ
   pub ranges : List GcdRange

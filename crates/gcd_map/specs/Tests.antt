@@ -1,4 +1,4 @@
--- Tests of ranges, one after another, that tell of each address of a stretch.
+-- Tests of ranges, one after another, that cover each address of a stretch.
 use Rattle.std.specs.Prelude.{◌≡◌, ◌⊎◌, ℕ, zero, suc, ◌+◌, ◌%◌, ◌<◌, ◌≤◌, List, [], ◌∷◌, length, Option, Some, None}
 use Rattle.gcd_map.specs.{declared.state.SpaceState.SpaceState, declared.range.GcdRange.GcdRange, declared.need.Need.Need, Ranges.state_of}
 use Rattle.gcd_map.specs.declared.need.Need.TheVariants.{Absent, Present, Allocated, Free, FreeOf}

@@ -19,7 +19,7 @@ const REMOVE: [u8; 6] = *b"remove";
 /// The alignments that a command may spell are below this one.
 pub const ALIGN_END: u64 = 256;
 
-/// A command on the memory space, with what it is called with.
+/// A command on the memory space, with its arguments.
 #[derive(Clone, Copy, PartialEq, Eq)]
 pub enum Command {
     /// Adds memory of a kind.
@@ -89,8 +89,8 @@ fn long_command(name: &[u8], kind: &[u8], second: &[u8], len: &[u8]) -> Option<C
     }
 }
 
-/// The command that a line spells, if it spells one: `add KIND BASE LEN`, `allocate KIND BASE LEN`, `top KIND ALIGN LEN`,
-/// `free BASE LEN` or `remove BASE LEN`. KIND is `nonexistent`, `reserved`, `system` or `mmio`, and ALIGN is below `ALIGN_END`.
+/// The command that a line spells. It is one of `add KIND BASE LEN`, `allocate KIND BASE LEN`, `top KIND ALIGN LEN`, `free BASE LEN` or `remove BASE LEN`. KIND
+/// is `nonexistent`, `reserved`, `system` or `mmio`, and ALIGN is below `ALIGN_END`.
 pub fn read_command(line: &[u8]) -> Option<Command>
     ensures { result ≡ command_of line.now }
 {

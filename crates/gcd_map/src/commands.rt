@@ -9,7 +9,7 @@ use pi_base::{OutOfMemory, Seq};
 use std::alloc::Global;
 use thiserror::Error;
 
-/// Why a text has no commands.
+/// Why commands could not be read from a text.
 #[derive(Clone, Copy, Debug, Error)]
 pub enum CommandFault {
     /// The number, from 1, of the first line that is neither passed over nor spells a command.
@@ -45,7 +45,7 @@ fn take_line(commands: &mut Seq<Command>, number: u32, line: &[u8]) -> Result<()
     Ok(())
 }
 
-/// Reads the commands of a text, of fewer than 2^32 - 1 bytes. Lines that are empty or begin with `#` are passed over.
+/// Reads the commands of a text, of fewer than 2^32 - 1 bytes. Lines that are empty or begin with `#` are skipped.
 pub fn read_commands(alloc: Global, text: &[u8]) -> Result<Seq<Command>, CommandFault>
     requires { length text.now < 2 ^ 32 - 1 }
     ensures found { IfOk result (AreCommands text.now) }
@@ -63,7 +63,7 @@ pub fn read_commands(alloc: Global, text: &[u8]) -> Result<Seq<Command>, Command
     Ok(commands)
 }
 
-/// Each text has commands or a first line that spells none, never both, and one list of commands or one such line.
+/// A text is one list of commands, or it has one first line that spells no command, and never both.
 pub fn one_reading()
     ensures commands { (text : List ℕ) (a b : List Command) → AreCommands text a → AreCommands text b → a ≡ b }
     ensures lines { (text : List ℕ) (a b : ℕ) → IsFirstBad text a → IsFirstBad text b → a ≡ b }

@@ -1,4 +1,4 @@
-// Why a HOB list gives no memory space map.
+// Why a HOB list has no memory space map.
 ghost use Rattle.std.specs.Prelude.{◌≡◌};
 ghost use Rattle.gcd_map.specs.declared.fault.GcdCause.TheVariants.{Memory};
 
@@ -6,7 +6,7 @@ use pi_base::OutOfMemory;
 use std::fmt::{self, Display, Formatter};
 use thiserror::Error;
 
-/// What is wrong with a HOB list as the memory space's beginning. The numbers are own.
+/// What is wrong with a HOB list from which the memory space is made. The project chose the numbers.
 #[derive(Clone, Copy, Debug, PartialEq, Eq, Error)]
 pub enum GcdCause {
     /// Fewer than 8 bytes are left for a HOB's header.
@@ -23,7 +23,7 @@ pub enum GcdCause {
     NoCpu = 70,
     /// SizeOfMemorySpace of the first CPU HOB is not 12 to 52.
     Bits = 71,
-    /// A resource has no address, or ends behind the memory space.
+    /// A resource has no address, or ends after the memory space.
     Range = 72,
     /// A resource meets an earlier one.
     Overlap = 73,

@@ -51,7 +51,7 @@ fn add_at(map: &mut GcdMap, bytes: &[u8], at: usize) -> Result<(), GcdFault>
     }
 }
 
-// Allocates what the HOB at a place tells, if it is an allocation.
+// Allocates the memory of the HOB at a place, if it is an allocation HOB.
 fn take_at(map: &mut GcdMap, bytes: &[u8], at: usize) -> Result<(), GcdFault>
     requires near { at < 2 ^ 32 }
     ensures { (space : MemorySpace) → Shows map.old space

@@ -1,4 +1,4 @@
-// What a HOB tells of the memory space.
+// What a HOB says about the memory space.
 ghost use Rattle.std.specs.Prelude.{◌≡◌, ◌≢◌, IfSome};
 ghost use Rattle.gcd_map.specs.declared.state.GcdKind.TheVariants.{NonExistent};
 ghost use Rattle.gcd_map.specs.HobMap.{used_kind, resource_at, allocation_at, cpu_at};

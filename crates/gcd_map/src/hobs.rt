@@ -53,10 +53,10 @@ fn bits_of(bytes: &[u8], places: &[HobPlace]) -> Result<u8, GcdFault>
     }
 }
 
-/// The memory space map of a HOB list: its resources, of which none may meet another, and then its allocations, of free system memory.
+/// The memory space map of a HOB list: its resources, of which no two may overlap, and then its allocations, of free system memory.
 ///
-/// Faults, in this order: those of the list, where they stand; `NoCpu` and `Bits` of the first CPU HOB; `Range` and `Overlap`
-/// of each resource in order; `Outside` of each allocation in order.
+/// The faults are tested in this order: those of the list itself; `NoCpu` and `Bits` of the first CPU HOB; `Range` and `Overlap` of each resource in order;
+/// `Outside` of each allocation in order.
 pub fn from_hobs(alloc: Global, bytes: &[u8]) -> Result<GcdMap, GcdFault>
     requires { length bytes.now ≤ MOST_BYTES }
     ensures found { IfOk result (λ map. (space : MemorySpace) × IsSpaceOf bytes.now space × Shows map space) }
@@ -69,7 +69,7 @@ pub fn from_hobs(alloc: Global, bytes: &[u8]) -> Result<GcdMap, GcdFault>
     Ok(map)
 }
 
-/// All bytes tell a memory space or have a first fault, never both, and one space or one fault.
+/// Bytes are one memory space, or they have one first fault, and never both.
 pub fn one_space()
     ensures spaces { (bytes : List ℕ) (a b : MemorySpace) → IsSpaceOf bytes a → IsSpaceOf bytes b → a ≡ b }
     ensures faults { (bytes : List ℕ) (a b : GcdFault) → IsFirstFault bytes a → IsFirstFault bytes b → a ≡ b }

@@ -1,8 +1,7 @@
-//! The memory space map of the global coherency domain: which memory there is, of which kind, and what of it is allocated. It begins
-//! as a HOB list tells, and commands change it, which are also read as text. PI 1.8, volume 2, "Global Coherency Domain Services".
-//! No attributes, owners or I/O space.
+//! The memory space map of the global coherency domain: which memory there is, of which kind, and what of it is allocated. It begins as a HOB list tells, and
+//! commands change it, which are also read as text. PI 1.8, volume 2, "Global Coherency Domain Services". No attributes, owners or I/O space.
 //!
-//! Tried in `text_trials`: `map_commands`, `map_faults`, `memory_map`.
+//! Tested in `text_trials`: `map_commands`, `map_faults`, `memory_map`.
 #![tactic(auto)]
 
 mod change;

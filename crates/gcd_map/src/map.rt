@@ -28,7 +28,7 @@ pub const MOST_BITS: u8 = 52;
 /// The memory space map.
 #[derive(Drop)]
 pub struct GcdMap {
-    // The address behind the last.
+    // The address after the last.
     limit: u64,
     ranges: Vec<GcdRange>,
 }
@@ -62,7 +62,7 @@ impl GcdMap {
         }
     }
 
-    // The address behind a stretch that lies in the memory space.
+    // The address after a stretch, if the stretch is in the memory space.
     fn end_of(&self, base: u64, len: u64) -> Option<u64>
         ensures { SomeIff result (base + len ≤ self.now.limit) (base + len) }
     {
@@ -95,10 +95,10 @@ impl GcdMap {
         Ok(())
     }
 
-    /// Adds memory of a kind, free, where nothing is.
+    /// Adds memory of a kind at free addresses.
     ///
-    /// A refused call changes nothing, here and in the other calls. `InvalidParameter`: no address, or no kind. `Unsupported`: the
-    /// addresses end behind the memory space. `AccessDenied`: something is at some address. PI 1.8, volume 2, `AddMemorySpace()`.
+    /// A refused call changes nothing, here and in the other calls. `InvalidParameter`: no address, or no kind. `Unsupported`: the addresses pass the end of
+    /// the memory space. `AccessDenied`: some address has memory already. PI 1.8, volume 2, `AddMemorySpace()`.
     pub fn add(&mut self, kind: GcdKind, base: u64, len: u64) -> Result<(), GcdWord>
         ensures row { AfterEach self.old self.new (λ old new. AddRow kind base len old result new) }
     {
@@ -120,8 +120,8 @@ impl GcdMap {
 
     /// Allocates memory at a base.
     ///
-    /// `InvalidParameter`: no address, or no kind. `NotFound`: the addresses end behind the memory space, or some is not of the kind
-    /// and free. PI 1.8, volume 2, `AllocateMemorySpace()`, `EfiGcdAllocateAddress`.
+    /// `InvalidParameter`: no address, or no kind. `NotFound`: the addresses pass the end of the memory space, or some address is not of the kind or not free.
+    /// PI 1.8, volume 2, `AllocateMemorySpace()`, `EfiGcdAllocateAddress`.
     pub fn allocate(&mut self, kind: GcdKind, base: u64, len: u64) -> Result<(), GcdWord>
         ensures row { AfterEach self.old self.new (λ old new. AllocateRow kind base len old result new) }
     {
@@ -141,10 +141,10 @@ impl GcdMap {
         self.change(base, len, Effect::Becomes(state))
     }
 
-    /// Allocates memory at the greatest base that is a multiple of 2^`align`, and answers the base.
+    /// Allocates memory at the greatest base that is a multiple of 2^`align`, and returns the base.
     ///
-    /// `InvalidParameter`: no address, no kind, or `align` above `MOST_ALIGN`. `NotFound`: there is no such base.
-    /// PI 1.8, volume 2, `AllocateMemorySpace()`, `EfiGcdAllocateAnySearchTopDown`.
+    /// `InvalidParameter`: no address, no kind, or `align` above `MOST_ALIGN`. `NotFound`: there is no such base. PI 1.8, volume 2, `AllocateMemorySpace()`,
+    /// `EfiGcdAllocateAnySearchTopDown`.
     pub fn top(&mut self, kind: GcdKind, align: u8, len: u64) -> Result<u64, GcdWord>
         ensures row { AfterEach self.old self.new (λ old new. TopRow kind align len old result new) }
     {
@@ -168,8 +168,8 @@ impl GcdMap {
 
     /// Makes allocated memory free.
     ///
-    /// `InvalidParameter`: no address. `Unsupported`: the addresses end behind the memory space. `NotFound`: some address is not allocated.
-    /// PI 1.8, volume 2, `FreeMemorySpace()`.
+    /// `InvalidParameter`: no address. `Unsupported`: the addresses pass the end of the memory space. `NotFound`: some address is not allocated. PI 1.8, volume
+    /// 2, `FreeMemorySpace()`.
     pub fn free(&mut self, base: u64, len: u64) -> Result<(), GcdWord>
         ensures row { AfterEach self.old self.new (λ old new. FreeRow base len old result new) }
     {
@@ -185,10 +185,10 @@ impl GcdMap {
         self.change(base, len, Effect::Freed)
     }
 
-    /// Takes free memory away.
+    /// Removes free memory.
     ///
-    /// `InvalidParameter`: no address. `Unsupported`: the addresses end behind the memory space. `NotFound`: nothing is at some address.
-    /// `AccessDenied`: some address is allocated. PI 1.8, volume 2, `RemoveMemorySpace()`.
+    /// `InvalidParameter`: no address. `Unsupported`: the addresses pass the end of the memory space. `NotFound`: some address has no memory. `AccessDenied`:
+    /// some address is allocated. PI 1.8, volume 2, `RemoveMemorySpace()`.
     pub fn remove(&mut self, base: u64, len: u64) -> Result<(), GcdWord>
         ensures row { AfterEach self.old self.new (λ old new. RemoveRow base len old result new) }
     {
@@ -211,8 +211,7 @@ impl GcdMap {
         self.change(base, len, Effect::Becomes(state))
     }
 
-    /// The ranges of the map, in order of base: none is empty, there is no gap from 0 to the end of the memory space, and
-    /// neighbours differ.
+    /// The ranges of the map, in order of base. No range is empty, there is no gap from 0 to the end of the memory space, and neighbours differ.
     pub fn map(&self) -> &[GcdRange]
         ensures shown { (space : MemorySpace) → Shows self.now space → IsSpaceMap space result.now }
         ensures ranges { result.now ≡ self.now.ranges }

@@ -4,7 +4,7 @@ ghost use Rattle.gcd_map.specs.Tests.{Meets, Misses};
 
 use crate::state::{GcdKind, SpaceState};
 
-/// What the state of an address has to be.
+/// What the state of an address must be.
 #[derive(Clone, Copy)]
 pub(crate) enum Need {
     /// Nothing is there.

@@ -8,7 +8,7 @@ use crate::word::GcdWord;
 use pi_base::{OutOfMemory, Seq};
 use std::alloc::Global;
 
-/// What a command is answered.
+/// The answer to a command.
 #[derive(Clone, Copy, PartialEq, Eq)]
 pub enum Answer {
     /// It was done.
@@ -20,7 +20,7 @@ pub enum Answer {
 }
 
 impl GcdMap {
-    /// Does a command, by the call of its name.
+    /// Runs one command.
     pub fn perform(&mut self, command: Command) -> Answer
         ensures row { AfterEach self.old self.new (λ old new. CommandRow command old result new) }
     {
@@ -42,7 +42,7 @@ impl GcdMap {
         }
     }
 
-    /// Does commands in order, and gives each with its answer. Where memory is wanting for the map, those behind are not done.
+    /// Runs commands in order, and returns each with its answer. If memory runs out for the map, the later commands are not run.
     pub fn run(
         &mut self,
         alloc: Global,

@@ -32,7 +32,7 @@ fn refused_command() -> &'static [u8]
     b"refused command"
 }
 
-/// Puts the line of a command and its answer: the command's name, and `Success`, with the base that `top` found, or the refusal.
+/// Writes the line of a command and its answer: the command's name, then `Success`, with the base that `top` found, or the refusal.
 #[tactic(auto, unfolding(crate::specs::MapText::success))]
 pub fn put_answer<S: Sink>(sink: &mut S, command: Command, answer: Answer) -> Result<(), SinkFault>
     ensures text { Puts result (S.text sink.old) (S.text sink.new) (answer_line (command, answer)) }
@@ -51,7 +51,7 @@ pub fn put_answer<S: Sink>(sink: &mut S, command: Command, answer: Answer) -> Re
     }
 }
 
-/// Puts the lines of commands and their answers.
+/// Writes the lines of commands and their answers.
 pub fn put_answers<S: Sink>(sink: &mut S, steps: &[(Command, Answer)]) -> Result<(), SinkFault>
     ensures text { Puts result (S.text sink.old) (S.text sink.new) (answers_text steps.now) }
     ensures cause { SinkFaultsAfter result (S.faults sink.old) (S.faults sink.new) }
@@ -62,7 +62,7 @@ pub fn put_answers<S: Sink>(sink: &mut S, steps: &[(Command, Answer)]) -> Result
     Ok(())
 }
 
-/// Puts the line of a range: its base, its length, its kind, and `free` or `allocated`.
+/// Writes the line of a range: its base, its length, its kind, and `free` or `allocated`.
 #[tactic(auto, unfolding(crate::specs::MapText::range_keyword))]
 pub fn put_range<S: Sink>(sink: &mut S, range: GcdRange) -> Result<(), SinkFault>
     ensures text { Puts result (S.text sink.old) (S.text sink.new) (range_line range) }
@@ -86,7 +86,7 @@ pub fn put_range<S: Sink>(sink: &mut S, range: GcdRange) -> Result<(), SinkFault
     )
 }
 
-/// Puts the lines of the map's ranges.
+/// Writes the lines of the map's ranges.
 pub fn put_map<S: Sink>(sink: &mut S, ranges: &[GcdRange]) -> Result<(), SinkFault>
     ensures text { Puts result (S.text sink.old) (S.text sink.new) (map_text ranges.now) }
     ensures cause { SinkFaultsAfter result (S.faults sink.old) (S.faults sink.new) }
@@ -97,7 +97,7 @@ pub fn put_map<S: Sink>(sink: &mut S, ranges: &[GcdRange]) -> Result<(), SinkFau
     Ok(())
 }
 
-/// Puts the line of a HOB list's fault.
+/// Writes the line of a HOB list's fault.
 pub fn put_hobs_refusal<S: Sink>(sink: &mut S, fault: GcdFault) -> Result<(), SinkFault>
     ensures text { Puts result (S.text sink.old) (S.text sink.new) (hobs_refusal fault) }
     ensures cause { SinkFaultsAfter result (S.faults sink.old) (S.faults sink.new) }
@@ -108,7 +108,7 @@ pub fn put_hobs_refusal<S: Sink>(sink: &mut S, fault: GcdFault) -> Result<(), Si
     put_line(sink, refused_hobs(), &[cause_word(fault.cause), at])
 }
 
-/// Puts the line that refuses a text of commands, with the number of its first line that spells none.
+/// Writes the line that refuses a text of commands, with the number of its first line that spells no command, from 1.
 pub fn put_command_refusal<S: Sink>(sink: &mut S, line: u32) -> Result<(), SinkFault>
     ensures text { Puts result (S.text sink.old) (S.text sink.new) (command_refusal line) }
     ensures cause { SinkFaultsAfter result (S.faults sink.old) (S.faults sink.new) }

@@ -4,8 +4,7 @@ ghost use Rattle.gcd_map.specs.Ranges.{state_of};
 
 use crate::state::{GcdKind, SpaceState};
 
-/// The addresses from `base` on, `len` of them, which have one kind and are all allocated or all free. PI 1.8, volume 2,
-/// `EFI_GCD_MEMORY_SPACE_DESCRIPTOR`.
+/// The `len` addresses from `base` on, which have one kind and are all allocated or all free. PI 1.8, volume 2, `EFI_GCD_MEMORY_SPACE_DESCRIPTOR`.
 #[derive(Clone, Copy)]
 pub struct GcdRange {
     /// The first address.

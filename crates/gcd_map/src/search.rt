@@ -76,7 +76,7 @@ pub(crate) fn all_meet(ranges: &[GcdRange], base: u64, end: u64, need: Need) -> 
     each_meets(from_index(ranges, index_of(ranges, base)), end, need)
 }
 
-// The highest base in a range that is a multiple of the unit and has `len` addresses behind it.
+// The highest base in a range that is a multiple of the unit and has `len` addresses after it.
 fn highest_in(range: GcdRange, state: SpaceState, unit: u64, len: u64) -> Option<u64>
     requires unit { 0 < unit }
     requires fits { DoesFit range }

@@ -9,9 +9,9 @@ use thiserror::Error;
 /// Why a command on the memory space is refused. PI 1.8, volume 2, "Global Coherency Domain Services".
 #[derive(Clone, Copy, Debug, PartialEq, Eq, Error)]
 pub enum GcdWord {
-    /// No addresses, a kind that is none, or an alignment above `MOST_ALIGN`.
+    /// No addresses, `nonexistent` as the kind, or an alignment above `MOST_ALIGN`.
     InvalidParameter,
-    /// The addresses end behind the memory space.
+    /// The addresses end after the memory space.
     Unsupported,
     /// Some address is in use.
     AccessDenied,

@@ -17,7 +17,7 @@ HaveStill old new = (other : Guid) → list_of new other ≡ list_of old other
 abbrev pub HasInstead : GuidLists → Guid → List ℕ → GuidLists → Type 0
 HasInstead old guid numbers new = (other : Guid) → list_of new other ≡ (if same_guid guid other then numbers else list_of old other)
 
--- each number is below those behind it
+-- each number is below those after it
 abbrev pub Rises : List ℕ → Type 0
 Rises numbers = Ordered (λ a b. a < b) numbers
 
@@ -36,7 +36,7 @@ abbrev pub without_number : ℕ → List ℕ → List ℕ
 without_number number [] = []
 without_number number (other ∷ rest) = if other == number then rest else other ∷ without_number number rest
 
--- a number goes from a GUID's list to another's, where they are two
+-- a number moves from one GUID's list to another's, if the two GUIDs differ
 abbrev pub passed_list : ℕ → Guid → Guid → Guid → List ℕ → List ℕ
 passed_list number from to guid list =
     if same_guid from to then list else (if same_guid from guid then without_number number list else (if same_guid to guid then with_number number list else list))

@@ -12,7 +12,7 @@ places test count = filter test (numbers 0 count)
 abbrev pub AreAt : GuidLists → (Guid → ℕ → Bool) → ℕ → Type 0
 AreAt lists test count = (guid : Guid) → list_of lists guid ≡ places (test guid) count
 
--- the first place of two that passes a test, at or behind both; or none there passes it
+-- the first number that is at or above both bounds and passes the test, or none if no such number does
 abbrev pub IsFirstFrom : (ℕ → Bool) → (low from : ℕ) → Option ℕ → Type 0
 IsFirstFrom test low from (Some place) =
     (low ≤ place) × (from ≤ place) × (test place ≡ true) × ((other : ℕ) → low ≤ other → from ≤ other → other < place → test other ≡ false)

@@ -7,7 +7,7 @@ use indexmap::IndexMap;
 use pi_base::{Guid, OutOfMemory};
 use std::alloc::Global;
 
-/// For each GUID that ever had one the numbers that it has, lowest first.
+/// For each GUID, the numbers that it has, lowest first.
 #[derive(Drop)]
 pub struct GuidLists {
     lists: IndexMap<Guid, Vec<u32>>,
@@ -22,7 +22,7 @@ fn place_of(numbers: &[u32], number: u32) -> usize
     numbers.partition_point(|other| *other < number)
 }
 
-/// Puts a number at its place. Where memory is wanting the list is unchanged.
+/// Puts a number at its place. If memory runs out, the list is unchanged.
 fn put(numbers: &mut Vec<u32>, number: u32) -> Result<(), OutOfMemory>
     requires { Rises numbers.old.items }
     ensures ok { OnOk result (numbers.new.items ≡ with_number number numbers.old.items) }
@@ -47,7 +47,7 @@ fn take(numbers: &mut Vec<u32>, number: u32)
 }
 
 impl GuidLists {
-    /// No GUID has a number. It takes no memory.
+    /// Lists in which no GUID has a number. It allocates nothing.
     pub fn new(alloc: Global) -> GuidLists
         ensures { (guid : Guid) → list_of result guid ≡ [] }
     {
@@ -56,7 +56,7 @@ impl GuidLists {
         }
     }
 
-    /// The numbers that a GUID has.
+    /// The numbers of a GUID, lowest first.
     pub fn of(&self, guid: &Guid) -> &[u32]
         ensures { result.now ≡ list_of self.now guid.now }
     {
@@ -66,14 +66,14 @@ impl GuidLists {
         }
     }
 
-    /// The n-th number of a GUID, from 0. None past the last of them.
+    /// The n-th number of a GUID, counted from 0. None if it has fewer.
     pub fn nth(&self, guid: &Guid, n: usize) -> Option<u32>
         ensures { result ≡ slice_get (list_of self.now guid.now) n }
     {
         self.of(guid).get(n).copied()
     }
 
-    /// The lowest number of a GUID from one on.
+    /// The lowest number of a GUID that is `from` or higher.
     pub fn next(&self, guid: &Guid, from: u32) -> Option<u32>
         requires { Rises (list_of self.now guid.now) }
         ensures { result ≡ slice_get (list_of self.now guid.now) (leading (λ number. nat_lt number from) (list_of self.now guid.now)) }
@@ -82,7 +82,7 @@ impl GuidLists {
         numbers.get(place_of(numbers, from)).copied()
     }
 
-    /// Adds a number to those of a GUID. Where memory is wanting they stay as they were.
+    /// Adds a number to a GUID. If memory runs out, the numbers are unchanged.
     pub fn add(&mut self, guid: Guid, number: u32) -> Result<(), OutOfMemory>
         requires { Rises (list_of self.old guid) }
         ensures ok { OnOk result (HasInstead self.old guid (with_number number (list_of self.old guid)) self.new) }
@@ -101,7 +101,7 @@ impl GuidLists {
         }
     }
 
-    /// Takes a number out of those of a GUID.
+    /// Removes a number from a GUID.
     pub fn remove(&mut self, guid: &Guid, number: u32)
         requires { Rises (list_of self.old guid.now) }
         ensures { HasInstead self.old guid.now (without_number number (list_of self.old guid.now)) self.new }
@@ -111,7 +111,7 @@ impl GuidLists {
         }
     }
 
-    /// A number goes from one GUID to another. Where memory is wanting it does not.
+    /// Moves a number from one GUID to another. If memory runs out, it stays where it was.
     pub fn pass(&mut self, number: u32, from: &Guid, to: Guid) -> Result<(), OutOfMemory>
         requires from { Rises (list_of self.old from.now) }
         requires to { Rises (list_of self.old to) }

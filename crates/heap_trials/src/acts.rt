@@ -69,7 +69,7 @@ fn has_callbacks<S: PeiStore>(store: &S, count: u32) -> bool
     count == 0 || store.note_at(DescKind::Callback, count - 1).is_some()
 }
 
-// The next callback that fires of a sweep over what is there. None where it is over more.
+// The next callback that fires of a sweep over what is there. None if it is over more.
 fn next<S: PeiStore>(store: &S, sweep: &mut Sweep) -> Option<Firing>
     requires { Present (S.stands_for store.now) Anything }
 {
@@ -112,7 +112,7 @@ fn is_done<S: PeiStore>(store: &mut S, act: &Act) -> bool
     }
 }
 
-/// Whether calls are answered so, one behind another.
+/// Whether calls are answered so, one after another.
 pub(crate) fn are_done<S: PeiStore>(store: &mut S, acts: &[Act]) -> bool
     requires { IsLaid (S.stands_for store.old) }
     ensures { Present (S.stands_for store.new) Anything }

@@ -63,7 +63,7 @@ fn installs<S: PeiStore>(store: &mut S, d: Desc) -> bool
     store.install(&[d], MAKER).is_ok()
 }
 
-/// Makes a PPI's descriptor and installs it. None where either is refused.
+/// Makes a PPI's descriptor and installs it. None if either is refused.
 pub(crate) fn install_new<S: PeiStore>(store: &mut S, guid: GuidFrom, value: u64) -> Option<Desc>
     requires { Present (S.stands_for store.old) Anything }
     ensures { Present (S.stands_for store.new) Anything }
@@ -74,7 +74,7 @@ pub(crate) fn install_new<S: PeiStore>(store: &mut S, guid: GuidFrom, value: u64
     }
 }
 
-/// Makes a dispatch notification's descriptor and registers it. None where either is refused.
+/// Makes a dispatch notification's descriptor and registers it. None if either is refused.
 pub(crate) fn notify_new<S: PeiStore>(store: &mut S, guid: GuidFrom, entry: u64) -> Option<Desc>
     requires state { Present (S.stands_for store.old) Anything }
     requires entry { IsNumberOf Dispatch entry }
@@ -102,7 +102,7 @@ pub(crate) fn plan<S: PeiStore>(store: &mut S, begin: u64, len: u64) -> Result<(
     store.set_memory(begin, len)
 }
 
-/// Moves to permanent memory. None where no move is due.
+/// Moves to permanent memory. None if no move is due.
 pub(crate) fn migrate<S: PeiStore>(store: &mut S) -> Option<(u64, u64)>
     requires { Present (S.stands_for store.old) Anything }
     ensures { Present (S.stands_for store.new) Anything }
@@ -113,7 +113,7 @@ pub(crate) fn migrate<S: PeiStore>(store: &mut S) -> Option<(u64, u64)>
     Some(store.migrate())
 }
 
-/// Plans permanent memory and moves there. None where it is not planned.
+/// Plans permanent memory and moves there. None if it is not planned.
 pub(crate) fn move_to<S: PeiStore>(store: &mut S, to: Span) -> Option<(u64, u64)>
     requires { Present (S.stands_for store.old) Anything }
     ensures { Present (S.stands_for store.new) Anything }

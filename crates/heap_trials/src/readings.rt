@@ -77,7 +77,7 @@ static TRIALS: [Trial<'static>; 7] = [
             ],
         ),
     ),
-    // Entries are told one behind the other.
+    // Entries are told one after the other.
     (
         0x4000,
         0,
@@ -127,7 +127,7 @@ static TRIALS: [Trial<'static>; 7] = [
             ],
         ),
     ),
-    // The boot mode stands in the hand-off HOB.
+    // The boot mode is in the hand-off HOB.
     (
         0x4000,
         0,

@@ -85,7 +85,7 @@ static ROWS: [Row; 30] = [
     // A pool: its bytes up to a multiple of 8, and a header of 8.
     (Stage::Laid, 24, Service::Pool(9), PASSES),
     (Stage::Laid, 16, Service::Pool(9), FULL),
-    // A descriptor: 24 bytes, 16 for a GUID that stands behind it, and a header. A GUID elsewhere lies whole in one volume.
+    // A descriptor: 24 bytes, 16 for a GUID that is after it, and a header. A GUID elsewhere lies whole in one volume.
     (Stage::Laid, 48, Service::Desc(INLINE), PASSES),
     (Stage::Laid, 40, Service::Desc(INLINE), FULL),
     (Stage::Laid, 32, Service::Desc(GuidFrom::At(ROM)), PASSES),
@@ -126,7 +126,7 @@ static ROWS: [Row; 30] = [
     (Stage::Laid, 40, Service::CoreInstall, FULL),
     (Stage::Awaited, 128, Service::CoreInstall, PASSES),
     (Stage::Awaited, 120, Service::CoreInstall, FULL),
-    // Pages: a HOB of 48 bytes, and before the move pages of the region, where there is one, after it pages of the heap.
+    // Pages: a HOB of 48 bytes, and before the move pages of the region, if there is one, after it pages of the heap.
     (Stage::Laid, 0, Service::Pages(1), NOT_YET),
     (Stage::Paged, 48, Service::Pages(1), PASSES),
     (Stage::Paged, 40, Service::Pages(1), FULL),

@@ -1,7 +1,7 @@
 // The scene: a PPI, a notification of each kind for its GUID, and another PPI that is not installed.
 //
-// Behind the hand-off HOB, which has 56 bytes, stand four descriptors of 48 bytes with their headers, and then four nodes of 40:
-// of the two notifications, of the PPI, and of the pair that is queued. The end HOB is at 56 + 192 + 160 = 408.
+// After the hand-off HOB, which has 56 bytes, stand four descriptors of 48 bytes with their headers, and then four nodes of 40: of the two notifications, of
+// the PPI, and of the pair that is queued. The end HOB is at 56 + 192 + 160 = 408.
 ghost use Rattle.std.specs.Prelude.{◌≡◌, true};
 ghost use Rattle.store_model.specs.{StoreState.StoreState, StateFacts.IsDescriptorAt, StateFacts.IsNumberOf, Service.Present};
 ghost use Rattle.store_model.specs.StoreCall.{Anything};
@@ -49,7 +49,7 @@ pub(crate) fn desc_of(of: Of) -> Desc
     }
 }
 
-// Makes a descriptor. False where it does not stand at this place.
+// Makes a descriptor. Returns false if it would not be at this place.
 fn makes<M: PeiStore>(store: &mut M, kind: DescKind, number: u64, place: u64) -> bool
     requires state { Present (M.stands_for store.old) Anything }
     requires number { IsNumberOf kind number }
@@ -104,7 +104,7 @@ pub(crate) fn reinstall<M: PeiStore>(store: &mut M, old: Of, new: Of) -> Result<
     store.reinstall(old, new, MAKER)
 }
 
-/// Lays the scene in a store. False where it does not stand there.
+/// Lays the scene in a store. Returns false if it would not be there.
 pub(crate) fn lay<M: PeiStore>(store: &mut M) -> bool
     requires { Present (M.stands_for store.old) Anything }
     ensures { result ≡ true → IsLaid (M.stands_for store.new) }

@@ -61,7 +61,7 @@ pub(crate) enum Step {
     Pending(u32, Option<(Guid, u32)>),
     /// The first two entries of a list.
     Entries(EntryList, (Option<EntryTold>, Option<EntryTold>)),
-    /// The PPI of a GUID behind so many others of it.
+    /// The PPI of a GUID after so many others of it.
     Nth(Guid, u16, Option<(Desc, u64)>),
 }
 
@@ -95,7 +95,7 @@ fn has_bases<S: PeiStore>(store: &S, wants: &[u64]) -> bool
     }
 }
 
-// The first entry of a list, and the one behind it.
+// The first entry of a list, and the one after it.
 fn first_entries<S: PeiStore>(store: &S, list: EntryList) -> (Option<EntryTold>, Option<EntryTold>)
     requires { Present (S.stands_for store.now) Anything }
 {
@@ -154,7 +154,7 @@ fn new_pool<S: PeiStore>(store: &mut S, size: u32) -> Result<Pool, StoreFault>
     store.pool(size)
 }
 
-// Makes a pool of nine bytes and writes two bytes into it. None where there is no pool, and otherwise whether they are written.
+// Makes a pool of nine bytes and writes two bytes into it. None if there is no pool, and otherwise whether they are written.
 fn write_two<S: PeiStore>(store: &mut S, at: u32) -> Option<bool>
     requires { Present (S.stands_for store.old) Anything }
     ensures { Present (S.stands_for store.new) Anything }
@@ -165,7 +165,7 @@ fn write_two<S: PeiStore>(store: &mut S, at: u32) -> Option<bool>
     }
 }
 
-// Makes a GUID HOB. None where its body has more than 16 bytes.
+// Makes a GUID HOB. None if its body has more than 16 bytes.
 fn create_named<S: PeiStore>(store: &mut S, body: &[u8]) -> Option<Result<u64, StoreFault>>
     requires { Present (S.stands_for store.old) Anything }
     ensures { Present (S.stands_for store.new) Anything }
@@ -204,7 +204,7 @@ fn is_answered<S: PeiStore>(store: &mut S, step: &Step) -> bool
     }
 }
 
-/// Whether steps are answered so, one behind another.
+/// Whether steps are answered so, one after another.
 pub(crate) fn are_answered<S: PeiStore>(store: &mut S, steps: &[Step]) -> bool
     requires { Present (S.stands_for store.old) Anything }
 {

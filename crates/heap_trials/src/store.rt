@@ -7,8 +7,7 @@ use pi_base::Span;
 use std::test::*;
 use store_model::{Desc, Firing, Pool, StoreFault};
 
-// Where no byte is free, the hand-off HOB behind its header: its version, boot mode, memory, what is free, and the end HOB. Behind it
-// the header of the pool.
+// With no byte free: the hand-off HOB after its header: its version, boot mode, memory, what is free, and the end HOB. After it the header of the pool.
 const FILLED: &[u8] =
     b"\x09\0\0\0\0\0\0\0\0\x40\0\x80\0\0\0\0\0\0\0\x80\0\0\0\0\0\x40\0\x80\0\0\0\0\0\x40\0\x80\0\0\0\0\xf8\x3f\0\x80\0\0\0\0\x07\0\xc0\x3f\0\0\0\0";
 
@@ -61,7 +60,7 @@ static TRIALS: [Trial<'static>; 12] = [
     (88, 0, Case::Steps(&[Step::Fit(9, true)])),
     (0x1_1000, 0, Case::Steps(&[Step::Fit(65_520, true)])),
     (0x1_1000, 0, Case::Steps(&[Step::Fit(65_521, false)])),
-    // HOBs stand one behind another.
+    // HOBs stand one after another.
     (
         0x4000,
         0,

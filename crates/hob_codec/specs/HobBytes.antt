@@ -7,7 +7,7 @@ use Rattle.hob_codec.specs.HobValue.{HobValue, HandoffHob, AllocationHob, Resour
 abbrev pub padded_len : ℕ → ℕ
 padded_len len = (len + 7) / 8 * 8
 
--- the zeros behind so many bytes of a body
+-- the zeros after so many bytes of a body
 abbrev pub padding : ℕ → List ℕ
 padding len = replicate (padded_len len - len) 0
 
@@ -23,7 +23,7 @@ length_of (PoolHob body) = 8 + padded_len (length body)
 length_of (Volume2Hob base len volume file) = 56
 length_of (OtherHob kind body) = 8 + padded_len (length body)
 
--- the fields behind the header, in order; a hand-off begins with its Version, 9
+-- the fields after the header, in order; a hand-off begins with its Version, 9
 abbrev pub fields_of : HobValue → List (List ℕ)
 fields_of (HandoffHob h) = little_bytes 4 9 ∷ little_bytes 4 h.boot_mode ∷ little_bytes 8 h.top ∷ little_bytes 8 h.bottom ∷ little_bytes 8 h.free_top ∷ little_bytes 8 h.free_bottom ∷ little_bytes 8 h.end ∷ []
 fields_of (AllocationHob name base len memory_type) = name ∷ little_bytes 8 base ∷ little_bytes 8 len ∷ little_bytes 4 memory_type ∷ replicate 4 0 ∷ []
@@ -47,6 +47,6 @@ header_fields kind len = little_bytes 2 kind ∷ little_bytes 2 len ∷ replicat
 abbrev pub hob_bytes : HobValue → List ℕ
 hob_bytes hob = joined (header_fields (kind_of hob) (length_of hob) ++ fields_of hob)
 
--- the length, where it does not pass the greatest
+-- the length, if it does not pass the greatest
 abbrev pub hob_len : HobValue → Option ℕ
 hob_len hob = if nat_le (length_of hob) 65528 then Some (length_of hob) else None

@@ -19,7 +19,7 @@ first_fault at kind (Ok hob) = if (at == 0) && not (kind == HANDOFF) then Some F
 abbrev pub fault_at : List ℕ → ℕ → Option HobFault
 fault_at bytes at = if nat_le (length bytes) at then Some NoEnd else first_fault at (kind_at bytes at) (reading bytes at)
 
--- from one place to another these HOBs stand, without a fault, and none of them ends the list
+-- these HOBs follow one another from one place to another, without a fault, and none of them ends the list
 abbrev pub Leads : List ℕ → ℕ → List HobPlace → ℕ → Type 0
 Leads bytes from [] to = from ≡ to
 Leads bytes from (place ∷ places) to =

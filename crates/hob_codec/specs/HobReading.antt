@@ -30,11 +30,11 @@ resource_of body = ResourceHob (guid_at body 0).0 (number_at 4 16 body) (number_
 abbrev pub volume2_of : List ℕ → HobValue
 volume2_of body = Volume2Hob (number_at 8 0 body) (number_at 8 8 body) (guid_at body 16).0 (guid_at body 32).0
 
--- where the body has this length
+-- the value, if the body has this length
 abbrev pub of_length : ℕ → List ℕ → HobValue → Option HobValue
 of_length len body hob = if length body == len then Some hob else None
 
--- the HOB that a type and a body are; none is the fault Form
+-- the HOB with this type and body; if there is none, the fault is Form
 abbrev pub hob_of : ℕ → List ℕ → Option HobValue
 hob_of kind body =
     if kind == HANDOFF then (if (length body == 48) && (number_at 4 0 body == 9) then Some (handoff_of body) else None)
@@ -71,12 +71,12 @@ abbrev pub formed : Option HobValue → ℕ → Result (HobValue × ℕ) HobFaul
 formed None next = Err Form
 formed (Some hob) next = Ok (hob, next)
 
--- behind a header that is sound
+-- after a header that is sound
 abbrev pub behind : Option HobFault → List ℕ → ℕ → Result (HobValue × ℕ) HobFault
 behind (Some fault) bytes at = Err fault
 behind None bytes at = formed (hob_of (kind_at bytes at) (body_at bytes at)) (at + length_at bytes at)
 
--- what reading at a place gives
+-- what reading at an offset gives
 abbrev pub reading : List ℕ → ℕ → Result (HobValue × ℕ) HobFault
 reading bytes at = behind (header_fault bytes at) bytes at
 

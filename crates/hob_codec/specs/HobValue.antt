@@ -1,4 +1,4 @@
--- The hand-off blocks of PI 1.8, volume 3, as values: each with its fields in the order of the standard. A body is the bytes behind the fields.
+-- The hand-off blocks of PI 1.8, volume 3, as values: each with its fields in the order of the standard. A body is the bytes after the fields.
 use Rattle.std.specs.Prelude.{◌≡◌, ◌⊎◌, ℕ, ◌<◌, ◌^◌, List, length}
 use Rattle.hob_codec.specs.declared.hob.Handoff.{Handoff}
 use Rattle.hob_codec.specs.declared.kind.TheConstants.{HANDOFF, ALLOCATION, RESOURCE, NAMED, VOLUME, CPU, POOL, VOLUME2, END}

@@ -65,7 +65,7 @@ fn volume2_of(body: &[u8]) -> Hob<'_>
     }
 }
 
-/// The HOB that a type and a body are, if that type may have that body.
+/// The HOB with this type and this body. None if the type may not have the body.
 pub fn hob_of(kind: u16, body: &[u8]) -> Option<Hob<'_>>
     ensures { option_map hob_value result ≡ hob_of kind body.now }
 {

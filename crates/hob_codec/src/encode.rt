@@ -47,7 +47,7 @@ fn put_header(out: &mut [u8], kind: u16)
     );
 }
 
-// Writes a hand-off behind the header.
+// Writes a hand-off after the header.
 fn put_handoff(out: &mut [u8], handoff: &Handoff)
     requires { length out.old ≡ 56 }
     ensures { out.new ≡ take 8 out.old ++ joined (fields_of (HandoffHob handoff.now)) }
@@ -74,7 +74,7 @@ fn put_handoff(out: &mut [u8], handoff: &Handoff)
     );
 }
 
-// Writes a memory allocation behind the header.
+// Writes a memory allocation after the header.
 fn put_allocation(out: &mut [u8], name: &Guid, base: u64, len: u64, memory_type: u32)
     requires { length out.old ≡ 48 }
     ensures { out.new ≡ take 8 out.old ++ joined (fields_of (AllocationHob name.now.0 base len memory_type)) }
@@ -95,7 +95,7 @@ fn put_allocation(out: &mut [u8], name: &Guid, base: u64, len: u64, memory_type:
     );
 }
 
-// Writes a resource behind the header.
+// Writes a resource after the header.
 fn put_resource(out: &mut [u8], owner: &Guid, kind: u32, attributes: u32, start: u64, len: u64)
     requires { length out.old ≡ 48 }
     ensures { out.new ≡ take 8 out.old ++ joined (fields_of (ResourceHob owner.now.0 kind attributes start len)) }
@@ -117,7 +117,7 @@ fn put_resource(out: &mut [u8], owner: &Guid, kind: u32, attributes: u32, start:
     );
 }
 
-// Writes a volume behind the header.
+// Writes a volume after the header.
 fn put_volume(out: &mut [u8], base: u64, len: u64)
     requires { length out.old ≡ 24 }
     ensures { out.new ≡ take 8 out.old ++ joined (fields_of (VolumeHob base len)) }
@@ -127,7 +127,7 @@ fn put_volume(out: &mut [u8], base: u64, len: u64)
     put_fields(out, HEADER_LEN, &[base.as_slice(), len.as_slice()]);
 }
 
-// Writes a volume of a file behind the header.
+// Writes a volume of a file after the header.
 fn put_volume2(out: &mut [u8], base: u64, len: u64, volume: &Guid, file: &Guid)
     requires { length out.old ≡ 56 }
     ensures { out.new ≡ take 8 out.old ++ joined (fields_of (Volume2Hob base len volume.now.0 file.now.0)) }
@@ -146,7 +146,7 @@ fn put_volume2(out: &mut [u8], base: u64, len: u64, volume: &Guid, file: &Guid)
     );
 }
 
-// Writes the sizes of a processor's spaces behind the header.
+// Writes the sizes of a processor's spaces after the header.
 fn put_cpu(out: &mut [u8], memory: u8, io: u8)
     requires { length out.old ≡ 16 }
     ensures { out.new ≡ take 8 out.old ++ joined (fields_of (CpuHob memory io)) }
@@ -159,7 +159,7 @@ fn put_cpu(out: &mut [u8], memory: u8, io: u8)
     );
 }
 
-// Writes a name and data behind the header.
+// Writes a name and data after the header.
 fn put_named(out: &mut [u8], name: &Guid, body: &[u8])
     requires len { length out.old ≡ 24 + padded_len (length body.now) }
     requires most { length out.old ≤ 65528 }
@@ -169,7 +169,7 @@ fn put_named(out: &mut [u8], name: &Guid, body: &[u8])
     put_padded(out, NAMED_LEN, body);
 }
 
-// Writes data behind the header.
+// Writes data after the header.
 fn put_data(out: &mut [u8], body: &[u8])
     requires len { length out.old ≡ 8 + padded_len (length body.now) }
     requires most { length out.old ≤ 65528 }
@@ -178,7 +178,7 @@ fn put_data(out: &mut [u8], body: &[u8])
     put_padded(out, HEADER_LEN, body);
 }
 
-// Writes the fields behind the header.
+// Writes the fields after the header.
 fn put_body(out: &mut [u8], hob: &Hob<'_>)
     requires len { length out.old ≡ length_of (hob_value hob.now) }
     requires most { length out.old ≤ 65528 }
@@ -212,7 +212,7 @@ fn put_body(out: &mut [u8], hob: &Hob<'_>)
     }
 }
 
-/// Writes the HOB over the bytes, which have its length.
+/// Writes the HOB over `out`, which must have the HOB's length.
 pub fn encode_into(hob: &Hob<'_>, out: &mut [u8])
     requires { hob_len (hob_value hob.now) ≡ Some (length out.old) }
     ensures { out.new ≡ hob_bytes (hob_value hob.now) }

@@ -6,7 +6,7 @@ use pi_base::OutOfMemory;
 use std::fmt::{self, Display, Formatter};
 use thiserror::Error;
 
-/// What is wrong with the bytes of a HOB or of a HOB list. The numbers are own.
+/// What is wrong with the bytes of a HOB or of a HOB list. The project chose the numbers.
 #[derive(Clone, Copy, Debug, PartialEq, Eq, Error)]
 pub enum HobFault {
     /// Fewer than 8 bytes are left for a header.

@@ -24,7 +24,7 @@ pub(crate) fn put_fields(out: &mut [u8], from: usize, fields: &[&[u8]])
     }
 }
 
-// The zeros behind so many bytes of a body.
+// The zeros after so many bytes of a body.
 pub(crate) fn padding(len: usize) -> &'static [u8]
     requires { len ≤ 65528 }
     ensures { result.now ≡ padding len }

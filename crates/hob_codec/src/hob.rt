@@ -6,11 +6,11 @@ use pi_base::Guid;
 pub struct Handoff {
     /// The boot mode, an `EFI_BOOT_MODE`.
     pub boot_mode: u32,
-    /// The address behind the memory that the HOB list may use.
+    /// The address after the memory that the HOB list may use.
     pub top: u64,
     /// The address of its first byte.
     pub bottom: u64,
-    /// The address behind its free part.
+    /// The address after its free part.
     pub free_top: u64,
     /// The address of the first byte of its free part.
     pub free_bottom: u64,
@@ -38,7 +38,7 @@ pub enum Hob<'a> {
         start: u64,
         length: u64,
     },
-    /// PI 1.8, volume 3, `EFI_HOB_GUID_TYPE`, with the data behind the GUID.
+    /// PI 1.8, volume 3, `EFI_HOB_GUID_TYPE`, with the data after the GUID.
     Named {
         name: Guid,
         body: &'a [u8],

@@ -31,7 +31,7 @@ pub const CPU_LEN: u16 = 16;
 /// The length of a volume of a file. PI 1.8, volume 3, `EFI_HOB_FIRMWARE_VOLUME2`.
 pub const VOLUME2_LEN: u16 = 56;
 
-// The length with a padded body behind the fields.
+// The length with a padded body after the fields.
 fn with_body(before: usize, body: &[u8]) -> Option<u16>
     requires short { before ≤ 24 }
     requires aligned { before % 8 ≡ 0 }
@@ -44,7 +44,7 @@ fn with_body(before: usize, body: &[u8]) -> Option<u16>
     Some((before + (body.len() + 7) / 8 * 8) as u16)
 }
 
-/// The length of the HOB with its header, or none where that would pass 65,528.
+/// The length of the HOB with its header, in bytes. None if it would be above 65,528.
 pub fn hob_len(hob: &Hob<'_>) -> Option<u16>
     ensures { result ≡ hob_len (hob_value hob.now) }
 {

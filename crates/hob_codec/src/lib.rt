@@ -1,6 +1,6 @@
 //! Hand-off blocks as bytes: one HOB written and read, and the places of a HOB list. PI 1.8, volume 3, hand-off blocks.
 //!
-//! Tried in `heap_trials`: `hobs`.
+//! Tested in `heap_trials`: `hobs`.
 #![tactic(auto)]
 
 mod body;

@@ -9,7 +9,7 @@ use crate::read::read_at;
 use pi_base::{Seq, u16_at};
 use std::alloc::Global;
 
-/// A HOB of a list, by its place in the bytes.
+/// A HOB of a list, by its offset in the bytes.
 #[derive(Clone, Copy, PartialEq, Eq)]
 pub struct HobPlace {
     /// The offset of its header.
@@ -23,7 +23,7 @@ pub struct HobPlace {
 impl HobPlace {
     ghost use Rattle.hob_codec.specs.HobList.{place_at, fault_at};
 
-    /// The HOB at a place of a list, or the list's fault there.
+    /// The HOB at an offset of a list, or the list's fault there.
     pub fn at(bytes: &[u8], at: usize) -> Result<HobPlace, HobFault>
         ensures { MatchResult result
             (λ place. (fault_at bytes.now at ≡ None) × (place ≡ place_at bytes.now at) × (8 ≤ place.length)
@@ -43,9 +43,10 @@ impl HobPlace {
     }
 }
 
-/// The places of the HOBs from the front to the first end HOB, which is none of them.
+/// The offsets of the HOBs from the front to the first end HOB, which is not included.
 ///
-/// The fault is the one at the first place that has one: `NoEnd` where no byte is left, then `Short`, `Length` and `Form` as `read_at` answers them, and `Form` where the first HOB is no hand-off.
+/// The fault is the one at the first offset that has one: `NoEnd` if no byte is left, then `Short`, `Length` and `Form` as `read_at` returns them, and `Form`
+/// if the first HOB is not a hand-off HOB.
 pub fn walk(alloc: Global, bytes: &[u8]) -> Result<Seq<HobPlace>, HobFault>
     ensures found { IfOk result (AreHobs bytes.now) }
     ensures fault { IfErr result (λ fault. fault ≢ Memory → IsListFault bytes.now fault) }
@@ -62,7 +63,7 @@ pub fn walk(alloc: Global, bytes: &[u8]) -> Result<Seq<HobPlace>, HobFault>
     }
 }
 
-/// All bytes are a HOB list or have a first fault, never both, and one list or one fault.
+/// Bytes are one HOB list, or they have one first fault, and never both.
 pub fn one_walk()
     ensures lists { (bytes : List ℕ) (a b : List HobPlace) → AreHobs bytes a → AreHobs bytes b → a ≡ b }
     ensures faults { (bytes : List ℕ) (a b : HobFault) → IsListFault bytes a → IsListFault bytes b → a ≡ b }

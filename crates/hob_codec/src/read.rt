@@ -36,13 +36,14 @@ fn body_at(bytes: &[u8], at: usize) -> &[u8]
     &bytes[at + HEADER_LEN..at + len]
 }
 
-/// The HOB at an offset in the bytes, and the offset behind it.
+/// The HOB at an offset in the bytes, and the offset after it.
 ///
-/// Faults, in this order: `Short` where fewer than 8 bytes are left, `Length` where HobLength is below 8, no multiple of 8 or more than is left, `Form` where a type of the table has a body that it may not have. An end HOB is read as `Other`.
+/// The faults are tested in this order: `Short` if fewer than 8 bytes are left; `Length` if HobLength is below 8, not a multiple of 8 or more than is left;
+/// `Form` if a type of the table has a body that it may not have. An end HOB is read as `Other`.
 pub fn read_at(bytes: &[u8], at: usize) -> Result<(Hob<'_>, usize), HobFault>
     ensures read { MatchResult result (λ read. reading bytes.now at ≡ Ok (hob_value read.0, read.1))
         (λ fault. reading bytes.now at ≡ Err fault) }
-    // A HOB has a header at least, and lies in the bytes.
+    // A HOB has at least a header, and is inside the bytes.
     ensures next { IfOk result
         (λ read. (read.1 ≡ at + length_at bytes.now at) × (8 ≤ length_at bytes.now at) × (read.1 ≤ length bytes.now)) }
 {
@@ -56,7 +57,7 @@ pub fn read_at(bytes: &[u8], at: usize) -> Result<(Hob<'_>, usize), HobFault>
     }
 }
 
-/// A HOB that is encoded is read again, its body padded, whatever stands before and behind it.
+/// An encoded HOB is read as the same HOB with its body padded, whatever is before and after it.
 pub fn round_trip()
     ensures { (hob : HobValue) (len : ℕ) (front rest : List ℕ) → IsHob hob → hob_len hob ≡ Some len
         → reading (front ++ (hob_bytes hob ++ rest)) (length front) ≡ Ok (padded hob, length front + len) }

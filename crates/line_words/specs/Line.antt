@@ -1,4 +1,4 @@
--- The lines of a text (own). Each ends with a line feed, which the last may lack, and a carriage return directly before a line feed is dropped.
+-- The lines of a text (own). Each ends with a line feed, or with the text. A carriage return directly before a line feed is dropped.
 pub use Rattle.std.specs.Str.Lines.{lines}
 use Rattle.std.specs.Prelude.{ℕ, ◌==◌, Bool, true, List, [], ◌∷◌}
 

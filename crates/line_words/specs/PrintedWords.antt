@@ -4,7 +4,7 @@ use Rattle.std.specs.List.{list_all}
 use Rattle.hex.specs.Hex.{IsBytes}
 use Rattle.pi_base.specs.declared.guid.Guid.{Guid}
 
--- the value that a text is of, or none where it is of no value
+-- the value that has the fact, or none if no value has it
 abbrev pub Finds : {A : Type 0} → (A → Type 0) → Option A → Type 0
 Finds Is (Some value) = Is value
 Finds Is None = (value : _) → Is value → ⊥
@@ -17,6 +17,6 @@ IsGuid guid = (length guid.0 ≡ 16) × IsBytes guid.0
 abbrev pub IsPlain : List ℕ → Type 0
 IsPlain word = list_all (λ byte. nat_lt 32 byte) word ≡ true
 
--- a byte stands nowhere
+-- a byte does not occur
 abbrev pub Lacks : ℕ → List ℕ → Type 0
 Lacks sought bytes = list_all (λ byte. not (byte == sought)) bytes ≡ true

@@ -1,12 +1,12 @@
--- The words of a line (own). They are separated by one or more spaces, and no space stands before the first or behind the last.
+-- The words of a line (own). They are separated by one or more spaces, and no space is before the first or after the last.
 use Rattle.std.specs.Prelude.{ℕ, Bool, ◌&&◌, ◌||◌, not, nat_lt, nat_le, ◌==◌, List, length, filter, slice_index, ◌-◌}
 use Rattle.std.specs.List.{slice_split, list_all}
 
--- what stands between the spaces of a line
+-- what is between the spaces of a line
 abbrev pub words : List ℕ → List (List ℕ)
 words line = filter (λ word. nat_lt 0 (length word)) (slice_split (λ byte. byte == 32) line)
 
--- a space stands first or last
+-- a space is first or last
 abbrev pub has_outer_space : List ℕ → Bool
 has_outer_space line = slice_index line 0 == 32 || slice_index line (length line - 1) == 32
 

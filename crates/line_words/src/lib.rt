@@ -1,6 +1,6 @@
 //! Texts of lines (own formats): the lines, words and numbers of a text that a person writes, and in `printed` those of a text that the project prints.
 //!
-//! Tried in `text_trials`: `plans`; in `boot_trials`: `traces`.
+//! Tested in `text_trials`: `plans`; in `boot_trials`: `traces`.
 #![tactic(auto)]
 
 mod line;

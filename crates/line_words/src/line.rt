@@ -9,7 +9,7 @@ const CARRIAGE_RETURN: u8 = b'\r';
 
 const COMMENT: u8 = b'#';
 
-/// The place of the first such byte, or the length.
+/// The index of the first byte of this value, or the length if there is none.
 pub fn place_of(bytes: &[u8], sought: u8) -> usize
     ensures first { result ≡ position_or_len (λ b. b == sought) bytes.now }
     ensures within { result ≤ length bytes.now }
@@ -22,7 +22,7 @@ pub fn place_of(bytes: &[u8], sought: u8) -> usize
     bytes.len()
 }
 
-// A line that a line feed ended, without a carriage return before it.
+// A line that ended with a line feed, without a carriage return before it.
 fn without_return(line: &[u8]) -> &[u8]
     ensures { result.now ≡ strip_carriage_return line.now }
 {
@@ -32,7 +32,7 @@ fn without_return(line: &[u8]) -> &[u8]
     }
 }
 
-/// The first line of a text, and what follows it. A line ends with a line feed, which the last may lack; a carriage return directly before it is dropped.
+/// The first line of a text, and what follows it. A line ends with a line feed, or with the text. A carriage return directly before the line feed is dropped.
 pub fn first_line(text: &[u8]) -> (&[u8], &[u8])
     requires { 0 < length text.now }
     ensures lines { lines text.now ≡ result.0.now ∷ lines result.1.now }
@@ -45,7 +45,7 @@ pub fn first_line(text: &[u8]) -> (&[u8], &[u8])
     }
 }
 
-/// Whether a line is passed over: it is empty or begins with `#`.
+/// Whether a reader skips a line: it is empty or begins with `#`.
 pub fn is_passed_over(line: &[u8]) -> bool
     ensures { result ≡ is_passed_over line.now }
 {

@@ -6,7 +6,7 @@ const DECIMAL: u32 = 10;
 
 const HEXADECIMAL: u32 = 16;
 
-// A number with one digit more behind it, below 2^64.
+// A number with one digit more after it, below 2^64.
 fn with_digit(number: u64, base: u32, digit: u32) -> Option<u64>
     ensures { SomeIff result (number * base + digit < 2 ^ 64) (number * base + digit) }
 {

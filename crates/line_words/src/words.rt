@@ -16,7 +16,7 @@ pub fn is_printable(line: &[u8]) -> bool
     line.iter().all(|byte| *byte >= SPACE && *byte <= TILDE)
 }
 
-// Whether a space stands first or last.
+// Whether a space is first or last.
 fn has_outer_space(line: &[u8]) -> bool
     ensures { result ≡ has_outer_space line.now }
 {
@@ -30,7 +30,7 @@ pub fn is_plain(line: &[u8]) -> bool
     is_printable(line) && !has_outer_space(line)
 }
 
-// What stands behind the spaces at the front.
+// What is after the spaces at the front.
 fn behind_spaces(line: &[u8]) -> &[u8]
     ensures same { words result.now ≡ words line.now }
     ensures shorter { length result.now ≤ length line.now }
@@ -43,7 +43,7 @@ fn behind_spaces(line: &[u8]) -> &[u8]
     rest
 }
 
-/// The first word of a line that begins with none of the spaces, and the rest from the next word on.
+/// The first word of a line that does not begin with a space, and the rest from the next word on.
 pub fn first_word(line: &[u8]) -> (&[u8], &[u8])
     requires { slice_index line.now 0 ≢ 32 }
     ensures words { 0 < length line.now → words line.now ≡ result.0.now ∷ words result.1.now }

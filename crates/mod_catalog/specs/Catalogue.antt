@@ -1,4 +1,4 @@
--- The catalogue of a plan and its images: all volumes and modules, in the order of their numbers, where nothing is at fault.
+-- The catalogue of a plan and its images without a fault: all volumes and modules, in the order of their numbers.
 use Rattle.std.specs.Prelude.{◌≡◌, ℕ, ◌+◌, Bool, true, ◌&&◌, ◌||◌, nat_le, List, [], ◌∷◌, length, filter, None, is_none}
 use Rattle.std.specs.List.{list_all}
 use Rattle.boot_plan.specs.{declared.plan.Plan.Plan, declared.plan.PlanVolume.PlanVolume, declared.limits.TheConstants.MOST_END}
@@ -11,7 +11,7 @@ use Rattle.mod_catalog.specs.VolumeTree.{Image, Holding, Holds, joined, nothing}
 abbrev pub are_apart : ℕ → ℕ → ℕ → ℕ → Bool
 are_apart base len other other_len = nat_le (base + len) other || nat_le (other + other_len) base
 
--- whether a volume of so many bytes may be mapped at a base: it ends where it may, apart from memory and from the plan volumes before it
+-- whether a volume of so many bytes may be mapped at a base: its end is in range, and it meets neither memory nor the plan volumes before it
 abbrev pub has_place : Plan → List VolumeEntry → ℕ → ℕ → Bool
 has_place plan before base len =
     nat_le (base + len) MOST_END && are_apart base len plan.temp.base plan.temp.len && are_apart base len plan.ram.base plan.ram.len
@@ -26,7 +26,7 @@ abbrev pub IsPlaced : Plan → List VolumeEntry → List VolumeEntry → Type 0
 IsPlaced plan before [] = ⊥
 IsPlaced plan before (entry ∷ nested) = has_place plan before entry.base entry.len ≡ true
 
--- what the plan's volumes hold, behind what was held before them
+-- what the plan's volumes hold, after what was held before them
 abbrev pub PlanHolds : Plan → Holding → List PlanVolume → List (List ℕ) → Holding → Type 0
 PlanHolds plan before [] [] holding = holding ≡ before
 PlanHolds plan before [] (bytes ∷ images) holding = ⊥

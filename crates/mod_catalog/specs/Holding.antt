@@ -1,4 +1,4 @@
--- What a part of the images holds, and a part behind another.
+-- What a part of the images holds, and a part after another.
 use Rattle.std.specs.Prelude.{◌+◌, [], ◌++◌}
 pub use Rattle.mod_catalog.specs.declared.holding.Holding.{Holding}
 

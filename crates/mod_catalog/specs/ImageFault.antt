@@ -20,7 +20,7 @@ use Rattle.mod_catalog.specs.VolumeTree.{Image, Holding, Holds, AreNested, neste
 use Rattle.mod_catalog.specs.Catalogue.{has_place, plan_image, PlanHolds}
 pub use Rattle.mod_catalog.specs.declared.image_fault.FaultAt.{FaultAt}
 
--- what is refused of an image, behind so much
+-- what is refused of an image, after so much
 abbrev pub Refusals : Type 1
 Refusals = Image → Totals → FaultAt → Type 0
 
@@ -50,7 +50,7 @@ pub record IsFaultOfScript (bytes : List ℕ) (file : FfsFile) (section : Sectio
   pub first : IsScriptFault (section_body bytes file section) found
   pub is : fault ≡ record { at = at + found.at; cause = script_cause found.cause }
 
--- a script passes the limit of all scripts, behind so many bytes of them
+-- a script passes the limit of all scripts, after so many bytes of them
 pub record IsScriptTotal (bytes : List ℕ) (file : FfsFile) (section : Section) (at used : ℕ) (fault : FaultAt) : Type 0 where
   pub script : IsSomeScript bytes file section
   pub most : MOST_SCRIPT_BYTES < used + section.body_len
@@ -60,7 +60,7 @@ pub record IsScriptTotal (bytes : List ℕ) (file : FfsFile) (section : Section)
 abbrev pub IsScriptRefused : List ℕ → FfsFile → Section → ℕ → ℕ → FaultAt → Type 0
 IsScriptRefused bytes file section at used fault = IsFaultOfScript bytes file section at fault ⊎ IsScriptTotal bytes file section at used fault
 
--- the first script of a file that is refused, behind sound ones; `at` is the offset of the file's volume
+-- the first script of a file that is refused, after sound ones; `at` is the offset of the file's volume
 pub record IsScriptsFault (bytes : List ℕ) (file : FfsFile) (sections : List Section) (at used : ℕ) (fault : FaultAt) : Type 0 where
   pub before : List Section
   pub section : Section
@@ -70,7 +70,7 @@ pub record IsScriptsFault (bytes : List ℕ) (file : FfsFile) (sections : List S
   pub within : used + bytes_of before ≤ MOST_SCRIPT_BYTES
   pub first : IsScriptRefused bytes file section (at + file.body_at + section.body_at) (used + bytes_of before) fault
 
--- the first nested volume that is refused, behind sound ones
+-- the first nested volume that is refused, after sound ones
 pub record IsStretchesFault (Refused : Refusals) (Held : Image → Holding → Type 0) (image : Image) (totals : Totals) (stretches : List Stretch) (fault : FaultAt) : Type 0 where
   pub before : List Stretch
   pub stretch : Stretch
@@ -81,7 +81,7 @@ pub record IsStretchesFault (Refused : Refusals) (Held : Image → Holding → T
   pub within : AreWithin (totals_with totals inner)
   pub first : Refused (nested_image image (totals.volumes + length inner.volumes) stretch) (totals_with totals inner) fault
 
--- the first fault of a file, behind so much
+-- the first fault of a file, after so much
 pub data IsFileFault (Refused : Refusals) (Held : Image → Holding → Type 0) (image : Image) (totals : Totals) (file : FfsFile) (fault : FaultAt) : Type 0 where
   too_many_modules : IsModuleTooMany image.location.at totals file fault → IsFileFault Refused Held image totals file fault
   in_sections : HasRoom totals file → IsSectionsFault image.bytes file image.location.at fault → IsFileFault Refused Held image totals file fault
@@ -104,7 +104,7 @@ pub record AreSound (Held : Image → Holding → Type 0) (image : Image) (total
   pub nested : AreNested Held image totals.volumes (nested_stretches reads) inner
   pub within : AreWithin (totals_behind totals image.bytes reads inner)
 
--- the first file of a volume with a fault, behind sound ones
+-- the first file of a volume with a fault, after sound ones
 pub record IsFilesFault (Refused : Refusals) (Held : Image → Holding → Type 0) (image : Image) (totals : Totals) (files : List FfsFile) (fault : FaultAt) : Type 0 where
   pub before : List ReadFile
   pub file : FfsFile
@@ -129,7 +129,7 @@ IsRefused (suc deep) image totals fault =
     ⊎ ((totals.volumes < MOST_VOLUMES) × (volume : Volume) × IsVolume image.bytes volume
     × IsFilesFault (IsRefused deep) (Holds deep) image (with_volume totals) volume.files fault)
 
--- a volume may not be mapped where the plan has it
+-- a volume may not be mapped at the base that the plan gives
 abbrev pub IsPlaceFault : Plan → Holding → PlanVolume → Volume → FaultAt → Type 0
 IsPlaceFault plan held volume found fault = (has_place plan held.volumes volume.base found.len ≡ false) × (fault ≡ record { at = 0; cause = Place })
 
@@ -146,7 +146,7 @@ IsPlanVolumeFault plan held volume bytes fault =
     ⊎ ((length held.volumes < MOST_VOLUMES) × (found : Volume) × IsVolume bytes found
     × (IsPlaceFault plan held volume found fault ⊎ IsPlacedFault plan held volume (plan_image volume bytes (length held.volumes)) found fault))
 
--- the first fault of the images: sound volumes of the plan stand before the one that has it
+-- the first fault of the images: sound volumes of the plan are before the one that has it
 pub record IsImageFault (plan : Plan) (images : List (List ℕ)) (fault : ImageFault) : Type 0 where
   pub volumes_before : List PlanVolume
   pub volume : PlanVolume

@@ -15,15 +15,15 @@ pub mod ReadFile
 pub mod APrioriNames
 -- The module of a file: what it has for PEI and for DXE.
 pub mod ModuleEntry
--- What a part of the images holds, and a part behind another.
+-- What a part of the images holds, and a part after another.
 pub mod Holding
 -- A volume with all volumes nested in it, in order.
 pub mod VolumeTree
--- Where a nested volume is, by the place of the one around it.
+-- The place of a nested volume, given the place of the volume around it.
 pub mod Location
 -- What the limits count: volumes, modules, bytes of scripts.
 pub mod Totals
--- All volumes and modules by number, where nothing is at fault.
+-- All volumes and modules by number, if there is no fault.
 pub mod Catalogue
 -- Modules by number: their parts, blocks and volumes.
 pub mod Parts

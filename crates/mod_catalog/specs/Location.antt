@@ -3,7 +3,7 @@ use Rattle.std.specs.Prelude.{ℕ, ◌+◌, Some}
 use Rattle.mod_catalog.specs.declared.read_file.Stretch.{Stretch}
 pub use Rattle.mod_catalog.specs.declared.location.Location.{Location}
 
--- where the volume of a number is, in a stretch of another
+-- the location of the volume with a number, in a stretch of another
 abbrev pub nested_location : Location → ℕ → Stretch → Location
 nested_location location number stretch = record {
   base = location.base + stretch.at;

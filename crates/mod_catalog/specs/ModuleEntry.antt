@@ -41,7 +41,7 @@ pub record IsPart (bytes : List ℕ) (files : List FfsFile) (reads : List ReadFi
   pub expression : IsExpression phase (first_body bytes (expression_section phase) read.file read.sections) part.expr
   pub script : part.script ≡ script_for phase read.scripts
 
--- a part that is there exactly where the file's type has one
+-- a part that is there exactly when the file's type has one
 abbrev pub IsPartIf : Bool → (Part → Type 0) → Option Part → Type 0
 IsPartIf true IsThis (Some part) = IsThis part
 IsPartIf true IsThis None = ⊥

@@ -1,4 +1,4 @@
--- The files that names stand for, and the names of an a priori list that are kept, as they are looked up.
+-- The files that names refer to, and the names of an a priori list that are kept, as they are looked up.
 use Rattle.std.specs.Prelude.{◌≡◌, ℕ, ◌+◌, ◌≤◌, Bool, ◌&&◌, if◌then◌else◌, List, [], ◌∷◌, length, filter, position, slice_index_or, is_some, Option, Some, None}
 use Rattle.pi_base.specs.{Guids.same_guid, Lists.firsts, declared.guid.Guid.Guid, declared.phase.Phase.Phase, GuidMap.value_of}
 use Rattle.fv_volume.specs.{declared.file.FfsFile.FfsFile, declared.search.TheConstants.MOST_FILES}
@@ -11,7 +11,7 @@ bearer_from phase name index [] = None
 bearer_from phase name index (file ∷ files) =
     if same_guid file.name name && has_part phase file.kind then Some (record { index = index; at = file.at }) else bearer_from phase name (index + 1) files
 
--- each name has the file that it stands for
+-- each name has the file that it refers to
 abbrev pub AreBearers : Phase → ℕ → List FfsFile → List (Guid × Bearer) → Type 0
 AreBearers phase index files bearers = (name : Guid) → value_of bearers name ≡ bearer_from phase name index files
 
@@ -19,15 +19,15 @@ AreBearers phase index files bearers = (name : Guid) → value_of bearers name �
 abbrev pub AreOfSome : List (Guid × Bearer) → ℕ → Type 0
 AreOfSome bearers count = (phase : Phase) × (files : List FfsFile) × AreBearers phase 0 files bearers × (length files ≡ count) × (count ≤ MOST_FILES)
 
--- whether a name stands for a file
+-- whether a name refers to a file
 abbrev pub known : List (Guid × Bearer) → Guid → Bool
 known bearers name = is_some (value_of bearers name)
 
--- the names of a list that stand for a file, each once
+-- the names of a list that refer to a file, each once
 abbrev pub kept_of : (Guid → Bool) → List Guid → List Guid
 kept_of known list = firsts same_guid (filter known list)
 
--- the file that a name stands for has the place of the name among some, if it is there
+-- the file that a name refers to has the place of the name among some, if it is there
 abbrev pub ArePlaces : List (Guid × Bearer) → List Guid → List (Option ℕ) → Type 0
 ArePlaces bearers names places =
     (name : Guid) (bearer : Bearer) → value_of bearers name ≡ Some bearer → slice_index_or places bearer.index None ≡ position (same_guid name) names

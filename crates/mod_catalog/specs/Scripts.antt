@@ -10,7 +10,7 @@ use Rattle.mod_catalog.specs.{Totals.bytes_of, declared.scripts.Scripts.Scripts}
 abbrev pub IsScriptOf : List ℕ → FfsFile → Section → Script → Type 0
 IsScriptOf bytes file section script = IsScript (section_body bytes file section) script
 
--- the scripts of a file, whose bytes keep the limit behind those of other files
+-- the scripts of a file, whose bytes keep the limit after those of other files
 pub record HoldsScripts (bytes : List ℕ) (file : FfsFile) (sections : List Section) (used : ℕ) (held : Scripts) : Type 0 where
   pub scripts : EachPair (IsScriptOf bytes file) (script_sections bytes file sections) held.scripts
   pub count : held.bytes ≡ bytes_of (script_sections bytes file sections)

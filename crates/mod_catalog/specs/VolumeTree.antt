@@ -25,7 +25,7 @@ AreNested Holds image next (stretch ∷ stretches) holding =
     (first : Holding) × Holds (nested_image image next stretch) first
     × (rest : Holding) × AreNested Holds image (next + length first.volumes) stretches rest × (holding ≡ joined first rest)
 
--- where the volumes nested in the files of a volume lie, in order
+-- the stretches of the volumes nested in the files of a volume, in order
 abbrev pub nested_stretches : List ReadFile → List Stretch
 nested_stretches reads = flat_map (λ read. nested_in read.file read.sections) reads
 

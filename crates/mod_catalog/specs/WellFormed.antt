@@ -17,11 +17,11 @@ abbrev pub AreNumbered : ℕ → List VolumeEntry → Type 0
 AreNumbered number [] = ⊤
 AreNumbered number (entry ∷ entries) = IfSome entry.parent (λ parent. parent < number) × AreNumbered (number + 1) entries
 
--- modules stand volume by volume, and in a volume by place
+-- modules are ordered by volume, and in a volume by place
 abbrev pub Precedes : Module → Module → Type 0
 Precedes a b = (a.volume < b.volume) ⊎ ((a.volume ≡ b.volume) × (a.at < b.at))
 
--- where both modules have a part of the phase and a rank, the ranks differ
+-- if both modules have a part of the phase and a rank, the ranks differ
 abbrev pub HaveOtherRanks : Option Part → Option Part → Type 0
 HaveOtherRanks (Some a) (Some b) = IfSome a.rank (λ rank. b.rank ≢ Some rank)
 HaveOtherRanks None b = ⊤
@@ -31,7 +31,7 @@ HaveOtherRanks (Some a) None = ⊤
 abbrev pub RanksDiffer : Module → Module → Type 0
 RanksDiffer a b = a.volume ≡ b.volume → HaveOtherRanks a.pei b.pei × HaveOtherRanks a.dxe b.dxe
 
--- a part's rank is below the number of the parts of its phase in its volume, so that the order by ranks has each of them
+-- a part's rank is below the number of the parts of its phase in its volume, so the order by ranks has each of them
 abbrev pub IsRankWithin : Phase → Catalog → Module → Type 0
 IsRankWithin phase catalog m = IfSome (part_of phase m) (λ part. IfSome part.rank (λ rank. rank < length (parts_in phase catalog m.volume)))
 

@@ -3,7 +3,7 @@ use act_code::Script;
 use depex_code::Depex;
 use pi_base::{Guid, Seq};
 
-/// What is in a set of images.
+/// All volumes and modules of a set of images.
 pub struct Catalog {
     /// A plan volume, then the volumes nested in it by place, each followed by its own; then the next plan volume.
     pub volumes: Seq<VolumeEntry>,
@@ -11,7 +11,7 @@ pub struct Catalog {
     pub modules: Seq<Module>,
 }
 
-// What it is made of is dropped by one proof, which all that own one call.
+// One drop function for all catalogues keeps the proofs of the calls that own one small.
 impl Drop for Catalog {
     fn drop(self) {
         let Catalog {
@@ -21,16 +21,16 @@ impl Drop for Catalog {
     }
 }
 
-/// A volume, where it is mapped.
+/// A volume, and where it is mapped.
 #[derive(Clone, Copy, PartialEq, Eq)]
 pub struct VolumeEntry {
     /// The physical address of its first byte.
     pub base: u64,
     /// FvLength, in bytes.
     pub len: u64,
-    /// The name in its extended header, where it has one.
+    /// The name in its extended header, if it has one.
     pub name: Option<Guid>,
-    /// The number of the volume that it is nested in; none for a volume of the plan.
+    /// The number of the volume in which it is nested. None for a volume of the plan.
     pub parent: Option<u32>,
 }
 
@@ -58,14 +58,14 @@ pub struct Part {
     pub rank: Option<u32>,
     /// Its dependency expression.
     pub expr: PartExpr,
-    /// What it does, without blocks where it has no script.
+    /// Its actions. The script has no blocks if the file has no script.
     pub script: Script,
 }
 
 /// The dependency expression of a part.
 #[derive(Drop)]
 pub enum PartExpr {
-    /// It has none.
+    /// There is no expression.
     Absent,
     /// It has one that cannot be read, with the offset of the opcode that fails.
     Malformed(u32),

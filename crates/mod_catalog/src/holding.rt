@@ -5,7 +5,7 @@ use crate::catalogue::{Module, VolumeEntry};
 use pi_base::{OutOfMemory, Seq};
 use std::alloc::Global;
 
-/// What some part of the images holds: its volumes and modules, each in the order of its numbers.
+/// The volumes and modules of a part of the images, each in the order of its numbers.
 #[derive(Drop)]
 pub struct Holding {
     pub volumes: Seq<VolumeEntry>,
@@ -30,7 +30,7 @@ impl Holding {
     ghost use Rattle.std.specs.Prelude.{◌≡◌, ◌+◌, ◌≤◌, ◌++◌, IfOk};
     ghost use Rattle.mod_catalog.specs.Holding.{joined, nothing};
 
-    /// No volume. It takes no memory.
+    /// No volume and no module. It allocates nothing.
     pub fn nothing(alloc: Global) -> Holding
         ensures { result ≡ nothing }
     {
@@ -41,7 +41,7 @@ impl Holding {
         }
     }
 
-    /// One part of the images and then another.
+    /// One part of the images, followed by another.
     pub fn joined(self, rest: Holding) -> Result<Holding, OutOfMemory>
         requires { self.script_bytes + rest.script_bytes ≤ u64.MAX }
         ensures { IfOk result (λ all. all ≡ joined self rest) }

@@ -4,7 +4,7 @@ ghost use Rattle.mod_catalog.specs.declared.image_fault.ImageCause.TheVariants.{
 
 use pi_base::OutOfMemory;
 
-/// What is wrong with an image: the causes of its volumes, sections and scripts, and those of all of them together.
+/// What is wrong with an image: the causes of volumes, sections and scripts, and those of an image as a whole.
 #[derive(Clone, Copy, Debug, PartialEq, Eq)]
 pub enum ImageCause {
     Short = 1,
@@ -64,7 +64,7 @@ impl From<OutOfMemory> for FaultAt {
     }
 }
 
-/// What is wrong, and where: the number of the plan's volume from 0, and an offset in its file.
+/// What is wrong, and where: the number of the plan's volume, from 0, and an offset in its file.
 #[derive(Clone, Copy, Debug, PartialEq, Eq)]
 pub struct ImageFault {
     pub volume: u32,

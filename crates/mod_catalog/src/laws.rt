@@ -5,7 +5,7 @@ ghost use Rattle.boot_plan.specs.declared.plan.Plan.{Plan};
 ghost use Rattle.mod_catalog.specs.{Catalogue.IsCatalogue, WellFormed.AreShort, WellFormed.IsWellFormed, ImageFault.IsImageFault};
 ghost use Rattle.mod_catalog.specs.{declared.catalogue.Catalog.Catalog, declared.image_fault.ImageFault.ImageFault};
 
-/// The images of a plan have one catalogue at most, or one first fault, and never both.
+/// The images of a plan have one catalogue, or one first fault, and never both.
 pub fn one_catalogue()
     ensures catalogues { (plan : Plan) (images : List (List ℕ)) (a b : Catalog) → IsCatalogue plan images a → IsCatalogue plan images b
         → a ≡ b }

@@ -15,7 +15,7 @@ use fv_volume::FfsFile;
 use pi_base::{OutOfMemory, Phase, Seq};
 use std::alloc::Global;
 
-/// The ranks of a volume's files in each phase; none where the volume has no list for it.
+/// The ranks of a volume's files in each phase. None if the volume has no a priori list for it.
 #[derive(Drop)]
 pub(crate) struct VolumeRanks {
     pub(crate) pei: Option<Ranks>,
@@ -74,7 +74,7 @@ fn module_of(
     })
 }
 
-// One file more: its module comes behind the others, where it has one.
+// Adds a file: its module, if it has one, comes after the others.
 fn add_module(
     alloc: Global,
     bytes: &[u8],

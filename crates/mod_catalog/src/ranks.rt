@@ -1,4 +1,4 @@
-// The ranks of a volume's files, which an a priori list gives them.
+// The ranks of a volume's files by an a priori list.
 ghost use Rattle.std.specs.Prelude.{◌≡◌, ◌≤◌, ◌<◌, ◌+◌, ◌++◌, ◌∷◌, ℕ, [], None, List, length, replicate, slice_index_or, IfOk, OnOk};
 ghost use Rattle.pi_base.specs.{declared.guid.Guid.Guid as Name, declared.phase.Phase.Phase as OfPhase};
 ghost use Rattle.fv_volume.specs.{declared.file.FfsFile.FfsFile as File, declared.search.TheConstants.MOST_FILES};
@@ -10,7 +10,7 @@ use fv_volume::FfsFile;
 use pi_base::{GUID_LEN, Guid, GuidMap, OutOfMemory, Phase, Seq};
 use std::alloc::Global;
 
-/// The file that a name stands for.
+/// The file that a name refers to.
 #[derive(Clone, Copy)]
 pub(crate) struct Bearer {
     /// Its index among the volume's files.
@@ -19,10 +19,10 @@ pub(crate) struct Bearer {
     pub(crate) at: u64,
 }
 
-/// The files that names stand for, and which of them an a priori list gives a rank.
+/// The files that names refer to, and which of them an a priori list ranks.
 #[derive(Drop)]
 pub(crate) struct Ranks {
-    /// Of each name, the file that it stands for.
+    /// For each name, the file that it refers to.
     pub(crate) bearers: GuidMap<Bearer>,
     /// Of each file by index, its place among the names that are kept.
     pub(crate) places: Seq<Option<u32>>,
@@ -35,7 +35,7 @@ pub(crate) struct Kept {
     pub(crate) count: u32,
 }
 
-// A file before others: its name stands for it, where it has a part.
+// Adds a file before others: its name refers to it, if it has a part.
 fn add_bearer(
     bearers: &mut GuidMap<Bearer>,
     file: &FfsFile,
@@ -53,7 +53,7 @@ fn add_bearer(
     }
 }
 
-// The files that names stand for.
+// The files that names refer to.
 fn bearers_of(
     alloc: Global,
     files: &[FfsFile],
@@ -91,7 +91,7 @@ fn place_at(places: &[Option<u32>], index: u32) -> Option<u32>
     }
 }
 
-// One name of a list more: the file that it stands for has the next place, where it has none yet.
+// Adds one name of a list: its file gets the next rank, unless it has one.
 fn keep(kept: &mut Kept, bearers: &GuidMap<Bearer>, name: Guid)
     requires few { kept.old.count < u32.MAX }
     requires borne { AreOfSome bearers.now (length kept.old.places) }
@@ -108,7 +108,7 @@ fn keep(kept: &mut Kept, bearers: &GuidMap<Bearer>, name: Guid)
     kept.count += 1;
 }
 
-// The places that a list gives so many files.
+// The ranks that a list gives so many files.
 fn places_of(
     alloc: Global,
     bearers: &GuidMap<Bearer>,
@@ -128,7 +128,7 @@ fn places_of(
     Ok(kept.places)
 }
 
-/// The ranks that a list of GUIDs gives the files of a volume. Where the list is empty it has none to give, and takes no memory.
+/// The ranks that a list of GUIDs gives the files of a volume. An empty list gives none, and allocates nothing.
 pub(crate) fn ranks_of(
     alloc: Global,
     files: &[FfsFile],
@@ -147,7 +147,7 @@ pub(crate) fn ranks_of(
 }
 
 impl Ranks {
-    // The rank of a file of the volume: the place of its name, where the name stands for it.
+    // The rank of a file of the volume: the place of its name in the list, if the name refers to it.
     fn rank_of(&self, file: &FfsFile) -> Option<u32>
         ensures { (phase : OfPhase) (files : List File) (list : List Name) → HoldRanks phase files list self.now
             → result ≡ rank_of phase files list file.now }

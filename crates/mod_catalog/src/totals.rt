@@ -13,7 +13,7 @@ impl Totals {
     ghost use Rattle.std.specs.Prelude.{◌≡◌};
     ghost use Rattle.mod_catalog.specs.Totals.{AreWithin, no_totals, totals_with, with_volume};
 
-    /// Nothing yet.
+    /// No volumes, modules or scripts.
     pub fn none() -> Totals
         ensures { result ≡ no_totals }
     {
@@ -24,7 +24,7 @@ impl Totals {
         }
     }
 
-    /// These with a part of the images.
+    /// These totals with a part of the images added.
     pub fn with(self, holding: &Holding) -> Totals
         requires { AreWithin (totals_with self holding.now) }
         ensures { result ≡ totals_with self holding.now }
@@ -36,7 +36,7 @@ impl Totals {
         }
     }
 
-    /// These with one volume more.
+    /// These totals with one volume added.
     pub fn with_volume(self) -> Totals
         requires { AreWithin (with_volume self) }
         ensures { result ≡ with_volume self }

@@ -1,4 +1,4 @@
-// A volume put together with what its files hold.
+// A volume, assembled with what its files hold.
 ghost use Rattle.std.specs.Prelude.{◌≡◌, ◌≤◌, ◌+◌, ℕ, suc, filter, IfOk};
 ghost use Rattle.fv_volume.specs.{Volume.IsVolume, Places.AreInside};
 ghost use Rattle.mod_catalog.specs.{ReadFile.AreRead, ReadFile.is_read, declared.totals.Totals.Totals};

@@ -9,13 +9,13 @@ starts p [] = false
 starts p (Turns on ∷ later) = starts p later
 starts p (Starts on job ∷ later) = (on == p) || starts p later
 
--- where a processor starts again, its job is done before
+-- if a processor starts again, its last job is done
 abbrev pub IsFair : List Step → Type 0
 IsFair [] = ⊤
 IsFair (Turns on ∷ later) = IsFair later
 IsFair (Starts on job ∷ later) = (starts on later ≡ true → length job ≤ turns on later) × IsFair later
 
--- each start is on a processor that there is, and comes where its last job is done
+-- each start is on a processor that exists, and after its last job is done
 pub record AreOrderly (processors : ℕ) (steps : List Step) : Type 0 where
   pub fair : IsFair steps
   pub below : (p : ℕ) → processors ≤ p → starts p steps ≡ false

@@ -1,4 +1,4 @@
--- Why a text stands for no MP file, and what lines leave of the events that are read.
+-- Why a text is not an MP file, and what lines leave of the events that are read.
 use Rattle.std.specs.Prelude.{◌≡◌, ℕ, List, [], ◌∷◌, ◌++◌, map, Some, None, Result, Ok, Err}
 use Rattle.mp_core.specs.{declared.event.MpEvent.MpEvent, declared.fault.MpFault.MpFault}
 use Rattle.mp_core.specs.{declared.fault.MpFault.TheVariants.Bad, declared.fault.MpFault.TheVariants.Memory, LineText.head_of}
@@ -9,7 +9,7 @@ abbrev pub IsMpFault : List ℕ → MpFault → Type 0
 IsMpFault text (Bad line) = IsFirstBad text line
 IsMpFault text Memory = Unit {0}
 
--- that of a first line with this number and the lines behind it
+-- that of a first line with this number and the lines after it
 abbrev pub IsFaultBehind : ℕ → List ℕ → List (ℕ × List ℕ) → MpFault → Type 0
 IsFaultBehind number line rest (Bad at) = first_bad_by number rest (head_of line) ≡ Some at
 IsFaultBehind number line rest Memory = Unit {0}

@@ -1,4 +1,4 @@
--- What the text of an MP file stands for, and where it stands for nothing (own). Lines that are empty or begin with `#` are passed over.
+-- The text of an MP file, and when a text is not one (own). Lines that are empty or begin with `#` are skipped.
 use Rattle.std.specs.Prelude.{◌≡◌, ℕ, ◌+◌, not, List, [], ◌∷◌, length, map, filter, Option, Some, None, is_none, option_map, find}
 use Rattle.std.specs.List.{enumerate_from}
 use Rattle.line_words.specs.Line.{lines, is_passed_over}
@@ -27,16 +27,16 @@ AreLinesOf file (first ∷ rest) =
     (head_of first.1 ≡ Some (file.processors, file.cells))
     × (spelled file.processors file.cells rest ≡ map (λ event. Some event) file.events)
 
--- the file that a text stands for
+-- the file that a text describes
 abbrev pub IsMpFile : List ℕ → MpFile → Type 0
 IsMpFile text file = AreLinesOf file (numbered text)
 
--- the number of the first bad line: of the first that spells no event where the first of all is a head, else of that first one
+-- the number of the first bad line: if the first line is a head, the first one that spells no event, else the first line
 abbrev pub first_bad_by : ℕ → List (ℕ × List ℕ) → Option (ℕ × ℕ) → Option ℕ
 first_bad_by number rest None = Some number
 first_bad_by number rest (Some head) = first_without_event head.0 head.1 rest
 
--- where there is no line, it is the number that the next line would have
+-- if there is no line, it is the number that the next line would have
 abbrev pub first_bad : ℕ → List (ℕ × List ℕ) → Option ℕ
 first_bad next [] = Some next
 first_bad next (first ∷ rest) = first_bad_by first.0 rest (head_of first.1)

@@ -1,6 +1,6 @@
--- The lines of an MP file (own). The first is `mp N C`, with how many processors and cells there are. Each other is an event's:
--- `all BY OP..`, `this BY P OP..`, `enable BY P`, `disable BY P`, `switch BY P on` or `off`, `who BY` or `turn P`, with one or more
--- operations `add=CELL:N` or `put=N`. Lines and words are those of `line_words`.
+-- The lines of an MP file (own). The first is `mp N C`, with how many processors and cells there are. Each later line is one event: `all BY OP..`, `this BY P
+-- OP..`, `enable BY P`, `disable BY P`, `switch BY P on` or `off`, `who BY` or `turn P`, with one or more operations `add=CELL:N` or `put=N`. Lines and words
+-- are those of `line_words`.
 use Rattle.std.specs.Prelude.{ℕ, ◌==◌, nat_le, ◌&&◌, Bool, true, false, if◌then◌else◌, List, [], ◌∷◌, length, Option, Some, None, codes, option_and_then, option_map, find, bytes_eq}
 use Rattle.std.specs.List.{before_first, after_first}
 use Rattle.line_words.specs.{Words.words, Words.is_plain, Number.number_in}
@@ -25,7 +25,7 @@ keyword_text Turn = codes "turn"
 abbrev pub keyword_named : List ℕ → Option Keyword
 keyword_named word = find (λ keyword. bytes_eq word (keyword_text keyword)) (All ∷ This ∷ Enable ∷ Disable ∷ Switch ∷ Who ∷ Turn ∷ [])
 
--- what is made of words, where each of them can be read
+-- what is made of words, if each of them can be read
 abbrev pub of_two : {A B C : Type 0} → (A → B → C) → Option A → Option B → Option C
 of_two make None b = None
 of_two make (Some a) None = None
@@ -35,7 +35,7 @@ abbrev pub of_three : {A B C D : Type 0} → (A → B → C → D) → Option A 
 of_three make None b c = None
 of_three make (Some a) b c = of_two (make a) b c
 
--- the addition of `CELL:N`, where there is such a cell
+-- the addition of `CELL:N`, if there is such a cell
 abbrev pub add_of : ℕ → List ℕ → Option Op
 add_of cells operand =
     of_two (λ cell n. Add cell n)
@@ -53,7 +53,7 @@ op_named cells name operand =
 abbrev pub op_of : ℕ → List ℕ → Option Op
 op_of cells word = op_named cells (before_first (λ byte. byte == 61) word) (after_first (λ byte. byte == 61) word)
 
--- the operations that words spell, where each spells one
+-- the operations that words spell, if each spells one
 abbrev pub ops_of : ℕ → List (List ℕ) → Option (List Op)
 ops_of cells [] = Some []
 ops_of cells (word ∷ words) = of_two (λ op ops. op ∷ ops) (op_of cells word) (ops_of cells words)
@@ -66,7 +66,7 @@ job_of cells words = if nat_le 1 (length words) && nat_le (length words) MOST_OP
 abbrev pub enabled_of : List ℕ → Option Bool
 enabled_of word = if bytes_eq word (codes "on") then Some true else if bytes_eq word (codes "off") then Some false else None
 
--- the events of each keyword: by whom, where there is such a processor, and the operands behind
+-- the events of each keyword: by whom, if there is such a processor, and the operands after
 abbrev pub all_of : ℕ → Option ℕ → List (List ℕ) → Option MpEvent
 all_of cells by ops = of_two (λ by job. E.All by job) by (job_of cells ops)
 
@@ -94,7 +94,7 @@ abbrev pub turn_of : Option ℕ → List (List ℕ) → Option MpEvent
 turn_of on [] = option_map (λ on. E.Turn on) on
 turn_of on (more ∷ words) = None
 
--- the event of a keyword, the word behind it, and the operands behind that
+-- the event of a keyword, the word after it, and the operands after that
 abbrev pub event_by : ℕ → ℕ → Keyword → List ℕ → List (List ℕ) → Option MpEvent
 event_by processors cells All by operands = all_of cells (number_below processors by) operands
 event_by processors cells This by operands = this_of cells (number_below processors by) operands

@@ -1,4 +1,4 @@
--- What the machine of the code stands for.
+-- The past that the code's machine stands for.
 -- Own.
 use Rattle.std.specs.Prelude.{◌≡◌, ℕ, ◌<◌, List, length, map, not, slice_index_or, false}
 use Rattle.std.specs.List.{list_any}
@@ -23,17 +23,17 @@ pub record IsMachine (processors cells : ℕ) (past : Past) (m : Machine) : Type
   pub each : (p : ℕ) (x : Processor) → p < processors → IsProcessor cells past p (slice_index_or m.processors.items p x)
   pub cells_are : m.cells ≡ cells_after cells past.steps
 
--- a machine stands for some past, and there is a fact of how many processors and cells it has
+-- a machine stands for some past, and its numbers of processors and cells have what is needed
 abbrev pub Stands : Machine → (ℕ → ℕ → Type 0) → Type 0
 Stands m Needs = (processors : ℕ) × (cells : ℕ) × (past : Past) × IsMachine processors cells past m × Needs processors cells
 
--- an answer is what a definition says of each past that the machine stands for
+-- an answer is what a definition gives for each past that the machine stands for
 abbrev pub Tells : {A : Type 0} → Machine → (ℕ → Past → A) → A → Type 0
 Tells m answer result =
     (processors cells : ℕ) (past : Past) → AreOrderly processors past.steps → IsMachine processors cells past m
     → result ≡ answer processors past
 
--- the machine stands for what a definition makes of each past that it stood for, where its numbers of processors and cells have a fact
+-- the machine stands for what a definition makes of each past that it stood for, if a fact holds of its numbers of processors and cells
 abbrev pub Becomes : Machine → (ℕ → ℕ → Type 0) → (ℕ → Past → Past) → Machine → Type 0
 Becomes old Needs change new =
     (processors cells : ℕ) (past : Past) → AreOrderly processors past.steps → IsMachine processors cells past old → Needs processors cells

@@ -44,7 +44,7 @@ abbrev pub IsInOrder : ℕ → ℕ → List Step → MpOutcome → Type 0
 IsInOrder processors cells steps outcome =
     (outcome.cells ≡ cells_of cells (one_after_another steps)) × (outcome.records ≡ records_of processors (one_after_another steps))
 
--- each cell with the Adds that are not yet done, and each record with the Puts that are not yet done, is that of the jobs one after another
+-- each cell with the Adds that are still to come, and each record with the Puts that are still to come, is that of the jobs one after another
 pub record Completes (processors cells : ℕ) (steps : List Step) (outcome : MpOutcome) : Type 0 where
   pub adds_to_come : (c : ℕ) → c < cells → (slice_index outcome.cells c + adds c (undone steps)) % 2 ^ 64 ≡ (one_after_another steps).cell c
   pub puts_to_come : (p : ℕ) → p < processors

@@ -70,7 +70,7 @@ record_keyword = codes "record"
 unfoldable pub no_numbers : List ℕ
 no_numbers = codes "-"
 
--- the numbers of a record, or a dash where there are none
+-- the numbers of a record, or a dash if there are no numbers
 abbrev pub number_words : List ℕ → List (List ℕ)
 number_words [] = no_numbers ∷ []
 number_words (n ∷ numbers) = map decimal (n ∷ numbers)

@@ -86,7 +86,7 @@ if_success refusal past changed = past
 abbrev pub started : List ℕ → List Op → Past → Past
 started on job past = record past { steps = past.steps ++ map (λ p. Starts p job) on }
 
--- a processor is enabled as told
+-- a processor is enabled or disabled
 abbrev pub with_enabled : ℕ → Bool → Past → Past
 with_enabled on enabled past = record past { enabled = λ p. if p == on then enabled else past.enabled p }
 

@@ -1,4 +1,4 @@
--- What a processor of the code stands for.
+-- The processor that the code's stands for.
 -- Own.
 use Rattle.std.specs.Prelude.{◌≡◌, List, [], ◌∷◌, true, Option, Some, None, ℕ, slice_set, slice_index_or}
 use Rattle.mp_core.specs.{declared.op.Op.Op, declared.processor.Processor.Processor}

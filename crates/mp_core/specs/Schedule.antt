@@ -24,7 +24,7 @@ last_start p (Turns on ∷ later) = last_start p later
 last_start p (Starts on job ∷ later) =
     option_or (last_start p later) (if on == p then Some (job, turns p later) else None)
 
--- a processor is busy where its last start's job is longer than the number of its turns after that start
+-- a processor is busy if its last start's job is longer than the number of its turns after that start
 abbrev pub is_busy : ℕ → List Step → Bool
 is_busy p steps = elim (last_start p steps) [ Some start ↦ nat_lt start.1 (length start.0) | None ↦ false ]
 
@@ -56,7 +56,7 @@ abbrev pub added : ℕ → Op → ℕ
 added c (Add cell n) = if cell == c then n else 0
 added c (Put n) = 0
 
--- what an operation puts
+-- the numbers that an operation puts
 abbrev pub put : Op → List ℕ
 put (Add cell n) = []
 put (Put n) = n ∷ []

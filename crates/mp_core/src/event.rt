@@ -3,7 +3,7 @@
 use crate::op::Op;
 use pi_base::Seq;
 
-/// A call of the MP services by the processor `by`, or a turn of a processor. Processors go by their numbers.
+/// A call of the MP services by the processor `by`, or a turn of a processor. Processors are given by their numbers.
 #[derive(Drop)]
 pub enum MpEvent {
     /// `StartupAllAPs`: each enabled AP is to do the job.

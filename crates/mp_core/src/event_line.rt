@@ -29,7 +29,7 @@ fn enabled_of(word: &[u8]) -> Option<bool>
     }
 }
 
-// Each of these reads what follows a keyword and the caller, where there is such a processor.
+// Each of these reads what follows a keyword and the caller, if there is such a processor.
 fn all_of(
     alloc: Global,
     by: Option<u32>,
@@ -139,7 +139,7 @@ fn turn_of(on: Option<u32>, operands: &[u8]) -> Option<MpEvent>
     }
 }
 
-// The event of a keyword, the word behind it, and the operands behind that.
+// The event of a keyword, the word after it, and the operands after that.
 fn event_by(
     alloc: Global,
     keyword: Keyword,

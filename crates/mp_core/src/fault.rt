@@ -1,13 +1,12 @@
-// Why a text stands for no file.
+// Why a text is not an MP file.
 
 use pi_base::OutOfMemory;
 use thiserror::Error;
 
-/// Why a text stands for no MP file.
+/// Why a text is not an MP file.
 #[derive(Clone, Copy, Debug, Error)]
 pub enum MpFault {
-    /// The number, from 1, of the first line that is of no form or names what there is not; where there is no first line `mp N C`, the
-    /// number of lines plus 1.
+    /// The number, from 1, of the first line that is of no form or names what there is not; if there is no first line `mp N C`, the number of lines plus 1.
     #[error("Bad")]
     Bad { line: u32 },
     /// Want of memory.

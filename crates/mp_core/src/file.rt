@@ -13,7 +13,7 @@ use line_words::{first_line, is_passed_over};
 use pi_base::Seq;
 use std::alloc::Global;
 
-/// What an MP file has for the machine of the MP services.
+/// The contents of an MP file.
 #[derive(Drop)]
 pub struct MpFile {
     /// How many processors there are.
@@ -24,7 +24,7 @@ pub struct MpFile {
     pub events: Seq<MpEvent>,
 }
 
-// Reads the first line that is not passed over, which has this number, and the lines behind it.
+// Reads the first line that is not passed over, which has this number, and the lines after it.
 fn read_from(alloc: Global, line: &[u8], number: u32, rest: &[u8]) -> Result<MpFile, MpFault>
     requires { number + 1 + length rest.now < 2 ^ 32 }
     ensures file { IfOk result (λ file. AreLinesOf file ((number, line.now) ∷ numbered_from (number + 1) (lines rest.now))) }
@@ -46,11 +46,13 @@ fn read_from(alloc: Global, line: &[u8], number: u32, rest: &[u8]) -> Result<MpF
     }
 }
 
-/// Reads an MP file of fewer than 2^32 - 1 bytes. Lines that are empty or begin with `#` are passed over. The first other line is
-/// `mp N C`, with N processors, at most `MOST_PROCESSORS`, and C cells, at most `MOST_CELLS`. Each one behind it is an event's:
-/// `all BY OP..`, `this BY P OP..`, `enable BY P`, `disable BY P`, `switch BY P on`, `switch BY P off`, `who BY` or `turn P`, with one
-/// to `MOST_OPS` operations `add=CELL:N` or `put=N`. BY is below N, CELL below C, P below 2^32 and each other number below 2^64; all are
-/// decimal.
+/// Reads an MP file of fewer than 2^32 - 1 bytes. Lines that are empty or begin with `#` are skipped.
+///
+/// The first other line is `mp N C`, with N processors, at most `MOST_PROCESSORS`, and C cells, at most `MOST_CELLS`. Each later line is one event: `all BY
+/// OP..`, `this BY P OP..`, `enable BY P`, `disable BY P`, `switch BY P on`, `switch BY P off`, `who BY` or `turn P`. It has one to `MOST_OPS` operations,
+/// `add=CELL:N` or `put=N`.
+///
+/// BY is below N, CELL below C, P below 2^32, and each other number below 2^64. All numbers are decimal.
 pub fn read_mp(alloc: Global, text: &[u8]) -> Result<MpFile, MpFault>
     requires { length text.now < 2 ^ 32 - 1 }
     ensures file { IfOk result (IsMpFile text.now) }

@@ -10,7 +10,7 @@ use line_words::is_plain;
 
 const HEAD: [u8; 2] = *b"mp";
 
-// The numbers of processors and of cells that a first word and what is left behind it spell.
+// The numbers of processors and of cells that a first word and what is left after it spell.
 fn head_behind(name: &[u8], rest: &[u8]) -> Option<(u32, u32)>
     requires { slice_index rest.now 0 ≢ 32 }
     ensures head { result ≡ head_of_words (name.now ∷ words rest.now) }

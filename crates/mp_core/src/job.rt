@@ -16,13 +16,13 @@ const ADD: [u8; 3] = *b"add";
 
 const PUT: [u8; 3] = *b"put";
 
-// What stands between an operation and its operands.
+// What is between an operation and its operands.
 const EQUALS: u8 = b'=';
 
-// What stands between a cell and a number.
+// What is between a cell and a number.
 const COLON: u8 = b':';
 
-// What stands before the first such sign, and what stands behind it.
+// What is before the first such sign, and what is after it.
 fn parted(text: &[u8], sign: u8) -> (&[u8], &[u8])
     ensures before { result.0.now ≡ before_first (λ byte. byte == sign) text.now }
     ensures after { result.1.now ≡ after_first (λ byte. byte == sign) text.now }

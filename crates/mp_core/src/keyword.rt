@@ -4,7 +4,7 @@ ghost use Rattle.mp_core.specs.{LineText.keyword_text, LineText.keyword_named, O
 
 use crate::event::MpEvent;
 
-/// What an event's line begins with.
+/// The word with which an event's line begins.
 #[derive(Clone, Copy)]
 pub enum Keyword {
     All,

@@ -1,8 +1,8 @@
-//! The MP services of PI 1.8, volume 2, "MP Services Protocol", as a machine over a list of events: what each call answers, and what the
-//! jobs of the application processors leave in memory, whatever the order in which the processors get on. With the text of an MP file,
-//! which has the numbers of processors and of cells and the events, and the text of what the machine answers and leaves (own).
+//! The MP services of PI 1.8, volume 2, "MP Services Protocol", as a machine over a list of events: what each call answers, and what the jobs of the
+//! application processors leave in memory, whatever the order in which the processors get on. With the text of an MP file, which has the numbers of processors
+//! and of cells and the events, and the text of what the machine answers and leaves (own).
 //!
-//! Tried in `text_trials`: `processors`.
+//! Tested in `text_trials`: `processors`.
 #![tactic(auto)]
 
 mod event;

@@ -158,7 +158,7 @@ impl<'a> Machine<'a> {
         MpWord::Success
     }
 
-    // A processor has a job, and none of it is done.
+    // A processor gets a job, of which nothing is done yet.
     pub(crate) fn start(&mut self, p: usize, job: &'a [Op])
         requires { p < length self.old.processors.items }
         ensures bsp { self.new.bsp ≡ self.old.bsp }

@@ -8,7 +8,7 @@ use crate::limits::MOST_OPS;
 use crate::op::Op;
 
 impl Op {
-    /// Whether there is the cell that it adds to.
+    /// Whether the cell of an `add` exists.
     pub fn fits(&self, cells: u32) -> bool
         ensures { IsTrue result ↔ IsOp cells self.now }
     {
@@ -41,7 +41,7 @@ fn job_fits(job: &[Op], cells: u32) -> bool
 }
 
 impl MpEvent {
-    /// Whether there are its caller and its cells, and its job is neither empty nor too long.
+    /// Whether its caller and its cells exist, and its job is neither empty nor too long.
     pub fn fits(&self, processors: u32, cells: u32) -> bool
         ensures { IsTrue result ↔ IsEvent processors cells self.now }
     {

@@ -1,6 +1,6 @@
 // What a processor does in a job.
 
-/// An operation of a job (own). It stands for what a procedure that is handed to the MP services does to memory.
+/// An operation of a job (own). It represents what a procedure that is handed to the MP services does to memory.
 #[derive(Clone, Copy)]
 pub enum Op {
     /// Adds to a shared cell, modulo 2^64.

@@ -8,7 +8,7 @@ use crate::reply::{MpOutcome, MpReply};
 use pi_base::{OutOfMemory, Seq};
 use std::alloc::Global;
 
-// Puts the record of each processor, and whether it is busy, behind those that there are.
+// Puts the record of each processor, and whether it is busy, after those that there are.
 fn take_apart(
     processors: Vec<Processor<'_>>,
     records: &mut Seq<Seq<u64>>,

@@ -14,7 +14,7 @@ use pi_base::{DECIMAL_LEN, HEXADECIMAL_LEN, Seq, decimal, hexadecimal};
 // The first word of the line of a cell.
 const CELL: [u8; 4] = *b"cell";
 
-// What stands for a record without numbers.
+// What is printed for a record without numbers.
 const NO_NUMBERS: [u8; 1] = *b"-";
 
 // Puts the line of a keyword and a number.
@@ -157,8 +157,8 @@ fn put_records<S: Sink>(sink: &mut S, records: &[Seq<u64>]) -> Result<(), SinkFa
     Ok(())
 }
 
-/// Puts what the events of a file answered and left: a line for each call, with its first word and its reply, then `cell` with the index
-/// and the content of each cell, then `record` with the number of each processor and the numbers of its record, or `-`.
+/// Writes the outcome of a file's events: a line for each call, with its first word and its reply; then `cell` with the index and the content of each cell;
+/// then `record` with the number of each processor and the numbers of its record, or `-`.
 pub fn put_outcome<S: Sink>(
     sink: &mut S,
     file: &MpFile,
@@ -172,7 +172,7 @@ pub fn put_outcome<S: Sink>(
     put_records(sink, outcome.records.as_slice())
 }
 
-/// Puts the line that refuses an MP file, with the number of its first bad line.
+/// Writes the line that refuses an MP file, with the number of its first bad line, from 1.
 pub fn put_bad_line<S: Sink>(sink: &mut S, line: u32) -> Result<(), SinkFault>
     ensures text { Puts result (S.text sink.old) (S.text sink.new) (bad_line line) }
     ensures cause { SinkFaultsAfter result (S.faults sink.old) (S.faults sink.new) }

@@ -2,7 +2,7 @@
 
 use pi_base::Seq;
 
-/// The statuses that the MP services answer (`EFI_SUCCESS`, `EFI_DEVICE_ERROR` and so on).
+/// The statuses that the MP services return (`EFI_SUCCESS`, `EFI_DEVICE_ERROR` and so on).
 #[derive(Clone, Copy)]
 pub enum MpWord {
     /// The call did what was asked.
@@ -21,7 +21,7 @@ pub enum MpWord {
     Unsupported,
 }
 
-/// What a call answers.
+/// The reply to a call.
 #[derive(Clone, Copy)]
 pub enum MpReply {
     /// A status.
@@ -30,7 +30,7 @@ pub enum MpReply {
     Number(u32),
 }
 
-/// What a list of events leaves.
+/// What is left after a list of events.
 #[derive(Drop)]
 pub struct MpOutcome {
     /// The reply of each call, in order.

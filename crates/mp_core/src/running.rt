@@ -11,7 +11,7 @@ use crate::reply::MpOutcome;
 use pi_base::{OutOfMemory, Seq};
 use std::alloc::Global;
 
-/// What these events answer and leave, from the first on, with so many processors and so many cells.
+/// Runs the events from the first on, with so many processors and cells, and returns the replies and what is left.
 pub fn run(
     alloc: Global,
     processors: u32,

@@ -124,7 +124,7 @@ impl<'a> Machine<'a> {
         Ok(Some(MpReply::Word(word)))
     }
 
-    /// What an event does; what it answers is put behind the replies that there are.
+    /// Does what an event does, and adds its reply after the earlier ones.
     pub(crate) fn answer(
         &mut self,
         event: &'a MpEvent,

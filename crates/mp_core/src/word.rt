@@ -9,7 +9,7 @@ use line_words::{first_word, number_of};
 // Every number of a processor is below this one.
 const PROCESSORS_END: u64 = 1 << 32;
 
-// The first word of what is left of a line, and what is left behind it.
+// The first word of what is left of a line, and what is left after it.
 pub(crate) fn next_word(line: &[u8]) -> Option<(&[u8], &[u8])>
     requires { slice_index line.now 0 ≢ 32 }
     ensures { Cuts line.now result }

@@ -1,5 +1,4 @@
--- The core behind what it does: a callback or a dispatch notification begins, a module registers for shadow, or starts.
--- Own.
+-- The core after what it does: a callback or a dispatch notification begins, a module registers for shadow, or starts. Own.
 use Rattle.std.specs.Prelude.{ℕ, ◌+◌, ◌-◌, ◌^◌, min, List, [], ◌∷◌, slice_set, Some, None}
 use Rattle.pi_base.specs.{declared.word.Word.Word, declared.word.Word.TheVariants.Success, declared.word.Word.TheVariants.AlreadyStarted}
 use Rattle.store_model.specs.{declared.store_handle.Firing.Firing, declared.store_handle.Sweep.Sweep}
@@ -31,7 +30,7 @@ with_registered Dispatched number core = record core { states = slice_set core.s
 with_registered RegisteredForShadow number core = core
 with_registered Done number core = core
 
--- a module in a state starts: the second time that it does, it awaits none any more
+-- the state after a module in this state starts: after its second start it awaits none
 abbrev pub state_behind : PeimState → PeimState
 state_behind NotDispatched = Dispatched
 state_behind Dispatched = Done

@@ -8,7 +8,7 @@ use Rattle.store_model.specs.Service.Descriptor.{guid_at, offsets}
 use Rattle.boot_model.specs.{EventGuids.placed_guids, EventGuids.taken_guid, PeiMachine.Frame}
 use Rattle.pei_core.specs.declared.guids.Changes.{Changes}
 
--- none was changed
+-- no GUID was installed or removed
 abbrev pub no_changes : Changes
 no_changes = record { there = record { items = [] }; gone = None }
 
@@ -24,7 +24,7 @@ ArePut s list changes = changes ≡ record { there = record { items = map (guid_
 abbrev pub AreReplaced : Desc → Desc → Changes → StoreState → Type 0
 AreReplaced old new changes s = changes ≡ record { there = record { items = guid_at s new.offset ∷ [] }; gone = Some (guid_at s old.offset) }
 
--- those that an action changes, from the state before it: the GUIDs that it puts in and the one that it takes away, where it succeeds
+-- those of an action, from the state before it: the GUIDs that it adds and the one that it removes, if it succeeds
 pub record AreChangesOf (s : StoreState) (frame : Frame) (action : Action) (changes : Changes) : Type 0 where
   pub there : changes.there.items ≡ placed_guids s frame action
   pub gone : changes.gone ≡ taken_guid s frame action

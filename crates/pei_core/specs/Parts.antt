@@ -1,5 +1,4 @@
--- What a part of a step leaves: where its event leads, with the lines that were put and the GUIDs that were changed, or why there is none.
--- Own.
+-- What a part of a step leaves: the goal of its event, with the lines that were printed and the GUIDs that were changed, or why there is none. Own.
 use Rattle.std.specs.Prelude.{◌≡◌, ℕ, ◌+◌, ◌<◌, Bool, true, List, [], ◌∷◌, length, Option, None, Result, Ok, Err, ⊤, option_and_then}
 use Rattle.boot_io.specs.declared.halt.Halt.{Halt}
 use Rattle.boot_io.specs.declared.halt.Halt.TheVariants as H
@@ -20,11 +19,11 @@ use Rattle.pei_core.specs.Standing.{Has, IsCoreOf, IsFor, StandsFor}
 use Rattle.pei_core.specs.Steps.{HasStepped, StepsTo}
 use Rattle.boot_trace.specs.Printing.{Texts}
 
--- this pair of the open sweep fires, or none does
+-- this pair of the open sweep fires, or no pair does
 abbrev pub FiresNext : Option (Firing × Sweep) → PeiMachine → Type 0
 FiresNext next m = option_and_then (next_match m.store) (open_sweep m m.frames) ≡ next
 
--- no pair fires, and a script runs; none runs; none runs, and a move is due, or is not
+-- no pair fires, and a script runs
 pub record RunsScript (m : PeiMachine) : Type 0 where
   pub quiet : FiresNext None m
   pub top : Frame
@@ -51,17 +50,17 @@ StepsIn Case memory stands catalog call result =
     (m : PeiMachine) (fuel : ℕ) → IsFor catalog fuel call.pei → StandsFor stands call.pei m → Case m
     → StepsTo memory (Has stands call.later) catalog fuel m call.texts result
 
--- where an event leads: to a machine, with these GUIDs put in and this one taken away
+-- the goal of an event: a machine, with the GUIDs that are added and the one that is removed
 pub record Goal : Type 0 where
   pub to : PeiMachine
   pub there : List Guid
   pub gone : Option Guid
 
--- where the core's own call leads
+-- the goal of the core's own call
 abbrev pub called_goal : PeiMachine → Service Sweep → Goal
 called_goal m service = record { to = core_called m service; there = core_guids service; gone = None }
 
--- where an action of the top frame leads
+-- the goal of an action of the top frame
 abbrev pub action_goal : Catalog → PeiMachine → Frame → List Frame → Action → Goal
 action_goal catalog m frame below action = record {
   to = after_effect catalog m frame below (effect m.store frame action);
@@ -69,7 +68,7 @@ action_goal catalog m frame below action = record {
   gone = taken_guid m.store frame action;
 }
 
--- where a reply leads, in the state behind the call
+-- the goal of a reply, in the state after the call
 abbrev pub reply_goal : Catalog → PeiMachine → Frame → List Frame → Reply → StoreState → Goal
 reply_goal catalog m frame below reply new = record {
   to = after_call catalog m frame below (L.Call reply.name reply.status reply.extra) (reply_in reply frame.registers new);
@@ -77,11 +76,11 @@ reply_goal catalog m frame below reply new = record {
   gone = reply.changes.gone;
 }
 
--- where a registration for shadow leads
+-- the goal of a registration for shadow
 abbrev pub shadow_goal : PeiMachine → Frame → List Frame → Goal
 shadow_goal m frame below = record { to = shadowed m frame below; there = []; gone = None }
 
--- the event led there: the machine is there, its lines were put, and the event says what it changed
+-- the event led there: the machine is there, its lines were written, and the event says what it changed
 pub record LedTo (Stands : PeiMachine → Type 0) (m : PeiMachine) (goal : Goal) (t : Texts) (event : Event) : Type 0 where
   pub there : event.changes.there.items ≡ goal.there
   pub gone : event.changes.gone ≡ goal.gone
@@ -89,7 +88,7 @@ pub record LedTo (Stands : PeiMachine → Type 0) (m : PeiMachine) (goal : Goal)
   pub volumes : length goal.to.reported ≡ length m.reported + event.volumes
   pub stepped : HasStepped Stands m goal.to t
 
--- an event, by its answer; memory is wanting only where the store takes it
+-- an event, by its answer; memory runs out only when the store takes it
 abbrev pub LeadsThere : Bool → (PeiMachine → Type 0) → PeiMachine → Goal → Texts → Result Event Halt → Type 0
 LeadsThere memory Stands m goal t (Ok event) = LedTo Stands m goal t event
 LeadsThere memory Stands m goal t (Err H.Sink) = PrintedPart m goal.to t
@@ -100,7 +99,7 @@ abbrev pub InstallsMemory : {M : Type 0} → Bool → (M → StoreState → Type
 InstallsMemory memory stands call result =
     (m : PeiMachine) → Has stands call.pei m → LeadsThere memory (Has stands call.later) m (called_goal m (core_install m.store)) call.texts result
 
--- an action of PEI's own stands next in the script of a module, and no pair fires
+-- an action of PEI's own is next in the script of a module, and no pair fires
 pub record TakesOwn (catalog : Catalog) (action : Action) (m : PeiMachine) : Type 0 where
   pub top : Frame
   pub below : List Frame
@@ -110,7 +109,7 @@ pub record TakesOwn (catalog : Catalog) (action : Action) (m : PeiMachine) : Typ
   pub within : top.position < MOST_ACTIONS
   pub here : top.module_number < length catalog.modules
 
--- it is taken, from each machine that the core stands for and in whose top frame it stands
+-- the action is taken, from each machine that the core stands for and whose top frame is at it
 abbrev pub TakesAction : {M : Type 0} → Bool → (M → StoreState → Type 0) → Catalog → Action → CoreCall M → Result Event Halt → Type 0
 TakesAction memory stands catalog action call result =
     (m : PeiMachine) → StandsFor stands call.pei m → (own : TakesOwn catalog action m)
@@ -128,7 +127,7 @@ RegistersForShadow memory stands number call result =
     (m : PeiMachine) (frame : Frame) (below : List Frame) → IsRegistering stands number call.pei m frame below
     → LeadsThere memory (Has stands call.later) m (shadow_goal m frame below) call.texts result
 
--- a service has replied to the top frame: the core is the machine's, and the store stands for the state behind the call
+-- a service has replied to the top frame: the core is the machine's, and the store stands for the state after the call
 pub record IsReplied {M : Type 0} (stands : M → StoreState → Type 0) (reply : Reply) (pei : OfPei M) (m : PeiMachine) (frame : Frame) (below : List Frame) (state : StoreState) : Type 0 where
   pub fields : IsCoreOf pei.core m
   pub frames : m.frames ≡ frame ∷ below

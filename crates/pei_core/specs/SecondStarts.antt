@@ -1,5 +1,5 @@
--- The parts that await their second start, and those of them that an event of the machine lets start again.
--- PI 1.8, volume 1, `RegisterForShadow()`; how an event is told is own.
+-- The parts that await their second start, and those of them that an event of the machine allows to start again. PI 1.8, volume 1, `RegisterForShadow()`; the
+-- form of an event is own.
 use Rattle.std.specs.Prelude.{◌≡◌, ℕ, Bool, true, false, ◌&&◌, ◌||◌, ◌==◌, not}
 use Rattle.mod_catalog.specs.Parts.{has_number}
 use Rattle.boot_model.specs.{Eligible.may_start_again, PeiMachine.PeiMachine, declared.peim_state.PeimState.PeimState}
@@ -11,13 +11,13 @@ use Rattle.pei_core.specs.declared.event.Again.TheVariants.{Nobody, One, All}
 abbrev pub awaits_second : PeiMachine → ℕ → Bool
 awaits_second m number = has_number m.shadows number && not (has_number m.again number)
 
--- whether an event that leads to a machine lets a part start again: none, one, or all that await their second start
+-- whether an event that leads to a machine allows a part to start again: none, one, or all that await their second start
 abbrev pub lets_again : PeiMachine → Again → ℕ → Bool
 lets_again later Nobody number = false
 lets_again later (One first) number = first == number
 lets_again later All number = awaits_second later number
 
--- the parts that may start again behind an event are those that might before it and those that it lets
+-- the parts that may start again after an event are those that might before it and those that the event allows
 abbrev pub IsAgain : PeiMachine → PeiMachine → Again → Type 0
 IsAgain m later again = (number : ℕ) → may_start_again later number ≡ (may_start_again m number || lets_again later again number)
 
@@ -29,6 +29,6 @@ registered_again Dispatched false number = Nobody
 registered_again RegisteredForShadow moved number = Nobody
 registered_again Done moved number = Nobody
 
--- an event that changes no PPI and reports no volume, and lets these parts start again
+-- an event that changes no PPI and reports no volume, and allows these parts to start again
 abbrev pub event_letting : Again → Event
 event_letting again = record { changes = no_changes; again = again; volumes = 0 }

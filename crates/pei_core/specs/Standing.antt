@@ -28,13 +28,13 @@ pub record Has {M : Type 0} (stands : M → StoreState → Type 0) (pei : Pei M)
   pub store : stands pei.store m.store
   pub fields : IsCoreOf pei.core m
 
--- and stands for a machine that runs
+-- and the core stands for a running machine
 pub record StandsFor {M : Type 0} (stands : M → StoreState → Type 0) (pei : Pei M) (m : PeiMachine) : Type 0 where
   pub has : Has stands pei m
   pub sound : IsSound m
   pub started : RunsStarted m
 
--- over a store that is as it was made, it stands for the machine at the opening
+-- over a new store, it stands for the machine at the opening
 abbrev pub Opens : {M : Type 0} → (M → StoreState → Type 0) → M → Catalog → Pei M → Type 0
 Opens stands store catalog pei = (board : Board) → stands store (empty_store board) → StandsFor stands pei (pei_opening board catalog)
 

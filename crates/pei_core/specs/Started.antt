@@ -26,7 +26,7 @@ IsBodyOf started (Descriptor d) = IsEntryOf started d.kind d.number
 IsBodyOf started Node = ⊤
 IsBodyOf started (Allocation a) = ⊤
 
--- the frames that stand and the descriptors of the heap
+-- the running frames, and the descriptors of the heap
 pub record AreOfStarted (started : List ℕ) (hobs : List HobEntry) (frames : List Frame) : Type 0 where
   pub bodies : Each (λ hob. IsBodyOf started hob.body) hobs
   pub frames_are : Each (λ frame. HasStarted started frame.module_number) frames

@@ -17,26 +17,27 @@ use Rattle.pei_core.specs.Standing.{IsFor, StandsFor}
 use Rattle.pei_core.specs.CoreCall.{CoreCall, Printed, PrintedPart}
 use Rattle.boot_trace.specs.Printing.{Texts}
 
--- no script runs, no pair of the open sweep fires, no move is due and no pair is queued: a start or the end is left
+-- no script runs, no pair of the open sweep fires, no move is due and no pair is queued: only a start or the end is left
 pub record IsIdle (m : PeiMachine) : Type 0 where
   pub fires : option_and_then (next_match m.store) (open_sweep m m.frames) ≡ None
   pub frames : m.frames ≡ []
   pub moves : migration m.store ≡ None
   pub pops : queue_pop m.store ≡ None
 
--- what the event from a machine did: the GUIDs that it put in, the one that it took away, the parts that it lets start again, and how many volumes it reported
+-- what the event from a machine did: the GUIDs that it added, the one that it removed, the parts that it allows to start again, and how many volumes it
+-- reported
 pub record IsEvent (catalog : Catalog) (fuel : ℕ) (m : PeiMachine) (event : Event) : Type 0 where
   pub there : event.changes.there.items ≡ pei_placed catalog fuel m
   pub gone : event.changes.gone ≡ pei_taken catalog fuel m
   pub again : IsAgain m (pei_step catalog fuel m) event.again
   pub volumes : length (pei_step catalog fuel m).reported ≡ length m.reported + event.volumes
 
--- the machine is the later one now, and its lines were put
+-- the machine is the later one now, and its lines were written
 pub record HasStepped (Stands : PeiMachine → Type 0) (m later : PeiMachine) (t : Texts) : Type 0 where
   pub printed : Printed m later t
   pub machine : Stands later
 
--- the machine is as it was, and nothing was put
+-- the machine is as it was, and nothing was written
 pub record HasStayed (Stands : PeiMachine → Type 0) (m : PeiMachine) (t : Texts) : Type 0 where
   pub text : Appends t.old t.new []
   pub machine : Stands m
@@ -55,7 +56,7 @@ pub record HasEnded (Stands : PeiMachine → Type 0) (catalog : Catalog) (fuel :
   pub ended : pei_step catalog fuel m ≡ record m { ended = Some end }
   pub stayed : HasStayed Stands m t
 
--- a step from a machine, by its answer; memory is wanting only where the store takes it
+-- a step from a machine, by its answer; memory runs out only when the store takes it
 abbrev pub StepsTo : Bool → (PeiMachine → Type 0) → Catalog → ℕ → PeiMachine → Texts → Result Stepped Halt → Type 0
 StepsTo memory Stands catalog fuel m t (Ok (Went event)) = (IsIdle m → ⊥) × IsEvent catalog fuel m event × HasStepped Stands m (pei_step catalog fuel m) t
 StepsTo memory Stands catalog fuel m t (Ok Idle) = IsIdle m × HasStayed Stands m t
@@ -63,7 +64,7 @@ StepsTo memory Stands catalog fuel m t (Ok (Ended end)) = HasEnded Stands catalo
 StepsTo memory Stands catalog fuel m t (Err H.Sink) = (IsIdle m → ⊥) × PrintedPart m (pei_step catalog fuel m) t
 StepsTo memory Stands catalog fuel m t (Err H.Memory) = (memory ≡ true) × PrintedPart m (pei_step catalog fuel m) t
 
--- the same from each machine that the core over its store stands for
+-- a step from each machine that the core over its store stands for
 abbrev pub Steps : {M : Type 0} → Bool → (M → StoreState → Type 0) → Catalog → CoreCall M → Result Stepped Halt → Type 0
 Steps memory stands catalog call result =
     (m : PeiMachine) (fuel : ℕ) → IsFor catalog fuel call.pei → StandsFor stands call.pei m
@@ -78,7 +79,7 @@ StartedTo Stands m later t (Err _) = PrintedPart m later t
 abbrev pub IsLicenceAt : Catalog → PeiMachine → ℕ → Licence → Type 0
 IsLicenceAt catalog m number licence = (part : Part) → part_at Phase.Pei catalog number ≡ Some part → licence ≡ licence_at m number part
 
--- the same from each machine that the core over its store stands for and in which the licence is the module's
+-- a start from each machine that the core over its store stands for and in which the licence is the module's
 abbrev pub StartsModule : {M : Type 0} → (M → StoreState → Type 0) → Catalog → ℕ → Licence → CoreCall M → Result (Unit {0}) SinkFault → Type 0
 StartsModule stands catalog number licence call result =
     (m : PeiMachine) → StandsFor stands call.pei m → IsLicenceAt catalog m number licence

@@ -46,7 +46,7 @@ swept name sweep installs changes = T.Called (record {
   changes = changes;
 })
 
--- a fault is a refusal with its status; want of memory has none
+-- a fault is a refusal with its status; running out of memory has none
 abbrev pub refused_with : CallName → Option Word → Result Taken OutOfMemory
 refused_with name None = Err (record {})
 refused_with name (Some status) = Ok (refusal name status)
@@ -71,12 +71,12 @@ Does does old registers (T.Wrote status writes) new = (does ≡ Wrote (written r
 Does does old registers (T.Called reply) new = does ≡ Called reply.name (reply_in reply registers new)
 Does does old registers T.Shadowed new = (does ≡ Own Shadowed) × (new ≡ old)
 
--- the same, or memory was wanting, which it never is where `memory` is false
+-- the effect is done, or memory ran out, which happens only if `memory` is true
 abbrev pub IsTaken : Bool → Effect → StoreState → List Register → Result Taken OutOfMemory → StoreState → Type 0
 IsTaken memory does old registers (Ok taken) new = Does does old registers taken new
 IsTaken memory does old registers (Err none) new = (memory ≡ true) × (new ≡ old)
 
--- an action over each state that the store stands for: it changes the state, it does not want memory, or it changes no state
+-- an action over each state that the store stands for: it may change the state, allocate nothing, or leave the state as it was
 abbrev pub Acts : Bool → (StoreState → Type 0) → (StoreState → Type 0) → Action → Frame → Result Taken OutOfMemory → Type 0
 Acts memory stood stands action frame result =
     AfterEach (And stood (HoldRegisters frame.registers)) stands (λ old new. IsTaken memory (effect old frame action) old frame.registers result new)
@@ -95,7 +95,7 @@ changes_by (T.Wrote status writes) = no_changes
 changes_by (T.Called reply) = reply.changes
 changes_by T.Shadowed = no_changes
 
--- they are none
+-- they changed no GUID
 abbrev pub ChangedNone : Result Taken OutOfMemory → Type 0
 ChangedNone (Ok taken) = changes_by taken ≡ no_changes
 ChangedNone (Err none) = ⊤

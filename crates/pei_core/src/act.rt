@@ -25,7 +25,7 @@ use pi_base::Phase;
 use store_model::PeiStore;
 
 impl<M: PeiStore + Drop> Pei<M> {
-    // The module of the top frame registers for shadow. Where memory has moved, it may start again.
+    // The module of the top frame registers for shadow. If memory has moved, it may start again.
     fn shadow<S: Sink>(&mut self, number: u32, sink: &mut S) -> Result<Event, Halt>
         requires within { IsWithin self.old.core.frames }
         requires here { number < length self.old.core.states }

@@ -19,7 +19,7 @@ use boot_model::PeiFrame;
 use pi_base::OutOfMemory;
 use store_model::PeiStore;
 
-/// Takes an action of a PEI script that scripts of DXE do not have, over any store, from the frame in which it stands: what the frame then holds is still to be written.
+/// Takes an action that only PEI scripts have, over any store. What it writes to its frame is still to be done by the caller.
 pub fn take_own<M: PeiStore>(
     store: &mut M,
     frame: &PeiFrame,

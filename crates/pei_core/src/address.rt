@@ -12,7 +12,7 @@ use phase_parts::{Writes, offset_in};
 use pi_base::Word;
 use store_model::PeiStore;
 
-/// The address of an offset of the heap that is not behind the end HOB.
+/// The physical address of an offset of the heap, which is not after the end HOB.
 pub fn address<M: PeiStore>(store: &M, offset: u64) -> u64
     requires state { Present (M.stands_for store.now) (λ s. offset ≤ end_place s) }
     ensures row { OfEach (M.stands_for store.now) (λ s. offset ≤ end_place s) (λ s. result ≡ s.base + offset) }
@@ -21,7 +21,7 @@ pub fn address<M: PeiStore>(store: &M, offset: u64) -> u64
     store.base() + offset
 }
 
-/// The action `addr`: the address of the body that a register's pool or descriptor is, and so many bytes more.
+/// The action `addr`: the address of the body of a register's pool or descriptor, plus so many bytes.
 pub fn write_address<M: PeiStore>(store: &M, frame: &PeiFrame, v: u8, x: u8, more: u32) -> Taken
     requires state { Present (M.stands_for store.now) (HoldRegisters frame.now.registers) }
     ensures row { Reads (M.stands_for store.now) (A.Addr v x more) frame.now result }

@@ -1,10 +1,10 @@
-//! What the core keeps beside the store.
+//! What the core keeps in addition to the store.
 use boot_model::PeimState;
 use phase_parts::{Frames, Fuel, VolumeList};
 use pi_base::Seq;
 use store_model::Sweep;
 
-/// What the core keeps beside the store.
+/// What the core keeps in addition to the store.
 #[derive(Drop)]
 pub struct Core {
     /// The scripts that run.
@@ -13,7 +13,7 @@ pub struct Core {
     pub(crate) sweep: Option<Sweep>,
     /// The volumes that were reported.
     pub(crate) reported: VolumeList,
-    /// How far each module has come.
+    /// The state of each module.
     pub(crate) states: Seq<PeimState>,
     /// The actions that were taken, and how many may be.
     pub(crate) fuel: Fuel,

@@ -11,7 +11,7 @@ use store_model::Desc;
 /// How many descriptors a call takes at most.
 pub const MOST_DESCRIPTORS: usize = 8;
 
-/// The descriptors in some registers, where each holds one.
+/// The descriptors in some registers, if each holds one.
 #[tactic(auto, using(crate::proofs::Collected::one_more))]
 pub fn descriptors_in(
     registers: &[Register; REGISTERS],
@@ -31,7 +31,7 @@ pub fn descriptors_in(
     Some(found)
 }
 
-/// The descriptors in two registers, where both hold one.
+/// The descriptors in two registers, if both hold one.
 pub fn two_descriptors(registers: &[Register; REGISTERS], old: u8, new: u8) -> Option<(Desc, Desc)>
     ensures { result ≡ both (R.descriptor_in registers.now old) (R.descriptor_in registers.now new) }
 {

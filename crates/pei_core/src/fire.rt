@@ -41,7 +41,7 @@ impl Core {
         }
     }
 
-    // A callback begins, unless as many frames stand as may. Whether it begins.
+    // Begins a callback, unless the most frames are running. Returns whether it began.
     fn begin_callback(&mut self, firing: &Firing, sweep: Sweep) -> bool
         ensures room { result ≡ not (nat_le MOST_FRAMES (length self.old.frames)) }
         ensures core { self.new ≡ (if result then with_callback self.old firing.now sweep else self.old) }
@@ -58,7 +58,7 @@ impl Core {
 }
 
 impl<M: PeiStore + Drop> Pei<M> {
-    // The first pair of the open sweep that fires now, with the sweep behind it.
+    // The first pair of the open sweep that fires now, with the sweep after it.
     pub(crate) fn next_firing(&self) -> Option<(Firing, Sweep)>
         requires state { (m : PeiMachine) × StandsFor M.stands_for self.now m }
         ensures { (m : PeiMachine) → StandsFor M.stands_for self.now m → FiresNext result m }
@@ -75,7 +75,7 @@ impl<M: PeiStore + Drop> Pei<M> {
         }
     }
 
-    // The callback of a pair that fires begins, unless as many frames stand as may.
+    // Begins the callback of a pair that fires, unless the most frames are running.
     pub(crate) fn fire<S: Sink>(
         &mut self,
         catalog: &Catalog,

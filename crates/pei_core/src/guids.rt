@@ -10,7 +10,7 @@ use arrayvec::ArrayVec;
 use pi_base::Guid;
 use store_model::{Desc, PeiStore};
 
-/// The GUIDs of the PPIs that were changed.
+/// The GUIDs of the PPIs that were installed or removed.
 #[derive(Drop)]
 pub struct Changes {
     /// Those that were installed.
@@ -20,7 +20,7 @@ pub struct Changes {
 }
 
 impl Changes {
-    /// One was installed.
+    /// One GUID was installed.
     pub fn installed(guid: Guid) -> Changes
         ensures { result ≡ one_installed guid }
     {
@@ -29,7 +29,7 @@ impl Changes {
         Changes { there, gone: None }
     }
 
-    /// None was changed.
+    /// No GUID was installed or removed.
     pub fn none() -> Changes
         ensures { result ≡ no_changes }
     {

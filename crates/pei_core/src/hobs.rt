@@ -13,7 +13,7 @@ use phase_parts::Writes;
 use pi_base::{OutOfMemory, Word};
 use store_model::PeiStore;
 
-/// The action `hob`.
+/// Does the action `hob`: makes a HOB.
 pub fn make_hob<M: PeiStore>(store: &mut M, kind: u8, body: &[u8]) -> Result<Taken, OutOfMemory>
     requires hob { is_hob kind (length body.now) ≡ true }
     requires state { Present (M.stands_for store.old) Anything }

@@ -1,7 +1,7 @@
-//! The PEI core over any store: a step of the boot machine at a time, with the lines that it prints (PI 1.8, volume 1, "PEI Foundation"); and what an action
-//! of PEI's own does.
+//! The PEI core over any store: a step of the boot machine at a time, with the lines that it prints (PI 1.8, volume 1, "PEI Foundation"); and what an action of
+//! PEI's own does.
 //!
-//! Tried in `boot_trials`: `tests`.
+//! Tested in `boot_trials`: `tests`.
 #![tactic(auto)]
 
 mod act;

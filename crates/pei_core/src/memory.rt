@@ -13,7 +13,7 @@ use phase_parts::{Writes, number_in};
 use pi_base::{OutOfMemory, Word};
 use store_model::PeiStore;
 
-// The numbers in two registers, where both hold one.
+// The numbers in two registers, if both hold one.
 fn numbers_in(registers: &[Register; REGISTERS], first: u8, second: u8) -> Option<(u64, u64)>
     ensures { result ≡ both (R.number_in registers.now first) (R.number_in registers.now second) }
 {
@@ -23,7 +23,7 @@ fn numbers_in(registers: &[Register; REGISTERS], first: u8, second: u8) -> Optio
     }
 }
 
-/// The action `memory`.
+/// Does the action `memory`: reports where permanent memory is.
 pub fn plan_memory<M: PeiStore>(
     store: &mut M,
     frame: &PeiFrame,
@@ -51,7 +51,7 @@ fn may_take(memory_type: u8, count: u32) -> bool
     (memory_type <= 6 || memory_type == 9 || memory_type == 10) && count != 0
 }
 
-/// The action `pages`.
+/// Does the action `pages`: takes pages.
 pub fn take_pages<M: PeiStore>(
     store: &mut M,
     r: u8,
@@ -105,7 +105,7 @@ fn set_boot_mode<M: PeiStore>(store: &mut M, frame: &PeiFrame, r: u8) -> Taken
     }
 }
 
-/// The action `boot_mode`.
+/// Does the action `boot_mode`: reads or sets the boot mode.
 pub fn boot_mode<M: PeiStore>(store: &mut M, frame: &PeiFrame, form: u8, r: u8) -> Taken
     requires state { Present (M.stands_for store.old) (HoldRegisters frame.now.registers) }
     ensures row { ActsAlways (M.stands_for store.old) (M.stands_for store.new) (A.BootMode form r) frame.now result }

@@ -26,7 +26,7 @@ fn kind_of(number: u8) -> DescKind
     }
 }
 
-// Where the GUID stands.
+// The source of a descriptor's GUID.
 fn guid_from(registers: &[Register; REGISTERS], guid: &GuidArg) -> Option<GuidFrom>
     ensures { result ≡ P.guid_arg registers.now guid.now }
 {
@@ -54,7 +54,7 @@ fn number_of(frame: &PeiFrame, kind: DescKind, arg: u8) -> Option<u64>
     }
 }
 
-// What a descriptor is made of.
+// The kind, the GUID and the number of a new descriptor.
 fn argument(frame: &PeiFrame, kind: DescKind, guid: &GuidArg, arg: u8) -> Option<(GuidFrom, u64)>
     requires arg { IsArgument kind arg }
     requires number { IsModuleNumber frame.now.module_number }
@@ -70,7 +70,7 @@ fn argument(frame: &PeiFrame, kind: DescKind, guid: &GuidArg, arg: u8) -> Option
     }
 }
 
-/// The action `desc`.
+/// Does the action `desc`: makes a descriptor.
 pub fn make_descriptor<M: PeiStore>(
     store: &mut M,
     frame: &PeiFrame,

@@ -12,7 +12,7 @@ use boot_model::{CallName, PeiFrame};
 use pi_base::{OutOfMemory, Word};
 use store_model::PeiStore;
 
-/// The action `notify`.
+/// Does the action `notify`: registers notifications.
 pub fn notify_ppis<M: PeiStore>(
     store: &mut M,
     frame: &PeiFrame,

@@ -25,7 +25,7 @@ use pi_base::OutOfMemory;
 use std::alloc::Global;
 use store_model::PeiStore;
 
-/// The PEI core over a store, and the machine of PEI that both stand for.
+/// The PEI core over a store. Both together stand for a machine of PEI.
 #[derive(Drop)]
 pub struct Pei<M: PeiStore + Drop> {
     pub(crate) store: M,
@@ -33,7 +33,8 @@ pub struct Pei<M: PeiStore + Drop> {
 }
 
 impl<M: PeiStore + Drop> Pei<M> {
-    /// The core at the opening, over a store that is as it was made: volume 0 and the volumes nested in it have just been reported. `fuel` is how many actions may be taken. All memory that the core needs is taken here.
+    /// The core at the opening, over a new store: volume 0 and the volumes nested in it have just been reported. `fuel` is how many actions may be taken. All
+    /// memory that the core needs is allocated here.
     pub fn begin(
         alloc: Global,
         store: M,
@@ -66,7 +67,7 @@ impl<M: PeiStore + Drop> Pei<M> {
         })
     }
 
-    /// One step of the machine, with its lines.
+    /// Does one step of the machine, and prints its lines.
     pub fn step<S: Sink>(&mut self, catalog: &Catalog, sink: &mut S) -> Result<Stepped, Halt>
         requires catalog { IsWellFormed catalog.now }
         requires made { (fuel : ℕ) × IsFor catalog.now fuel self.old }
@@ -80,7 +81,7 @@ impl<M: PeiStore + Drop> Pei<M> {
         self.step_by_case(catalog, sink)
     }
 
-    /// A module starts, by a licence, where a step would do nothing and a start of the module is still to come.
+    /// Starts a module by a licence. The core must be idle, and the start of the module still to come.
     pub fn start<S: Sink>(
         &mut self,
         catalog: &Catalog,
@@ -109,7 +110,7 @@ impl<M: PeiStore + Drop> Pei<M> {
         &self.store
     }
 
-    /// The store, for whoever goes on behind PEI.
+    /// The store, for what follows PEI.
     pub fn into_store(self) -> M
         ensures { (m : PeiMachine) → StandsFor M.stands_for self m → M.stands_for result m.store }
     {
@@ -123,7 +124,7 @@ impl<M: PeiStore + Drop> Pei<M> {
         self.core.reported.as_slice()
     }
 
-    /// The volumes that the last event reported: the last ones.
+    /// The volumes that the last event reported. They are the last of all reported volumes.
     pub fn reported_by(&self, event: &Event) -> &[u32]
         requires { (m : PeiMachine) × StandsFor M.stands_for self.now m × event.now.volumes ≤ length m.reported }
         ensures { (m : PeiMachine) → StandsFor M.stands_for self.now m → result.now ≡ last_volumes event.now.volumes m.reported }
@@ -131,14 +132,14 @@ impl<M: PeiStore + Drop> Pei<M> {
         last_volumes(&self.core.reported, event.volumes)
     }
 
-    /// How far each module has come, by number.
+    /// The state of each module, by number.
     pub fn states(&self) -> &[PeimState]
         ensures { (m : PeiMachine) → StandsFor M.stands_for self.now m → ArePeimStates m result.now }
     {
         self.core.states.as_slice()
     }
 
-    /// The module whose script runs. None where none does.
+    /// The module whose script runs. None if no script runs.
     pub fn running(&self) -> Option<u32>
         ensures { (m : PeiMachine) → StandsFor M.stands_for self.now m
             → result ≡ option_map (λ frame. frame.module_number) (top_of m.frames) }
@@ -149,21 +150,21 @@ impl<M: PeiStore + Drop> Pei<M> {
         }
     }
 
-    /// The actions that were taken.
+    /// How many actions were taken.
     pub fn actions(&self) -> u32
         ensures { (m : PeiMachine) → StandsFor M.stands_for self.now m → result ≡ m.actions }
     {
         self.core.fuel.taken
     }
 
-    /// How many actions may be taken.
+    /// How many actions may be taken in all.
     pub fn fuel(&self) -> u32
         ensures { (catalog : OfCatalog) (fuel : ℕ) → IsFor catalog fuel self.now → result ≡ fuel }
     {
         self.core.fuel.limit
     }
 
-    /// The number of starts, also of second ones; it stays at the last u32.
+    /// How many starts there were, second ones included. It stays at the greatest u32.
     pub fn starts(&self) -> u32
         ensures { (m : PeiMachine) → StandsFor M.stands_for self.now m → result ≡ min (length m.started + length m.again) (2 ^ 32 - 1) }
     {

@@ -12,7 +12,7 @@ use phase_parts::{Writes, peek, pool_in};
 use pi_base::{OutOfMemory, Word};
 use store_model::PeiStore;
 
-/// The action `pool`.
+/// Does the action `pool`: makes a pool.
 pub fn make_pool<M: PeiStore>(store: &mut M, r: u8, size: u32) -> Result<Taken, OutOfMemory>
     requires state { Present (M.stands_for store.old) Anything }
     ensures row { (frame : Frame) → Acts M.TAKES_MEMORY (M.stands_for store.old) (M.stands_for store.new) (A.Pool r size) frame result }
@@ -31,7 +31,7 @@ pub fn make_pool<M: PeiStore>(store: &mut M, r: u8, size: u32) -> Result<Taken, 
     }
 }
 
-/// The action `store`.
+/// Does the action `store`: writes bytes into a pool.
 pub fn write_pool<M: PeiStore>(
     store: &mut M,
     frame: &PeiFrame,
@@ -55,7 +55,7 @@ pub fn write_pool<M: PeiStore>(
     }
 }
 
-/// The action `peek`.
+/// Does the action `peek`: reads memory.
 pub fn read_memory<M: PeiStore>(store: &M, frame: &PeiFrame, v: u8, n: u8) -> Taken
     requires few { n ≤ 64 }
     requires state { Present (M.stands_for store.now) (HoldRegisters frame.now.registers) }

@@ -15,7 +15,7 @@ use pi_base::{Guid, OutOfMemory, Word};
 use store_laws::bodies_stay;
 use store_model::PeiStore;
 
-/// The action `install`.
+/// Does the action `install`: installs PPIs.
 pub fn install_ppis<M: PeiStore>(
     store: &mut M,
     frame: &PeiFrame,
@@ -39,7 +39,7 @@ pub fn install_ppis<M: PeiStore>(
     }
 }
 
-/// The action `reinstall`.
+/// Does the action `reinstall`: replaces a PPI by another.
 pub fn reinstall_ppi<M: PeiStore>(
     store: &mut M,
     frame: &PeiFrame,
@@ -65,7 +65,7 @@ pub fn reinstall_ppi<M: PeiStore>(
     }
 }
 
-/// The action `locate`.
+/// Does the action `locate`: finds a PPI.
 pub fn locate_ppi<M: PeiStore>(store: &M, d: u8, v: u8, guid: &Guid, instance: u16) -> Taken
     requires state { Present (M.stands_for store.now) Anything }
     ensures row { (frame : Frame) → Reads (M.stands_for store.now) (A.Locate d v guid.now instance) frame result }

@@ -16,7 +16,7 @@ use mod_catalog::Catalog;
 use store_model::{Firing, PeiStore};
 
 impl Core {
-    // A dispatch notification begins, where no script runs.
+    // A dispatch notification begins, if no script runs.
     fn begin_dispatch(&mut self, firing: &Firing)
         requires { self.old.frames ≡ [] }
         ensures { self.new ≡ with_notification self.old firing.now }
@@ -27,7 +27,7 @@ impl Core {
 }
 
 impl<M: PeiStore + Drop> Pei<M> {
-    // The first queued pair leaves the queue, and its notification begins; or none is left, and nothing is done.
+    // Removes the first queued pair and begins its notification. If the queue is empty, nothing is done.
     pub(crate) fn step_queue<S: Sink>(
         &mut self,
         catalog: &Catalog,

@@ -1,4 +1,4 @@
-//! Lines that are put, the volumes that PPIs report, and their lines.
+//! The volumes that PPIs report, and the lines that are printed.
 ghost use Rattle.std.specs.Prelude.{◌≡◌, ◌≤◌, ◌+◌, length};
 ghost use Rattle.mod_catalog.specs.WellFormed.{IsWellFormed};
 ghost use Rattle.store_model.specs.Service.{Present, OfEach};
@@ -14,7 +14,7 @@ use mod_catalog::Catalog;
 use phase_parts::VolumeList;
 use store_model::{Desc, PeiStore};
 
-/// What PPIs report comes behind the volumes that were reported. How many volumes that is.
+/// What PPIs report comes after the volumes that were reported. How many volumes that is.
 pub(crate) fn report<M: PeiStore>(
     reported: &mut VolumeList,
     catalog: &Catalog,
@@ -42,7 +42,7 @@ pub(crate) fn last_volumes(reported: &VolumeList, count: usize) -> &[u32]
     volumes.split_at(volumes.len() - count).1
 }
 
-/// Puts a line for each volume that is reported. Where the sink fails, a prefix of the text was put.
+/// Prints a line for each reported volume. If the sink fails, a prefix of the text was written.
 pub fn put_reports<S: Sink>(sink: &mut S, volumes: &[u32]) -> Result<(), SinkFault>
     ensures text { Puts result (S.text sink.old) (S.text sink.new) (text_of (report_lines volumes.now)) }
     ensures cause { SinkFaultsAfter result (S.faults sink.old) (S.faults sink.new) }

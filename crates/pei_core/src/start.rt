@@ -11,7 +11,7 @@ use phase_parts::begin_script;
 use pi_base::Phase;
 
 impl Core {
-    /// A module starts where no script runs, and its script begins. Whether it has one.
+    /// A module starts if no script runs, and its script begins. Whether it has one.
     pub(crate) fn start(&mut self, catalog: &Catalog, number: u32) -> bool
         requires idle { self.old.frames ≡ [] }
         requires here { number < length self.old.states }

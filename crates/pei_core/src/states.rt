@@ -1,4 +1,4 @@
-// How far each module has come.
+// The states of all modules.
 ghost use Rattle.std.specs.Prelude.{◌≡◌, ◌<◌, length, IfOk, replicate};
 ghost use Rattle.boot_model.specs.{PeimState.state_at, declared.peim_state.PeimState.TheVariants.NotDispatched};
 ghost use Rattle.pei_core.specs.Cores as C;
@@ -8,7 +8,7 @@ use boot_model::{PeimState, state_of};
 use pi_base::{OutOfMemory, Seq, Word};
 use std::alloc::Global;
 
-/// The states of so many modules, of which none has started.
+/// The states of so many modules, none of which has started.
 pub(crate) fn none_started(alloc: Global, count: usize) -> Result<Seq<PeimState>, OutOfMemory>
     ensures { IfOk result (λ states. states ≡ replicate count NotDispatched) }
 {
@@ -19,7 +19,7 @@ pub(crate) fn none_started(alloc: Global, count: usize) -> Result<Seq<PeimState>
     Ok(states)
 }
 
-// The state of a module behind its start.
+// The state of a module after its start.
 fn state_behind(state: PeimState) -> PeimState
     ensures { result ≡ C.state_behind state }
 {
@@ -30,7 +30,7 @@ fn state_behind(state: PeimState) -> PeimState
 }
 
 impl Core {
-    /// A module that has started registers for shadow: once, and it then awaits its second start. What its script is told.
+    /// Registers a started module for shadow, once: it then awaits its second start. Returns the status for its script.
     pub(crate) fn register(&mut self, number: u32) -> Word
         requires { number < length self.old.states }
         ensures status { result ≡ C.register_status (state_at self.old.states number) }

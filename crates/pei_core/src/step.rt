@@ -13,7 +13,7 @@ use mod_catalog::Catalog;
 use store_model::PeiStore;
 
 impl<M: PeiStore + Drop> Pei<M> {
-    // A step where no pair of the open sweep fires: the top frame's action, or between scripts the move, where it is due, or a notification of the queue.
+    // A step when no pair of the open sweep fires: the top frame's action; or between scripts the move, if it is due, or a notification of the queue.
     fn step_on<S: Sink>(&mut self, catalog: &Catalog, sink: &mut S) -> Result<Stepped, Halt>
         requires catalog { IsWellFormed catalog.now }
         requires made { (fuel : ℕ) × IsFor catalog.now fuel self.old }

@@ -10,7 +10,7 @@ use phase_parts::Writes;
 use pi_base::{OutOfMemory, Word};
 use store_model::{Desc, StoreFault, Sweep};
 
-/// What a service answers to a script.
+/// The answer of a service to a script.
 #[derive(Drop)]
 pub struct Reply {
     pub name: CallName,
@@ -23,7 +23,7 @@ pub struct Reply {
     pub sweep: Option<Sweep>,
     /// The descriptors of the PPIs that it installed, to be looked at for volumes.
     pub installs: ArrayVec<Desc, MOST_DESCRIPTORS>,
-    /// The GUIDs of the PPIs that it changed: none, where it was refused.
+    /// The GUIDs that it installed or removed: none if it was refused.
     pub changes: Changes,
 }
 
@@ -88,7 +88,7 @@ impl Taken {
         })
     }
 
-    // What a script is told of a fault of the store. Want of memory is no answer to it.
+    // The answer to a script if the store refuses. Running out of memory is not an answer.
     pub(crate) fn refused(name: CallName, fault: StoreFault) -> Result<Taken, OutOfMemory>
         ensures { result ≡ T.refused name fault }
     {

@@ -5,7 +5,7 @@ use Rattle.store_model.specs.{StoreState.StoreState, MemoryReading.rom_bytes}
 use Rattle.store_model.specs.Service.Descriptor.{guid_at, kind_at, number_at}
 use Rattle.pei_heap.specs.declared.links.descriptor.DescRead.{DescRead}
 
--- sixteen bytes stand at an address, in the heap or in a volume
+-- sixteen bytes are at an address, in the heap or in a volume
 abbrev pub HasGuidAt : StoreState → ℕ → Type 0
 HasGuidAt s address = ((s.base ≤ address) × (address + 16 ≤ s.base + s.len)) ⊎ (is_some (rom_bytes s.board.roms address 16) ≡ true)
 

@@ -20,7 +20,7 @@ pub record IsRow (s : StoreState) (sweep : Sweep) (ppi : ℕ) (to : ℕ) (guid :
   pub guid_is : guid ≡ guid_at s entry.descriptor
   pub to_is : sweep.note_to ≡ to
 
--- the first of the row that fires, or none of it does
+-- the first pair of the row that fires, or none of the row fires
 pub record IsMatchAt (s : StoreState) (sweep : Sweep) (ppi : ℕ) (from : ℕ) (found : Match) : Type 0 where
   pub note : Entry
   pub there : slice_get s.callbacks found.place ≡ Some note
@@ -32,7 +32,7 @@ abbrev pub IsFirstMatch : StoreState → Sweep → ℕ → ℕ → Option Match 
 IsFirstMatch s sweep ppi from (Some found) = IsMatchAt s sweep ppi from found
 IsFirstMatch s sweep ppi from None = first_firing s sweep (pairs_with sweep from ppi) ≡ None
 
--- the first pair of the sweep that fires, where it then stands, or none is left
+-- the first pair of the sweep that fires and the place of the sweep after it, or none is left
 abbrev pub IsNextPair : StoreState → Sweep → Option Pair → Type 0
 IsNextPair s sweep (Some pair) =
     (next_match s sweep ≡ Some (pair.firing, record sweep { ppi_at = pair.ppi; note_at = pair.note + 1 })) × (pair.note < sweep.note_to)

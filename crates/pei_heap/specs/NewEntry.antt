@@ -34,7 +34,7 @@ second_of Callbacks base entry = 0
 second_of Dispatches base entry = 0
 second_of Pendings base entry = base + entry.ppi
 
--- the heads with a node behind the last of a list
+-- the heads with a node after the last of a list
 abbrev pub first_of : ℕ → ℕ → ℕ
 first_of head address = if head == 0 then address else head
 

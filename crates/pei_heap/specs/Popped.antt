@@ -5,7 +5,7 @@ use Rattle.phys_mem.specs.declared.memory.PhysMem.{PhysMem}
 use Rattle.store_model.specs.{declared.store_handle.Firing.Firing, StoreState.StoreState, Service.Queue.queue_pop}
 use Rattle.pei_heap.specs.{declared.heap.Heap.Heap, declared.links.heads.Heads.Heads, Linked.IsLinked}
 
--- the heads where a next node, or 0, is the first of the queue
+-- the heads once a next node, or 0, is the first of the queue
 abbrev pub with_next_pair : ℕ → Heads → Heads
 with_next_pair next heads = record heads { queue = next; queue_tail = if next == 0 then 0 else heads.queue_tail }
 

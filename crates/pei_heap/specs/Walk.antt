@@ -9,7 +9,7 @@ use Rattle.store_model.specs.Service.Reading.{told_behind, told_of}
 use Rattle.store_laws.specs.{Named.IsNamed, Items.items, Items.first_address}
 use Rattle.pei_heap.specs.declared.links.walk.Met.{Met}
 
--- the entries of a list; queued pairs are none
+-- the entries of a list; queued pairs are not entries
 abbrev pub entries_in : StoreState → EntryList → List Entry
 entries_in s Ppis = s.ppis
 entries_in s Callbacks = s.callbacks
@@ -38,7 +38,7 @@ pub record StandsAt (s : StoreState) (list : EntryList) (place : ℕ) (at : ℕ)
   pub entries : HasEntries list
   pub here : at ≡ address_from s list place
 
--- the entry in that place, and where the next one stands
+-- the entry at that place, and the address of the next one's node
 pub record IsMetAt (s : StoreState) (list : EntryList) (place : ℕ) (met : Met) : Type 0 where
   pub rest : drop place (entries_in s list) ≡ met.entry ∷ drop (place + 1) (entries_in s list)
   pub next : StandsAt s list (place + 1) met.next
@@ -55,7 +55,7 @@ IsNoteHead s Ppi head = ⊥
 IsNoteHead s Callback head = head ≡ address_from s Callbacks 0
 IsNoteHead s Dispatch head = head ≡ address_from s Dispatches 0
 
--- the address of the first of the nodes that are left behind one
+-- the address of the first of the nodes that are left after one
 abbrev pub IsBehind : StoreState → EntryList → Option ℕ → ℕ → Type 0
 IsBehind s list node at =
     (place : ℕ) × (told_behind node (told_of s list) ≡ drop place (told_of s list)) × (at ≡ address_from s list place)

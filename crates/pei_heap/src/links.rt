@@ -1,6 +1,6 @@
 //! The linked nodes of PPIs, notifications and queued pairs in the heap.
 //!
-//! Tried in `heap_trials`, below `heap_store`.
+//! Tested in `heap_trials`, below `heap_store`.
 
 mod descriptor;
 mod entry;

@@ -6,7 +6,7 @@ ghost use Rattle.store_laws.specs.Word as W;
 use phys_mem::Stretch;
 use pi_base::{GUID_LEN, Guid, u16_at, u32_at, u64_at};
 
-/// The number in the eight bytes at an offset.
+/// The number in the eight bytes at an offset from the heap's base.
 pub fn word_in(heap: &Stretch<'_>, offset: usize) -> u64
     requires { offset + 8 ≤ length heap.now }
     ensures { result ≡ W.word_in heap.now offset }
@@ -19,7 +19,7 @@ pub fn word_in(heap: &Stretch<'_>, offset: usize) -> u64
     u64_at(bytes.as_slice(), 0)
 }
 
-/// The number in the four bytes at an offset.
+/// The number in the four bytes at an offset from the heap's base.
 pub fn half_word_in(heap: &Stretch<'_>, offset: usize) -> u32
     requires { offset + 4 ≤ length heap.now }
     ensures { result ≡ W.half_word_in heap.now offset }
@@ -32,7 +32,7 @@ pub fn half_word_in(heap: &Stretch<'_>, offset: usize) -> u32
     u32_at(bytes.as_slice(), 0)
 }
 
-/// The number in the two bytes at an offset.
+/// The number in the two bytes at an offset from the heap's base.
 pub fn short_in(heap: &Stretch<'_>, offset: usize) -> u16
     requires { offset + 2 ≤ length heap.now }
     ensures { result ≡ W.short_in heap.now offset }
@@ -45,7 +45,7 @@ pub fn short_in(heap: &Stretch<'_>, offset: usize) -> u16
     u16_at(bytes.as_slice(), 0)
 }
 
-/// The GUID at an offset.
+/// The GUID at an offset from the heap's base.
 pub fn guid_in(heap: &Stretch<'_>, offset: usize) -> Guid
     requires { offset + 16 ≤ length heap.now }
     ensures { result ≡ guid_at heap.now offset }

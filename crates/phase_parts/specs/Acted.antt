@@ -1,4 +1,4 @@
--- What is told of the top frame's next action, with the fuel and the frames after it.
+-- The outcome of the top frame's next action, with the fuel and the frames after it.
 -- Own.
 use Rattle.std.specs.Prelude.{◌≡◌, ◌<◌, List, [], ◌∷◌, None, length}
 use Rattle.pi_base.specs.declared.phase.Phase.{Phase}
@@ -9,7 +9,7 @@ use Rattle.boot_model.specs.declared.frame.Frame.{Frame}
 use Rattle.phase_parts.specs.{declared.fuel.Fuel.Fuel, declared.next.Acted.Acted}
 use Rattle.phase_parts.specs.declared.next.Acted.TheVariants as A
 
--- an action of its phase alone stands there, in the script of a module, and nothing was done
+-- an action of its phase alone is there, in the script of a module, and nothing was done
 pub record HasLeft {W : Type 0} (phase : Phase) (catalog : Catalog) (frame : Frame W) (below : List (Frame W)) (action : Action) (new : List (Frame W)) : Type 0 where
   pub is : action ≡ action_at phase catalog frame
   pub own : deed frame action ≡ None

@@ -15,12 +15,12 @@ pub data Deed : Type 0 where
   Skipped : (n : ℕ) → Deed
   Returned : (status : Word) → Deed
 
--- a register becomes a number, where there is one
+-- a register becomes a number, if there is one
 abbrev pub number_written : List Register → ℕ → Option ℕ → Deed
 number_written registers r None = Wrote registers InvalidParameter
 number_written registers r (Some n) = Wrote (slice_set registers r (Number n)) Success
 
--- what is added to the number in a register, where it holds one
+-- a number is added to the number in a register, if it holds one
 abbrev pub number_added : List Register → ℕ → ℕ → Deed
 number_added registers r n = number_written registers r (option_map (λ old. (old + n) % 2 ^ 64) (number_in registers r))
 

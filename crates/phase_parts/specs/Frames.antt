@@ -5,11 +5,11 @@ use Rattle.pi_base.specs.declared.word.Word.{Word}
 use Rattle.boot_model.specs.{declared.frame.Frame.Frame, declared.frame.Register.Register}
 pub use Rattle.boot_model.specs.Frames.{frame_at, notified, past, start_frames, swept}
 
--- the frame behind an action, with its registers, its status and what it has still to visit
+-- the frame after an action, with its registers, its status and what it has still to visit
 abbrev pub answered : {W : Type 0} → Frame W → List Register → Word → Option W → Frame W
 answered frame registers status sweep = record (past frame 0) { registers = registers; last = status; sweep = sweep }
 
--- of the frames that stand, the top one first
+-- the top one of the running frames
 abbrev pub top_of : {W : Type 0} → List (Frame W) → Option (Frame W)
 top_of [] = None
 top_of (frame ∷ below) = Some frame

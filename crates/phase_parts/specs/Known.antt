@@ -13,7 +13,7 @@ pub record AreKnown (catalog : Catalog) (list : List ℕ) : Type 0 where
   pub differ : AllDiffer list
   pub in_catalog : AreInCatalog catalog list
 
--- volumes of a well-formed catalogue may come to those that are known
+-- volumes of a well-formed catalogue may be added to those that are known
 pub record MayCome (catalog : Catalog) (list numbers : List ℕ) : Type 0 where
   pub formed : IsWellFormed catalog
   pub known : AreKnown catalog list

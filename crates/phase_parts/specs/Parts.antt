@@ -1,12 +1,12 @@
--- The parts of a phase in a volume as they are put in order: rank by rank, and then those without a rank.
--- PI 1.8, volume 1, "A Priori File"; that the others come by place is own.
+-- The parts of a phase in a volume as they are put in order: rank by rank, and then those without a rank. PI 1.8, volume 1, "A Priori File"; that the others
+-- follow by place is own.
 use Rattle.std.specs.Prelude.{ℕ, ◌+◌, Bool, false, ◌==◌, ◌&&◌, if◌then◌else◌, List, [], ◌∷◌, Option, Some, None, is_none, filter, flat_map}
 use Rattle.pi_base.specs.{declared.phase.Phase.Phase, Lists.numbers}
 use Rattle.mod_catalog.specs.{declared.catalogue.Catalog.Catalog, declared.catalogue.Module.Module, declared.catalogue.Part.Part}
 use Rattle.mod_catalog.specs.Parts.{part_of, parts_in, rank_at}
 use Rattle.boot_model.specs.PeiChoice.{is_rank, ranked}
 
--- whether a rank is this one, or there is none
+-- whether a rank is this one; None means no rank
 abbrev pub is_ranked_as : Option ℕ → Option ℕ → Bool
 is_ranked_as None rank = is_none rank
 is_ranked_as (Some wanted) rank = is_rank rank wanted
@@ -15,7 +15,7 @@ abbrev pub is_part_as : Option ℕ → Option Part → Bool
 is_part_as wanted None = false
 is_part_as wanted (Some part) = is_ranked_as wanted part.rank
 
--- whether a module has a part of a phase in a volume, with this rank or with none
+-- whether a module has a part of a phase in a volume, with this rank, or without one
 abbrev pub is_wanted : Phase → Option ℕ → ℕ → Module → Bool
 is_wanted phase wanted volume m = m.volume == volume && is_part_as wanted (part_of phase m)
 
@@ -37,6 +37,6 @@ ranked_below phase catalog volume end = flat_map (λ rank. wanted_in phase (Some
 abbrev pub ranked_parts : Phase → Catalog → ℕ → List ℕ
 ranked_parts phase catalog volume = ranked (rank_at phase catalog) (parts_in phase catalog volume)
 
--- the parts of a volume that have none, by place
+-- the parts of a volume without a rank, by place
 abbrev pub unranked_parts : Phase → Catalog → ℕ → List ℕ
 unranked_parts phase catalog volume = filter (λ number. is_none (rank_at phase catalog number)) (parts_in phase catalog volume)

@@ -1,4 +1,4 @@
--- What a script of either phase is told of the bytes at the address in a register.
+-- What a script of either phase receives of the bytes at the address in a register.
 -- PI 1.8, volume 1, "PEI Services"; the action is own.
 use Rattle.std.specs.Prelude.{ℕ, List, Option, Some, None}
 use Rattle.pi_base.specs.declared.word.Word.{Word}

@@ -6,11 +6,11 @@ use Rattle.store_model.specs.{declared.store_handle.Desc.Desc, StoreState.StoreS
 use Rattle.store_model.specs.MemoryReading.{bytes_at}
 use Rattle.boot_model.specs.Reporting.{told_by, reports, volume_info_len}
 
--- the volume of which the volume information at an address tells
+-- the volume to which the volume information at an address refers
 abbrev pub volume_of_info : Catalog → StoreState → ℕ → Option ℕ
 volume_of_info catalog s address = option_and_then (told_by catalog) (bytes_at s address volume_info_len)
 
--- the volumes that are known, and behind them those that these PPIs report
+-- the volumes that are known, and after them those that these PPIs report
 abbrev pub with_reports : Catalog → StoreState → List ℕ → List Desc → List ℕ
 with_reports catalog s known ppis = known ++ reports catalog s known (offsets ppis)
 

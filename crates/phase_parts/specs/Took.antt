@@ -1,4 +1,4 @@
--- What is told of an action of the top frame, with the frames after it.
+-- The outcome of an action of the top frame, with the frames after it.
 -- Own.
 use Rattle.std.specs.Prelude.{◌≡◌, List, [], ◌∷◌, Some, None}
 use Rattle.act_code.specs.declared.action.Action.{Action}

@@ -1,4 +1,4 @@
--- The registers behind what an action writes.
+-- The registers after what an action writes.
 -- Own; the profile of the action scripts.
 use Rattle.std.specs.Prelude.{List, slice_set}
 use Rattle.boot_model.specs.declared.frame.Register.{Register}

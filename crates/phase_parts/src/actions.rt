@@ -13,7 +13,7 @@ use arrayvec::ArrayVec;
 use boot_model::{Line, Register, SHOWN_LEN};
 use pi_base::Word;
 
-/// What came of an action of the top frame.
+/// The outcome of an action of the top frame.
 #[derive(Drop)]
 pub enum Taken {
     /// It is done, and prints nothing.
@@ -66,7 +66,7 @@ fn add_number<W: Copy>(frames: &mut Frames<W>, r: u8, n: u64)
     }
 }
 
-/// The top frame takes an action, where both phases have it.
+/// Takes an action in the top frame, if both phases have the action.
 pub fn take_action<W: Copy>(frames: &mut Frames<W>, action: &Action) -> Taken
     requires action { (phase : OfPhase) × IsScriptAction phase action.now }
     requires place { IsWithin frames.old }

@@ -5,7 +5,7 @@ ghost use Rattle.mod_catalog.specs.{Parts.family, WellFormed.IsWellFormed};
 use crate::volume_list::VolumeList;
 use mod_catalog::Catalog;
 
-/// A volume, and each volume nested in it at any depth, by number. Parents stand before what is nested in them, so one pass finds all.
+/// A volume, and each volume nested in it at any depth, by number. Parents are before what is nested in them, so one pass finds all.
 pub(crate) fn family_of(catalog: &Catalog, volume: u32) -> VolumeList
     requires { IsWellFormed catalog.now }
     ensures { result ≡ family catalog.now volume }

@@ -1,4 +1,4 @@
-// The action at which a frame stands.
+// The next action of a frame.
 ghost use Rattle.std.specs.Prelude.{◌≡◌, option_copied};
 ghost use Rattle.mod_catalog.specs.Parts.{part_at};
 ghost use Rattle.phase_parts.specs.Found.{found_action};
@@ -8,7 +8,7 @@ use boot_model::Frame;
 use mod_catalog::{Catalog, Part};
 use pi_base::Phase;
 
-/// The part that a module has for a phase. None where it has none, or there is no such module.
+/// The part that a module has for a phase. None if it has no such part, or there is no such module.
 pub fn part_of<'a>(catalog: &'a Catalog, phase: Phase, number: u32) -> Option<&'a Part>
     ensures { option_copied result ≡ part_at phase catalog.now number }
 {
@@ -21,7 +21,7 @@ pub fn part_of<'a>(catalog: &'a Catalog, phase: Phase, number: u32) -> Option<&'
     }
 }
 
-/// The action at which a frame stands. None behind the end of its block, and where there is no such block.
+/// The next action of a frame. None after the end of its block, and if there is no such block.
 pub fn action_at<'a, W>(catalog: &'a Catalog, phase: Phase, frame: &Frame<W>) -> Option<&'a Action>
     ensures { option_copied result ≡ found_action phase catalog.now frame.now }
 {

@@ -22,7 +22,7 @@ pub fn frame_at<W>(number: u32, block: u8, registers: [Register; REGISTERS]) -> 
     }
 }
 
-/// The frame in which a notification runs: its first two registers hold what it is told.
+/// The frame in which a notification runs. Its first two registers hold what the notification receives.
 pub fn notified<W>(number: u32, block: u8, first: Register, second: Register) -> Frame<W>
     ensures { result ≡ F.notified number block first second }
 {
@@ -32,7 +32,7 @@ pub fn notified<W>(number: u32, block: u8, first: Register, second: Register) ->
     frame_at(number, block, registers)
 }
 
-/// The frame stands behind its action and n more, its sweep closed.
+/// The frame is after its action and n more, its sweep closed.
 pub(crate) fn advance<W: Copy>(frame: &mut Frame<W>, n: u8)
     requires { frame.old.position < MOST_ACTIONS }
     ensures { frame.new ≡ F.past frame.old n }
@@ -41,7 +41,7 @@ pub(crate) fn advance<W: Copy>(frame: &mut Frame<W>, n: u8)
     frame.sweep = None;
 }
 
-/// The frame stands behind its action, which wrote registers, with the action's status and what it has still to visit.
+/// The frame is after its action, which wrote registers, with the action's status and what it has still to visit.
 pub(crate) fn answer<W: Copy>(frame: &mut Frame<W>, writes: &Writes, status: Word, sweep: Option<W>)
     requires { frame.old.position < MOST_ACTIONS }
     ensures { frame.new ≡ F.answered frame.old (written frame.old.registers writes.now) status sweep }

@@ -1,6 +1,6 @@
 //! How many actions a phase may take.
 
-/// The actions that were taken, and how many may be.
+/// How many actions were taken, and how many may be taken in all.
 #[derive(Clone, Copy)]
 pub struct Fuel {
     pub taken: u32,
@@ -10,7 +10,7 @@ pub struct Fuel {
 impl Fuel {
     ghost use Rattle.phase_parts.specs.Spent.{Spends};
 
-    /// Counts one more, unless as many were taken as may be.
+    /// Counts one more action, and returns true. If the most are taken already, it returns false and counts nothing.
     pub fn spend(&mut self) -> bool
         ensures { Spends self.old result self.new }
     {

@@ -3,7 +3,7 @@ ghost use Rattle.boot_model.specs.{DxeAction.DxeReply, declared.driver.ProtocolS
 ghost use Rattle.store_model.specs.declared.store_handle.Sweep.{Sweep};
 ghost use Rattle.phase_parts.specs.Alike.{AreAlike};
 
-/// What an action does that both phases have is the same in each, and what another does is its phase's own.
+/// An action that both phases have does the same in each; any other action belongs to one phase.
 pub fn effects_are_alike()
     ensures pei { AreAlike Sweep Reply PeiOwn }
     ensures dxe { AreAlike ProtocolSweep DxeReply ⊥ }

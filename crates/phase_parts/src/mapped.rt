@@ -4,7 +4,7 @@ ghost use Rattle.mod_catalog.specs.{declared.limits.TheConstants.MOST_VOLUMES, P
 
 use mod_catalog::Catalog;
 
-/// The number of the volume that is mapped at a physical address. None where no volume is.
+/// The number of the volume that is mapped at a physical address. None if no volume is mapped there.
 pub fn volume_at(catalog: &Catalog, base: u64) -> Option<u32>
     requires { length catalog.now.volumes ≤ MOST_VOLUMES }
     ensures volume { result ≡ volume_at catalog.now base }

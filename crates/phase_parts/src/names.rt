@@ -5,7 +5,7 @@ ghost use Rattle.mod_catalog.specs.Parts.{module_name, module_volume};
 use mod_catalog::Catalog;
 use pi_base::Guid;
 
-/// The number of a module's volume; 0 where there is no such module.
+/// The number of a module's volume; 0 if there is no such module.
 pub fn volume_of(catalog: &Catalog, number: u32) -> u32
     ensures { result ≡ module_volume catalog.now number }
 {
@@ -15,7 +15,7 @@ pub fn volume_of(catalog: &Catalog, number: u32) -> u32
     }
 }
 
-/// The name of a module's file; zeros where there is no such module.
+/// The name of a module's file; zeros if there is no such module.
 pub fn name_of(catalog: &Catalog, number: u32) -> Guid
     ensures { result ≡ module_name catalog.now number }
 {

@@ -13,7 +13,7 @@ use boot_model::Line;
 use mod_catalog::Catalog;
 use pi_base::{Phase, Word};
 
-/// What came of the top frame's next action.
+/// The outcome of the top frame's next action.
 #[derive(Drop)]
 pub enum Acted<'a> {
     /// No fuel is left, and nothing is done.
@@ -26,7 +26,7 @@ pub enum Acted<'a> {
     Own(&'a Action),
 }
 
-// The action at which the top frame stands.
+// The next action of the top frame.
 fn next_action<'a, W: Copy>(
     frames: &Frames<W>,
     catalog: &'a Catalog,
@@ -46,7 +46,7 @@ fn next_action<'a, W: Copy>(
     }
 }
 
-/// The top frame takes its next action, where fuel is left and both phases have it.
+/// Takes the next action of the top frame, if there is fuel left and both phases have the action.
 pub fn act<'a, W: Copy>(
     frames: &mut Frames<W>,
     fuel: &mut Fuel,

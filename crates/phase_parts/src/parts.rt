@@ -10,7 +10,7 @@ use mod_catalog::{Catalog, MOST_MODULES};
 use pi_base::Phase;
 use std::marker::Model;
 
-/// The parts of a phase of some volumes, by the numbers of their modules. It has room for the parts of every module, and takes no memory.
+/// The parts of one phase in some volumes, by the numbers of their modules. It has room for the parts of every module, and allocates nothing.
 #[derive(Drop)]
 pub struct Parts {
     numbers: ArrayVec<u32, MOST_MODULES>,
@@ -25,7 +25,7 @@ impl Model for Parts {
 }
 
 impl Parts {
-    /// None.
+    /// No parts.
     pub fn new() -> Parts
         ensures { result ≡ [] }
     {
@@ -34,14 +34,14 @@ impl Parts {
         }
     }
 
-    /// All of them.
+    /// The numbers of the modules, in order.
     pub fn as_slice(&self) -> &[u32]
         ensures { result.now ≡ self.now }
     {
         self.numbers.as_slice()
     }
 
-    // Puts a number at the end where it is wanted.
+    // Adds a number at the end, if it is wanted.
     fn push_where(&mut self, is_wanted: bool, number: u32)
         requires room { IsTrue is_wanted → length self.old < MOST_MODULES }
         ensures { self.new ≡ (if is_wanted then self.old ++ number ∷ [] else self.old) }
@@ -51,7 +51,7 @@ impl Parts {
         }
     }
 
-    // Puts the parts of a volume that have this rank, or none, at the end.
+    // Adds the parts of a volume with this rank, or without one, at the end.
     fn push_wanted(&mut self, catalog: &Catalog, phase: Phase, volume: u32, wanted: Option<u32>)
         requires few { length catalog.now.modules ≤ MOST_MODULES }
         requires room { length (self.old ++ wanted_in phase wanted catalog.now volume) ≤ MOST_MODULES }
@@ -64,7 +64,7 @@ impl Parts {
         }
     }
 
-    /// Puts the parts of a volume that have a place in its a priori list at the end, in list order.
+    /// Adds the parts of a volume that are in its a priori list at the end, in list order.
     pub fn push_ranked(&mut self, catalog: &Catalog, phase: Phase, volume: u32)
         requires few { length catalog.now.modules ≤ MOST_MODULES }
         requires room { length (self.old ++ ranked (rank_at phase catalog.now) (parts_in phase catalog.now volume)) ≤ MOST_MODULES }
@@ -77,7 +77,7 @@ impl Parts {
         }
     }
 
-    /// Puts the parts of a volume that have none at the end, by place.
+    /// Adds the parts of a volume that are not in its a priori list at the end, by place.
     pub fn push_unranked(&mut self, catalog: &Catalog, phase: Phase, volume: u32)
         requires few { length catalog.now.modules ≤ MOST_MODULES }
         requires room { length (self.old ++ unranked_parts phase catalog.now volume) ≤ MOST_MODULES }
@@ -86,7 +86,7 @@ impl Parts {
         self.push_wanted(catalog, phase, volume, None);
     }
 
-    /// Puts the parts of a volume at the end, by place.
+    /// Adds all parts of a volume at the end, by place.
     pub fn push_all(&mut self, catalog: &Catalog, phase: Phase, volume: u32)
         requires few { length catalog.now.modules ≤ MOST_MODULES }
         requires room { length (self.old ++ parts_in phase catalog.now volume) ≤ MOST_MODULES }

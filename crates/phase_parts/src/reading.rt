@@ -9,7 +9,7 @@ use boot_model::{Extra, REGISTERS, Register, SHOWN_LEN};
 use pi_base::Word;
 use store_model::PeiStore;
 
-/// What a script is told, which changes nothing but its last status.
+/// A result for a script that changes only the script's last status.
 #[derive(Drop)]
 pub struct Answer {
     pub status: Word,
@@ -17,7 +17,7 @@ pub struct Answer {
     pub extra: Extra,
 }
 
-/// The action `peek`, of scripts of both phases.
+/// Does the action `peek`, which scripts of both phases have.
 pub fn peek<M: PeiStore>(store: &M, registers: &[Register; REGISTERS], v: u8, n: u8) -> Answer
     requires few { n ≤ 64 }
     requires state { Present (M.stands_for store.now) Anything }

@@ -6,7 +6,7 @@ ghost use Rattle.phase_parts.specs.Writes.{written};
 use boot_model::{REGISTERS, Register};
 use store_model::{Desc, Pool};
 
-/// A register that an action writes, and what it then holds. A register that is not there is not written.
+/// A register that an action writes, and its new contents. A register that does not exist is not written.
 #[derive(Clone, Copy, PartialEq, Eq)]
 pub struct Write {
     pub r: u8,
@@ -22,7 +22,7 @@ pub enum Writes {
 }
 
 impl Writes {
-    /// One register.
+    /// One register is written.
     pub fn one(r: u8, register: Register) -> Writes
         ensures { result ≡ Writes.One (record { r = r; register = register }) }
     {
@@ -30,7 +30,7 @@ impl Writes {
     }
 }
 
-/// The number in a register.
+/// The number in a register. None if it holds none.
 pub fn number_in(registers: &[Register; REGISTERS], r: u8) -> Option<u64>
     ensures { result ≡ R.number_in registers.now r }
 {
@@ -40,7 +40,7 @@ pub fn number_in(registers: &[Register; REGISTERS], r: u8) -> Option<u64>
     }
 }
 
-/// The pool in a register.
+/// The pool in a register. None if it holds none.
 pub fn pool_in(registers: &[Register; REGISTERS], r: u8) -> Option<Pool>
     ensures { result ≡ R.pool_in registers.now r }
 {
@@ -50,7 +50,7 @@ pub fn pool_in(registers: &[Register; REGISTERS], r: u8) -> Option<Pool>
     }
 }
 
-/// The descriptor in a register.
+/// The descriptor in a register. None if it holds none.
 pub fn descriptor_in(registers: &[Register; REGISTERS], r: u8) -> Option<Desc>
     ensures { result ≡ R.descriptor_in registers.now r }
 {
@@ -60,7 +60,7 @@ pub fn descriptor_in(registers: &[Register; REGISTERS], r: u8) -> Option<Desc>
     }
 }
 
-/// The handle in a register.
+/// The handle in a register. None if it holds none.
 pub fn handle_in(registers: &[Register; REGISTERS], r: u8) -> Option<u32>
     ensures { result ≡ R.handle_in registers.now r }
 {
@@ -70,7 +70,7 @@ pub fn handle_in(registers: &[Register; REGISTERS], r: u8) -> Option<u32>
     }
 }
 
-/// The offset of the body that a register's pool or descriptor is, from the heap's base.
+/// The offset, from the heap's base, of the body of a register's pool or descriptor. None if it holds neither.
 pub fn offset_in(registers: &[Register; REGISTERS], r: u8) -> Option<u64>
     ensures { result ≡ R.offset_of (R.register registers.now r) }
 {
@@ -81,7 +81,7 @@ pub fn offset_in(registers: &[Register; REGISTERS], r: u8) -> Option<u64>
     }
 }
 
-// Writes a register, where it is there.
+// Writes a register, if it exists.
 fn write_one(registers: &mut [Register; REGISTERS], write: Write)
     ensures { registers.new ≡ slice_set registers.old write.r write.register }
 {

@@ -19,7 +19,7 @@ const INFO_LEN: usize = 48;
 /// The offset of its FvInfo, the address of the volume.
 const INFO_AT: usize = 16;
 
-// The volume of which these bytes of a PPI tell, where it says that the volume has a file system of the specification.
+// The volume to which these bytes of a PPI refer, if they say that it has a file system of the specification.
 fn volume_in(catalog: &Catalog, info: &[u8; INFO_LEN]) -> Option<u32>
     requires { length catalog.now.volumes ≤ MOST_VOLUMES }
     ensures volume { result ≡ R.told_by catalog.now info.now }
@@ -33,7 +33,7 @@ fn volume_in(catalog: &Catalog, info: &[u8; INFO_LEN]) -> Option<u32>
     }
 }
 
-// The volume of which the volume information at an address tells.
+// The volume to which the volume information at an address refers.
 fn volume_of_info<M: PeiStore>(catalog: &Catalog, store: &M, address: u64) -> Option<u32>
     requires few { length catalog.now.volumes ≤ MOST_VOLUMES }
     requires state { Present (M.stands_for store.now) Anything }
@@ -48,7 +48,7 @@ fn volume_of_info<M: PeiStore>(catalog: &Catalog, store: &M, address: u64) -> Op
     }
 }
 
-// The volume of which the PPI of a descriptor tells.
+// The volume to which the PPI of a descriptor refers.
 fn volume_of_ppi<M: PeiStore>(catalog: &Catalog, store: &M, ppi: Desc) -> Option<u32>
     requires few { length catalog.now.volumes ≤ MOST_VOLUMES }
     requires state { Present (M.stands_for store.now) (λ s. IsDesc s ppi) }
@@ -64,7 +64,8 @@ fn volume_of_ppi<M: PeiStore>(catalog: &Catalog, store: &M, ppi: Desc) -> Option
 }
 
 impl VolumeList {
-    /// What the PPIs of these descriptors report: each volume of the catalogue of which one tells, if it is new, and after it each volume nested in it that is.
+    /// Adds the volumes that the PPIs of these descriptors report: each new volume of the catalogue to which one refers, followed by each new volume nested in
+    /// it.
     pub fn report<M: PeiStore>(&mut self, catalog: &Catalog, store: &M, ppis: &[Desc])
         requires catalog { IsWellFormed catalog.now }
         requires known { AreKnown catalog.now self.old }

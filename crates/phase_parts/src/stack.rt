@@ -12,7 +12,7 @@ use boot_model::{Frame, MOST_FRAMES};
 use pi_base::Word;
 use std::marker::Model;
 
-/// The scripts that run, the top one first.
+/// The running scripts, the top one first.
 #[derive(Drop)]
 pub struct Frames<W> {
     // The top one last.
@@ -29,7 +29,7 @@ impl<W> Model for Frames<W> {
 }
 
 impl<W: Copy> Frames<W> {
-    /// None.
+    /// No running script.
     pub fn new() -> Frames<W>
         ensures { result ≡ [] }
     {
@@ -38,21 +38,21 @@ impl<W: Copy> Frames<W> {
         }
     }
 
-    /// The top one.
+    /// The top frame.
     pub fn top(&self) -> Option<&Frame<W>>
         ensures { option_copied result ≡ top_of self.now }
     {
         self.items.as_slice().last()
     }
 
-    /// Whether as many stand as may.
+    /// Whether the most frames are running.
     pub fn is_full(&self) -> bool
         ensures { result ≡ nat_le MOST_FRAMES (length self.now) }
     {
         self.items.is_full()
     }
 
-    /// One more begins, on top.
+    /// A script begins, in a new top frame.
     pub fn begin(&mut self, frame: Frame<W>)
         requires { length self.old < MOST_FRAMES }
         ensures { self.new ≡ frame ∷ self.old }
@@ -60,14 +60,14 @@ impl<W: Copy> Frames<W> {
         self.items.push(frame);
     }
 
-    /// The top one ends.
+    /// The top frame ends.
     pub fn end(&mut self)
         ensures { self.new ≡ below_top self.old }
     {
         self.items.pop();
     }
 
-    /// The top one's call has visited what stands before this.
+    /// The call of the top frame has visited what is before this.
     pub fn keep_sweep(&mut self, sweep: W)
         ensures { self.new ≡ swept self.old sweep }
     {
@@ -76,7 +76,7 @@ impl<W: Copy> Frames<W> {
         }
     }
 
-    /// What the top one's call has still to visit.
+    /// What the call of the top frame still has to visit.
     pub fn sweep(&self) -> Option<W>
         ensures { result ≡ top_sweep self.now }
     {
@@ -86,7 +86,7 @@ impl<W: Copy> Frames<W> {
         }
     }
 
-    /// The top one stands behind its action and n more.
+    /// Moves the top frame past its action and `n` more.
     pub fn advance(&mut self, n: u8)
         requires { IsWithin self.old }
         ensures { (frame : OfFrame W) (below : List (OfFrame W)) → self.old ≡ frame ∷ below → self.new ≡ past frame n ∷ below }
@@ -96,7 +96,7 @@ impl<W: Copy> Frames<W> {
         }
     }
 
-    /// The top one's action wrote registers and has this status, and this is still to be visited.
+    /// Writes the registers of the top frame's action, sets its status, and records what its call still has to visit.
     pub fn answer(&mut self, writes: &Writes, status: Word, sweep: Option<W>)
         requires { IsWithin self.old }
         ensures { (frame : OfFrame W) (below : List (OfFrame W)) → self.old ≡ frame ∷ below
@@ -107,7 +107,7 @@ impl<W: Copy> Frames<W> {
         }
     }
 
-    /// The status of the top one's last call.
+    /// The status of the top frame's last call.
     pub fn last(&self) -> Word
         ensures { (frame : OfFrame W) (below : List (OfFrame W)) → self.now ≡ frame ∷ below → result ≡ frame.last }
     {

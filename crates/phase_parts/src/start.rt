@@ -19,7 +19,7 @@ fn has_block(catalog: &Catalog, phase: Phase, number: u32) -> bool
     }
 }
 
-/// A module's script begins, unless it has no block; whether it has one.
+/// Begins a module's script, unless it has no block, and returns whether it has one.
 pub fn begin_script<W: Copy>(
     frames: &mut Frames<W>,
     catalog: &Catalog,
@@ -37,7 +37,7 @@ pub fn begin_script<W: Copy>(
     runs
 }
 
-/// A notification of the top frame's call begins, and the call has visited what stands before `sweep`; unless as many frames stand as may. Whether it begins.
+/// Begins a notification of the top frame's call, which has visited what is before `sweep`, unless the most frames are running. Returns whether it begins.
 pub fn begin_notification<W: Copy>(frames: &mut Frames<W>, notification: Frame<W>, sweep: W) -> bool
     ensures room { result ≡ not (nat_le MOST_FRAMES (length frames.old)) }
     ensures frames { frames.new ≡ (if result then notification ∷ swept frames.old sweep else frames.old) }

@@ -25,7 +25,7 @@ impl Model for VolumeList {
 }
 
 impl VolumeList {
-    /// None.
+    /// No volume.
     pub fn new() -> VolumeList
         ensures { result ≡ [] }
     {
@@ -34,7 +34,7 @@ impl VolumeList {
         }
     }
 
-    /// All of them.
+    /// The numbers of the volumes, in order.
     pub fn as_slice(&self) -> &[u32]
         ensures { result.now ≡ self.now }
     {
@@ -48,7 +48,7 @@ impl VolumeList {
         self.numbers.as_slice().contains(&number)
     }
 
-    // Puts a number at the end where it is wanted.
+    // Adds a number at the end, if it is wanted.
     pub(crate) fn push_where(&mut self, is_wanted: bool, number: u32)
         requires room { IsTrue is_wanted → length self.old < MOST_VOLUMES }
         ensures { self.new ≡ (if is_wanted then self.old ++ number ∷ [] else self.old) }
@@ -70,7 +70,7 @@ impl VolumeList {
         }
     }
 
-    /// A volume of the catalogue, if it is new, and after it each volume nested in it that is.
+    /// Adds a volume of the catalogue, if it is new, and after it each new volume nested in it.
     pub fn add(&mut self, catalog: &Catalog, volume: Option<u32>)
         requires catalog { IsWellFormed catalog.now }
         requires known { AreKnown catalog.now self.old }
@@ -87,7 +87,7 @@ impl VolumeList {
         }
     }
 
-    /// The volumes at these bases, one base after the other.
+    /// Adds the volumes at these bases, one base after the other, each with the volumes nested in it.
     pub fn discover(&mut self, catalog: &Catalog, bases: &[u64])
         requires catalog { IsWellFormed catalog.now }
         requires known { AreKnown catalog.now self.old }

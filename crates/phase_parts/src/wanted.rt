@@ -24,7 +24,7 @@ pub(crate) fn is_part_in(member: &Module, phase: Phase, volume: u32) -> bool
     member.volume == volume && part_of(member, phase).is_some()
 }
 
-/// Whether a module has a part of a phase in a volume, with this rank or with none.
+/// Whether a module has a part of a phase in a volume, with this rank, or without one if `wanted` is None.
 pub(crate) fn is_wanted(member: &Module, phase: Phase, volume: u32, wanted: Option<u32>) -> bool
     ensures { result ≡ W.is_wanted phase wanted volume member.now }
 {
@@ -47,7 +47,7 @@ pub(crate) fn count_parts(catalog: &Catalog, phase: Phase, volume: u32) -> u64
     count
 }
 
-// One more than the rank of a module's part, where it has one in a volume; else 0.
+// One more than the rank of a module's part in a volume. 0 if it has no rank there.
 fn rank_end(member: &Module, phase: Phase, volume: u32) -> u64
     ensures { (rank : ℕ) → result ≤ rank → W.is_wanted phase (Some rank) volume member.now ≡ false }
 {
@@ -60,7 +60,7 @@ fn rank_end(member: &Module, phase: Phase, volume: u32) -> u64
     }
 }
 
-/// One more than the last rank of a volume's parts; 0 where none has one.
+/// One more than the last rank of a volume's parts. 0 if no part has a rank.
 pub(crate) fn ranks_end(catalog: &Catalog, phase: Phase, volume: u32) -> u64
     ensures { (rank : ℕ) → result ≤ rank → W.wanted_in phase (Some rank) catalog.now volume ≡ [] }
 {

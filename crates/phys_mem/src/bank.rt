@@ -8,7 +8,7 @@ use pi_base::{OutOfMemory, Span};
 use std::alloc::Global;
 use std::marker::Model;
 
-/// RAM: bytes that are read and written. Those outside a window are zero and not kept. The window has the capacity for all, so no write takes memory.
+/// RAM that can be read and written. Bytes outside a window are zero and not stored. The window has room reserved for all bytes, so no write allocates memory.
 #[derive(Drop)]
 pub struct Bank {
     // The address of the first byte.
@@ -31,7 +31,7 @@ impl Model for Bank {
     ghost invariant = { λ b. (b.start + length b.window.items ≤ b.len) × (b.len ≤ vec_capacity b.window) };
 }
 
-// Whether `n` addresses from `at` on lie among `len` from `base` on.
+// Whether `n` addresses from `at` on are among `len` from `base` on.
 pub(crate) fn is_inside(base: u64, len: usize, at: u64, n: usize) -> bool
     ensures { result ≡ is_inside base len at n }
 {
@@ -40,7 +40,7 @@ pub(crate) fn is_inside(base: u64, len: usize, at: u64, n: usize) -> bool
     at >= base && at - base <= len && n <= len - (at - base)
 }
 
-// The bytes at an address, if they all lie here.
+// The bytes at an address, if all of them are in this stretch.
 pub(crate) fn part_of(base: u64, bytes: &[u8], at: u64, n: usize) -> Option<&[u8]>
     ensures { option_map (λ part. part.now) result ≡ part_of base bytes.now at n }
 {
@@ -69,7 +69,7 @@ impl Bank {
         }
     }
 
-    // Whether both ranges lie here.
+    // Whether both ranges are in this bank.
     pub(crate) fn has_both(&self, from: u64, to: u64, n: usize) -> bool
         ensures { result ≡ (is_inside self.now.base (length self.now.bytes) from n
             && is_inside self.now.base (length self.now.bytes) to n) }
@@ -77,7 +77,7 @@ impl Bank {
         is_inside(self.base, self.len, from, n) && is_inside(self.base, self.len, to, n)
     }
 
-    // The bytes at an address, if they all lie here.
+    // The bytes at an address, if all of them are in this bank.
     pub(crate) fn part(&self, at: u64, n: usize) -> Option<Stretch<'_>>
         ensures { result ≡ part_of self.now.base self.now.bytes at n }
     {
@@ -89,7 +89,7 @@ impl Bank {
         Some(all.skip((at - self.base) as usize).first(n))
     }
 
-    // Writes bytes at an address, if they all lie here.
+    // Writes bytes at an address, if all of them are in this bank.
     pub(crate) fn put(&mut self, at: u64, bytes: &Stretch<'_>) -> bool
         ensures base { self.new.base ≡ self.old.base }
         ensures put { result ≡ is_inside self.old.base (length self.old.bytes) at (length bytes.now) }

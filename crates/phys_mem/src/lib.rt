@@ -1,6 +1,6 @@
-//! Physical memory as regions of bytes: temporary RAM, RAM, and volumes that are read only. Where two regions overlap, the first of them serves.
+//! Physical memory as regions of bytes: temporary RAM, RAM, and volumes that are read only. If two regions overlap, the first of them serves.
 //!
-//! Tried in `heap_trials`, below the stores.
+//! Tested in `heap_trials`, below the stores.
 #![tactic(auto)]
 
 mod bank;

@@ -9,7 +9,7 @@ use crate::stretch::Stretch;
 use pi_base::{OutOfMemory, Seq, Span};
 use std::alloc::Global;
 
-/// Temporary RAM while it is mapped, RAM, and the volumes.
+/// Physical memory: temporary RAM while it is mapped, RAM, and the volumes.
 #[derive(Drop)]
 pub struct PhysMem {
     temp: Option<Bank>,
@@ -35,12 +35,12 @@ impl PhysMem {
         })
     }
 
-    /// The allocator that the memory keeps.
+    /// The allocator of the memory.
     pub fn alloc(&self) -> Global {
         self.roms.alloc()
     }
 
-    /// The `n` bytes at an address, if all of them lie in one mapped region.
+    /// The `n` bytes at an address. None unless one mapped region has all of them.
     pub fn read(&self, at: u64, n: usize) -> Option<Stretch<'_>>
         ensures { result ≡ bytes_at (regions self.now) at n }
     {
@@ -52,14 +52,14 @@ impl PhysMem {
         read_fixed(&self.ram, self.roms.as_slice(), at, n)
     }
 
-    /// The `n` bytes at an address, if all of them lie in one volume.
+    /// The `n` bytes at an address. None unless one volume has all of them.
     pub fn read_rom(&self, at: u64, n: usize) -> Option<&[u8]>
         ensures { option_map (λ bytes. bytes.now) result ≡ bytes_at (rom_regions self.now) at n }
     {
         read_roms(self.roms.as_slice(), at, n)
     }
 
-    // Writes the bytes into temporary RAM, if they all lie there.
+    // Writes the bytes into temporary RAM, if it has all of their addresses.
     fn put_temp(&mut self, at: u64, bytes: &Stretch<'_>) -> bool
         ensures put { Becomes (written (temps self.old) at bytes.now) (temps self.old) result (temps self.new) }
         ensures ram { self.new.ram ≡ self.old.ram }
@@ -71,7 +71,7 @@ impl PhysMem {
         }
     }
 
-    /// Writes the bytes at an address. False where they do not all lie in one writable region; then nothing has changed.
+    /// Writes the bytes at an address. Returns false if no single writable region has all of the addresses; nothing has then changed.
     pub fn write(&mut self, at: u64, bytes: &[u8]) -> bool
         ensures { Becomes (written (regions self.old) at bytes.now) (regions self.old) result (regions self.new) }
     {
@@ -123,7 +123,8 @@ impl PhysMem {
         copy_into(&mut self.ram, to, source)
     }
 
-    /// Copies the `n` bytes at an address to another. False where they are not all in one region, or the other range is not in one writable region, or one region has both; then nothing has changed.
+    /// Copies the `n` bytes at one address to another. Returns false if no single region has the source, no single writable region has the target, or one
+    /// region has both. Nothing has then changed.
     pub fn copy(&mut self, from: u64, to: u64, n: usize) -> bool
         ensures { Becomes (copied (regions self.old) from to n) (regions self.old) result (regions self.new) }
     {
@@ -137,7 +138,7 @@ impl PhysMem {
         }
     }
 
-    /// Temporary RAM is no region from then on.
+    /// Unmaps temporary RAM: its addresses can no longer be read or written.
     pub fn unmap_temp(&mut self)
         ensures unmapped { regions self.new ≡ fixed_regions self.old }
         ensures others { fixed_regions self.new ≡ fixed_regions self.old }
@@ -146,7 +147,7 @@ impl PhysMem {
     }
 }
 
-// The `n` bytes at an address, if all of them lie in one volume.
+// The `n` bytes at an address, if one volume has all of them.
 fn read_roms(roms: &[Rom], at: u64, n: usize) -> Option<&[u8]>
     ensures { option_map (λ bytes. bytes.now) result ≡ bytes_at (map rom_region roms.now) at n }
 {
@@ -168,7 +169,7 @@ fn stretch_of_roms(roms: &[Rom], at: u64, n: usize) -> Option<Stretch<'_>>
     }
 }
 
-// Whether both ranges lie among these addresses.
+// Whether both ranges are among these addresses.
 fn has_both(base: u64, len: usize, from: u64, to: u64, n: usize) -> bool
     ensures { result ≡ (is_inside base len from n && is_inside base len to n) }
 {
@@ -187,7 +188,7 @@ fn roms_share(roms: &[Rom], from: u64, to: u64, n: usize) -> bool
     false
 }
 
-// The `n` bytes at an address, if all of them lie in RAM or in one volume.
+// The `n` bytes at an address, if RAM or one volume has all of them.
 fn read_fixed<'a>(ram: &'a Bank, roms: &'a [Rom], at: u64, n: usize) -> Option<Stretch<'a>>
     ensures { result ≡ bytes_at (ram_region ram.now ∷ map rom_region roms.now) at n }
 {
@@ -197,7 +198,7 @@ fn read_fixed<'a>(ram: &'a Bank, roms: &'a [Rom], at: u64, n: usize) -> Option<S
     }
 }
 
-// The `n` bytes at an address, if all of them lie in temporary RAM or in one volume.
+// The `n` bytes at an address, if temporary RAM or one volume has all of them.
 fn read_movable<'a>(
     temp: &'a Option<Bank>,
     roms: &'a [Rom],

@@ -4,13 +4,13 @@ ghost use Rattle.phys_mem.specs.Region.{replaced};
 
 use std::marker::Model;
 
-/// Bytes in order of address. The zeros at both ends are only counted, so they need not stand anywhere; a clause sees all bytes.
+/// Bytes in order of address. The zeros at both ends are only counted, so they need not be stored. A clause sees all bytes.
 #[derive(Drop)]
 pub struct Stretch<'a> {
-    // How many zeros stand in front.
+    // How many zeros are in front.
     front: usize,
     kept: &'a [u8],
-    // How many zeros stand behind.
+    // How many zeros are after.
     behind: usize,
 }
 
@@ -38,7 +38,7 @@ impl<'a> Stretch<'a> {
     ghost use Rattle.std.specs.Prelude.{◌<◌, ◌^◌};
     ghost use Rattle.phys_mem.specs.Region.{amid};
 
-    /// These bytes.
+    /// A stretch of these bytes.
     pub fn of(bytes: &'a [u8]) -> Stretch<'a>
         ensures { result ≡ bytes.now }
     {
@@ -61,14 +61,14 @@ impl<'a> Stretch<'a> {
         }
     }
 
-    /// How many there are.
+    /// How many bytes there are.
     pub fn len(&self) -> usize
         ensures { result ≡ length self.now }
     {
         self.front + self.kept.len() + self.behind
     }
 
-    /// Those from a place on.
+    /// The bytes from index `n` on.
     pub fn skip(&self, n: usize) -> Stretch<'a>
         requires { n ≤ length self.now }
         ensures { result ≡ drop n self.now }
@@ -83,7 +83,7 @@ impl<'a> Stretch<'a> {
         }
     }
 
-    /// The first of them.
+    /// The first `n` bytes.
     pub fn first(&self, n: usize) -> Stretch<'a>
         requires { n ≤ length self.now }
         ensures { result ≡ take n self.now }
@@ -98,7 +98,7 @@ impl<'a> Stretch<'a> {
         }
     }
 
-    /// Fills a buffer of as many bytes with them.
+    /// Copies the bytes into a buffer of the same length.
     pub fn copy_to(&self, into: &mut [u8])
         requires { length into.old ≡ length self.now }
         ensures { into.new ≡ self.now }
@@ -106,7 +106,7 @@ impl<'a> Stretch<'a> {
         write_amid_zeros(into, self.front, self.kept);
     }
 
-    /// The `n` bytes at a place, if none of them is a zero that is only counted.
+    /// The `n` bytes at an index, if all of them are stored.
     pub fn kept(&self, at: usize, n: usize) -> Option<&'a [u8]>
         requires { at + n ≤ length self.now }
         ensures { IfSome result (λ bytes. bytes.now ≡ take n (drop at self.now)) }
@@ -121,7 +121,7 @@ impl<'a> Stretch<'a> {
         Some(&self.kept[from..from + n])
     }
 
-    /// Fills a buffer with the bytes at a place.
+    /// Fills a buffer with the bytes from an index on.
     pub fn get(&self, at: usize, into: &mut [u8])
         requires { at + length into.old ≤ length self.now }
         ensures { into.new ≡ take (length into.old) (drop at self.now) }

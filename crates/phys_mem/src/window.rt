@@ -4,7 +4,7 @@ ghost use Rattle.phys_mem.specs.Region.{in_zeros, replaced};
 
 use crate::stretch::Stretch;
 
-// More zeros in front of the window.
+// More zeros before the window.
 fn grow_down(window: &mut Vec<u8>, by: usize)
     requires room { length window.old.items + by ≤ vec_capacity window.old }
     ensures items { window.new.items ≡ replicate by 0 ++ window.old.items }
@@ -19,7 +19,7 @@ fn grow_down(window: &mut Vec<u8>, by: usize)
     }
 }
 
-// More zeros behind it.
+// More zeros after it.
 fn grow_up(window: &mut Vec<u8>, by: usize)
     requires room { length window.old.items + by ≤ vec_capacity window.old }
     ensures items { window.new.items ≡ window.old.items ++ replicate by 0 }
@@ -44,7 +44,7 @@ fn start_at(window: &[u8], len: usize, start: usize, place: usize) -> usize
     if window.is_empty() { place } else { start }
 }
 
-// Lets the window hold the `n` bytes at a place, and says where it starts then. The bytes of the bank stay as they are.
+// Extends the window to the `n` bytes at a place, and returns where it then starts. The bytes of the bank are unchanged.
 pub(crate) fn reach(window: &mut Vec<u8>, len: usize, start: usize, place: usize, n: usize) -> usize
     requires fits { start + length window.old.items ≤ len }
     requires room { len ≤ vec_capacity window.old }

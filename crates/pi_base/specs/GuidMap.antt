@@ -1,4 +1,4 @@
--- A map from GUIDs, by what it answers for each GUID.
+-- A map from GUIDs: what a look-up of each GUID returns.
 use Rattle.std.specs.Prelude.{◌≡◌, ℕ, ◌<◌, ◌^◌, List, map, if◌then◌else◌, Option, Some}
 use Rattle.std.specs.Map.{lookup}
 use Rattle.pi_base.specs.{Field.little_bytes, Guids.same_guid, declared.guid.Guid.Guid}
@@ -7,7 +7,7 @@ use Rattle.pi_base.specs.{Field.little_bytes, Guids.same_guid, declared.guid.Gui
 abbrev pub value_of : {V : Type 0} → List (Guid × V) → Guid → Option V
 value_of map guid = lookup (same_guid guid) map
 
--- this GUID has this value, and each other one what it had
+-- this GUID has this value, and every other GUID keeps its own
 abbrev pub IsPut : {V : Type 0} → List (Guid × V) → Guid → V → List (Guid × V) → Type 0
 IsPut old guid value new = (other : Guid) → value_of new other ≡ (if same_guid guid other then Some value else value_of old other)
 

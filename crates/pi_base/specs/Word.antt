@@ -1,4 +1,4 @@
--- The words that boot services answer, and the numbers that stand for them in a script (own).
+-- The statuses that boot services return, and their numbers in a script (own).
 use Rattle.std.specs.Prelude.{ℕ}
 use Rattle.pi_base.specs.declared.word.Word.{Word}
 use Rattle.pi_base.specs.declared.word.Word.TheVariants.{Success, InvalidParameter, NotFound, OutOfResources, NotAvailableYet, AlreadyStarted, AccessDenied}

@@ -13,7 +13,7 @@ use std::marker::Model;
 /// Values by GUID, at most one for each.
 #[derive(Drop)]
 pub struct GuidMap<V> {
-    /// By the number that a GUID's bytes spell: two numbers compare in one step, and two lists of bytes byte by byte.
+    /// Keyed by the number that a GUID's bytes spell: two numbers compare in one step, two lists of bytes byte by byte.
     values: BTreeMap<u128, V, Global>,
 }
 
@@ -41,7 +41,7 @@ fn number_of(guid: &Guid) -> u128
 }
 
 impl<V: Copy> GuidMap<V> {
-    /// A map without values. It takes no memory.
+    /// An empty map. It allocates nothing.
     pub fn new(alloc: Global) -> GuidMap<V>
         ensures { result ≡ [] }
     {
@@ -65,7 +65,7 @@ impl<V: Copy> GuidMap<V> {
         self.get(guid).is_some()
     }
 
-    /// Gives a GUID this value, in place of the one that it may have. Where memory is wanting the map is unchanged.
+    /// Sets a GUID's value. An earlier value is replaced. If memory runs out, the map is unchanged.
     pub fn insert(&mut self, guid: Guid, value: V) -> Result<(), OutOfMemory>
         ensures ok { OnOk result (IsPut self.old guid value self.new) }
         ensures err { OnErr result (self.new ≡ self.old) }

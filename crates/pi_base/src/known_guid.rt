@@ -1,7 +1,7 @@
 //! The PPIs that the PEI core knows, as their GUIDs are stored.
 use crate::guid::Guid;
 
-/// The PPI that tells of a volume, `EFI_PEI_FIRMWARE_VOLUME_INFO_PPI_GUID`, 49edb1c1-bf21-4761-bb12-eb0031aabb39 (PI 1.8, volume 1).
+/// The PPI that reports a firmware volume, `EFI_PEI_FIRMWARE_VOLUME_INFO_PPI_GUID`, 49edb1c1-bf21-4761-bb12-eb0031aabb39 (PI 1.8, volume 1).
 pub const VOLUME_INFO_PPI: Guid = Guid([
     0xc1, 0xb1, 0xed, 0x49, 0x21, 0xbf, 0x61, 0x47, 0xbb, 0x12, 0xeb, 0x00, 0x31, 0xaa, 0xbb, 0x39,
 ]);

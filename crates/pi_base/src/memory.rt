@@ -1,5 +1,5 @@
-// Want of memory.
+// Running out of memory.
 
-/// Want of memory. Each call that can answer it says what stands after it.
+/// Memory ran out. Each call that returns it documents what it leaves.
 #[derive(Clone, Copy, Debug, PartialEq, Eq)]
 pub struct OutOfMemory;

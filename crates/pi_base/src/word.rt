@@ -2,27 +2,28 @@
 ghost use Rattle.std.specs.Prelude.{◌≡◌, ◌<◌, ◌↔◌, IfSome, IsNone};
 ghost use Rattle.pi_base.specs.{Word.word_number, WordText.word_text};
 
-/// What a boot service or a module answers: the `EFI_STATUS` values that occur here (UEFI's appendix of status codes; `NotAvailableYet` is PI 1.8's, volume 1). In a script a word is written by its number, from 0 in this order (own).
+/// The status that a boot service or a module returns: the `EFI_STATUS` values that occur here (UEFI's appendix of status codes; `NotAvailableYet` is PI 1.8's,
+/// volume 1). In a script a word is written by its number, from 0 in this order (own).
 #[derive(Clone, Copy, PartialEq, Eq)]
 pub enum Word {
-    /// The service did what was asked.
+    /// The service did what it was asked to do.
     Success,
     /// An argument is of the wrong kind or out of range.
     InvalidParameter,
     /// What was asked for is not there.
     NotFound,
-    /// The heap has too little room.
+    /// The heap has no room.
     OutOfResources,
     /// The service needs permanent memory.
     NotAvailableYet,
     /// It was done before.
     AlreadyStarted,
-    /// No service answers it; a module may.
+    /// No service returns it; a module may.
     AccessDenied,
 }
 
 impl Word {
-    /// The number that stands for the word in a script.
+    /// The word's number in a script.
     pub fn number(self) -> u8
         ensures { result ≡ word_number self }
     {
@@ -45,7 +46,7 @@ impl Word {
         }
     }
 
-    /// The word that a number stands for in a script.
+    /// The word that has this number in a script.
     pub fn from_number(number: u8) -> Option<Word>
         ensures found { IfSome result (λ word. word_number word ≡ number) }
         ensures none { IsNone result ↔ (6 < number) }

@@ -1,4 +1,4 @@
-// What a person is told of a run: what is at fault, and what to do.
+// Reports to a person on a run: what is at fault, and what to do.
 use crate::forms::PROGRAM;
 use boot_core::Status;
 use boot_core::plan_files::{Job, read_job};
@@ -70,7 +70,7 @@ fn plan_of(words: &[String]) -> &str {
     }
 }
 
-// What is told of a status that the plan or a volume explains, where these were kept.
+// Reports on a status that the plan or a volume explains, if these were kept.
 fn tell_fault(rt: &HostRuntime, plan: &str, status: Status, files: &mut MemFiles) -> Option<()> {
     match status {
         Status::PlanRefused => PROGRAM.tell_plan(rt, plan, files),
@@ -99,7 +99,7 @@ fn meaning_of(status: Status) -> &'static str {
     }
 }
 
-/// Whether what is told of a run is read off its files.
+/// Whether the report on a run needs its files.
 pub(crate) fn tells_of_files(words: &[String], status: Status) -> bool {
     is_booted(words, status) || matches!(status, Status::PlanRefused | Status::ImageRefused)
 }
@@ -121,7 +121,7 @@ pub(crate) fn tell(rt: &HostRuntime, words: &[String], status: Status, heard: &m
         }
     }
     if is_booted(words, status) {
-        // Where the files were not kept nothing is told of them.
+        // If the files were not kept, nothing is reported about them.
         let _ = tell_starts(rt, plan, heard);
     }
 }

@@ -138,7 +138,7 @@ pub(crate) fn words_for(
     otherwise
 }
 
-/// What the cause of a volume's text means, told of the line at fault.
+/// What the cause of a volume's text means, in a report on the line at fault.
 pub(crate) fn source_words(cause: &str) -> &'static str {
     words_for(&SOURCE_WORDS, cause, "can not stand there")
 }

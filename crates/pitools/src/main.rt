@@ -15,7 +15,7 @@ use std::io;
 use std::process::ExitCode;
 use tools_core::{ToolStatus, tools_and_print};
 
-// Does what the words ask for, over the machine's files and standard output, and tells on standard error what came of it.
+// Does what the words ask for, over the machine's files and standard output, and reports the outcome on standard error.
 fn run(rt: &HostRuntime, call: &Call) -> ToolStatus {
     let alloc = rt.alloc();
     let words = call.words();
@@ -36,7 +36,7 @@ fn run(rt: &HostRuntime, call: &Call) -> ToolStatus {
 }
 
 fn main(rt: HostRuntime) -> ExitCode {
-    // The words want memory, and nothing else.
+    // This fails only if memory runs out.
     let Ok(call) = Call::of(&rt) else {
         return ExitCode::from(ToolStatus::Memory as u8);
     };

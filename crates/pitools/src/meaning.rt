@@ -1,4 +1,4 @@
-// What a person is told of a run: what is at fault, and what to do.
+// Reports to a person on a run: what is at fault, and what to do.
 use crate::cause_meaning::{source_words, words_for};
 use crate::forms::PROGRAM;
 use crate::order_meaning::{LINE_FORMS, against_words, boot_words, last_lines};
@@ -18,7 +18,7 @@ const SHOWN_LEN: usize = 60;
 const USAGE: &str =
     "usage: pitools check PLAN TRACE | pitools follow PLAN ORDER | pitools hobs PLAN | pitools explain PLAN [TRACE] | pitools gcd HOBS COMMANDS | pitools mp FILE | pitools volume TEXT | pitools text VOLUME | pitools asm depex|script FILE | pitools dis pei|dxe|script FILE";
 
-// The word behind so many words.
+// The word after so many words.
 fn word_at(words: &[String], place: usize) -> &str {
     match words.get(place) {
         Some(word) => word.as_str(),
@@ -96,7 +96,7 @@ fn tell_line(rt: &HostRuntime, name: &str, heard: &mut Heard<'_>, why: &str) -> 
     tell_numbered(rt, name, &mut heard.files, number, why)
 }
 
-// The line of an order that a boot in it refuses, and what stands against its start.
+// Reports the line of an order that its boot refuses, and why its start is not possible.
 fn tell_start(rt: &HostRuntime, name: &str, heard: &mut Heard<'_>) -> Option<()> {
     let (refusal, against) = last_lines(str::from_utf8(heard.text?).ok()?);
     let number = refusal.split_whitespace().last()?.parse::<u32>().ok()?;
@@ -165,7 +165,7 @@ static BYTE_WORDS: [(&str, &str); 8] = [
     ),
 ];
 
-// The offset of a file that a refusal names last, behind its cause.
+// The offset of a file that a refusal names last, after its cause.
 fn tell_place(rt: &HostRuntime, name: &str, text: Option<&[u8]>, of_hobs: bool) -> Option<()> {
     let mut words = str::from_utf8(text?).ok()?.split_whitespace().skip(2);
     let cause = words.next()?;
@@ -221,7 +221,7 @@ fn command_words(words: &[String]) -> &'static str {
     }
 }
 
-// What is told of a status that names a place of a file, where the files and the text were kept.
+// Reports on a status that names a place of a file, if the files and the text were kept.
 fn tell_fault(
     rt: &HostRuntime,
     words: &[String],
@@ -277,14 +277,14 @@ fn meaning_of(words: &[String], status: ToolStatus) -> &'static str {
     }
 }
 
-// What is told of a run that is done: how the expressions of a volume's text are read. Where the text was not kept, nothing is.
+// Reports on a run that succeeded: how the expressions of a volume's text are read. If the text was not kept, nothing is reported.
 fn tell_done(rt: &HostRuntime, words: &[String], files: &mut MemFiles) {
     if word_at(words, 0) == "volume" {
         let _ = tell_readings(rt, word_at(words, 1), files);
     }
 }
 
-/// Whether what is told of a run is read off its files.
+/// Whether the report on a run needs its files.
 pub(crate) fn tells_of_files(words: &[String], status: ToolStatus) -> bool {
     status != ToolStatus::Done || word_at(words, 0) == "volume"
 }

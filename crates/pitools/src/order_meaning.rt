@@ -1,11 +1,11 @@
-// What a person is told of a boot in an order of starts.
+// Reports to a person on a boot in an order of starts.
 use tools_core::ToolStatus;
 
-/// What a line of an order has to be.
+/// What a line of an order must be.
 pub(crate) const LINE_FORMS: &str =
     "is none of: pei V GUID, dxe V GUID, with the number of a volume and the name of its file; or it is no `stop` behind which nothing follows";
 
-/// The line of a printed text that refuses a start, and the last one, which says what stands against it.
+/// The line of a printed text that refuses a start, and the last one, which says why.
 pub(crate) fn last_lines(text: &str) -> (&str, &str) {
     let mut refusal = "";
     let mut against = "";
@@ -16,7 +16,7 @@ pub(crate) fn last_lines(text: &str) -> (&str, &str) {
     (refusal, against)
 }
 
-/// What it means that this stands against a start.
+/// The meaning of the reason why a start is not possible.
 pub(crate) fn against_words(against: &str) -> &'static str {
     if against == "unknown" {
         "names no module: none of this volume and name has a part of the phase"

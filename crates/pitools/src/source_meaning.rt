@@ -8,10 +8,10 @@ use source_words::{is_keyword, next_word};
 use std::alloc::Global;
 use std::str;
 
-// The most bytes of a text of which expressions are told.
+// The most bytes of a text whose expressions are reported.
 const TOLD_LIMIT: usize = 0x400_0000;
 
-// Whether AND and OR stand side by side in one pair of brackets, or in none.
+// Whether AND and OR are next to each other in one pair of brackets, or outside of all brackets.
 fn mixes(alloc: Global, text: &[u8]) -> Result<bool, OutOfMemory> {
     let mut outer = Seq::new(alloc);
     let mut both = (false, false);
@@ -41,7 +41,7 @@ fn mixes(alloc: Global, text: &[u8]) -> Result<bool, OutOfMemory> {
     Ok(false)
 }
 
-// The phase and the words of an expression, where a line has one.
+// The phase and the words of an expression, if a line has one.
 fn expression_in(line: &[u8]) -> Option<(Phase, &[u8])> {
     let (keyword, rest) = next_word(line)?;
     let (phase, rest) = next_word(rest)?;
@@ -57,7 +57,7 @@ fn expression_in(line: &[u8]) -> Option<(Phase, &[u8])> {
     }
 }
 
-// The reading of a line's expression, where it mixes AND and OR.
+// How a line's expression is read, if it mixes AND and OR.
 fn reading_of(alloc: Global, line: &[u8]) -> Option<Seq<u8>> {
     let (phase, words) = expression_in(line)?;
     if !mixes(alloc, words).ok()? {

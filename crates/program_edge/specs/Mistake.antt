@@ -27,7 +27,7 @@ word_count Pages = 2
 abbrev pub IsFirst : List ℕ → List ℕ → Type 0
 IsFirst line word = (rest : List (List ℕ)) × (words line ≡ word ∷ rest)
 
--- it stands behind the first one
+-- it is after the first one
 abbrev pub IsBehind : List ℕ → List ℕ → Type 0
 IsBehind line word = (first : List ℕ) × (rest : List (List ℕ)) × (words line ≡ first ∷ rest) × Contains rest word
 

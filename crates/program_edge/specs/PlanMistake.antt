@@ -34,7 +34,7 @@ IsMistakeIn text mistake = ((line : List ℕ) × IsLine text line × IsMistake l
 abbrev pub IsMistakeAt : List ℕ → ℕ → Mistake → Type 0
 IsMistakeAt text number mistake = (line : List ℕ) × (line_of text number ≡ Some line) × IsMistake line mistake
 
--- it is one of the line that is refused, or names a kind of line that the text lacks where one is missing
+-- it is in the line that is refused, or names a kind of line that is missing in the text
 pub record IsMistakeOf (text : List ℕ) (fault : PlanFault) (mistake : Mistake) : Type 0 where
   pub missing : fault.cause ≡ Missing → IsNeeded mistake × Lacks text mistake.word.now
   pub refused : fault.cause ≢ Missing → IsMistakeAt text fault.line mistake

@@ -1,4 +1,4 @@
-// What a person asks for beside what a program does.
+// What a person may ask of a program besides its commands.
 ghost use Rattle.std.specs.Prelude.{IfSome, IfNone};
 ghost use Rattle.boot_io.specs.Words.{words_of};
 ghost use Rattle.program_edge.specs.{declared.asked.Asked.Asked as OfAsked, Asked.AskFor, Asked.IsWordFor};
@@ -26,7 +26,7 @@ fn asked_in(word: &str) -> Option<Asked>
     }
 }
 
-/// What the words ask for, where they are a person's.
+/// What a person asks for in the words, if they ask for one of these.
 pub fn asked_by_person(words: &[String]) -> Option<Asked>
     ensures found { IfSome result (λ asked. AskFor (words_of words.now) asked) }
     ensures none { IfNone result ((asked : OfAsked) → AskFor (words_of words.now) asked → ⊥) }

@@ -1,4 +1,4 @@
-// The call of a program: its words, and what is told on standard error of what comes of them.
+// The call of a program: its words, and what is reported about them on standard error.
 use crate::asked::{Asked, asked_by_person};
 use crate::kept_files::Keeping;
 use crate::listening::keeping_for;
@@ -13,7 +13,7 @@ pub struct Call {
     keeping: Keeping,
 }
 
-// The words after the program's name. Where one is not UTF-8 there are none, which is no form of a command line.
+// The words after the program's name. If one is not UTF-8, there are no words, which is not a valid command line.
 fn words_of(rt: &HostRuntime) -> io::Result<Vec<String>> {
     let mut words = Vec::new(rt.alloc());
     match env::args(rt) {
@@ -29,11 +29,11 @@ fn words_of(rt: &HostRuntime) -> io::Result<Vec<String>> {
 }
 
 impl Call {
-    /// The words and the environment of the program. The words want memory, and nothing else.
+    /// The words and the environment of the program. It fails only if memory runs out.
     pub fn of(rt: &HostRuntime) -> io::Result<Call> {
         let words = words_of(rt)?;
         let asked = asked_by_person(words.as_slice());
-        // Who asks for something else there is told nothing of the words.
+        // A person who asked for something else sees nothing about the words.
         let keeping = match asked {
             Some(_) => Keeping::Nothing,
             None => keeping_for(rt),
@@ -55,7 +55,7 @@ impl Call {
         self.asked
     }
 
-    /// What is kept of the run, to be told of.
+    /// What the program keeps of the run, to report on it.
     pub fn keeping(&self) -> Keeping {
         self.keeping
     }

@@ -6,12 +6,12 @@ use pi_base::{OutOfMemory, Seq};
 use std::alloc::Global;
 use std::{fs, str};
 
-/// What is kept of a run.
+/// What the program keeps of a run.
 #[derive(Clone, Copy, PartialEq, Eq)]
 pub enum Keeping {
     /// Copies of the files that it reads, and all that it prints.
     Copies,
-    /// The names of the files, so that what is told is read once more, and what it prints where that is short.
+    /// The names of the files, so that a file is read once more for a report, and the printed text if it is short.
     Names,
     /// Nothing.
     Nothing,
@@ -26,7 +26,7 @@ pub struct AskedFile {
     pub limit: usize,
 }
 
-/// Files that keep what is read of the files below them. Where memory is wanting for a copy or a name there is none.
+/// Files that keep a copy of what is read of the files below them. If memory runs out for a copy or a name, it is not kept.
 #[derive(Drop)]
 pub struct KeptFiles<F: Files + Drop> {
     files: F,
@@ -57,7 +57,7 @@ fn asked_of(alloc: Global, name: &str, limit: usize) -> Result<AskedFile, OutOfM
     Ok(AskedFile { name, limit })
 }
 
-// Reads a file once more, where it stands: what came through a pipe or from a device cannot be read again.
+// Reads a file once more. What came through a pipe or from a device cannot be read again.
 fn read_again<F: Files>(
     rt: &HostRuntime,
     files: &mut F,
@@ -75,7 +75,7 @@ fn read_again<F: Files>(
 }
 
 impl<F: Files + Drop> KeptFiles<F> {
-    /// Files that keep so much of what is read.
+    /// Files that keep as much as `keeping` says.
     pub fn new(alloc: Global, files: F, keeping: Keeping) -> KeptFiles<F>
         ensures { result.files ≡ files }
     {
@@ -88,7 +88,7 @@ impl<F: Files + Drop> KeptFiles<F> {
         }
     }
 
-    /// Reads the files once more of which the names were kept.
+    /// Reads again the files whose names were kept.
     pub fn read_again(&mut self, rt: &HostRuntime) {
         for asked in self.asked.as_slice() {
             // What cannot be read again is left out.

@@ -5,10 +5,10 @@ use crate::kept_files::Keeping;
 use std::alloc::Global;
 use std::io::{self, Write};
 
-// The most bytes of a text that is kept beside the names of files.
+// The most bytes of a text that is kept together with the names of files.
 const SHORT_TEXT: usize = 0x1_0000;
 
-/// A writer that keeps a copy of what the writer below it takes. Where that is too long, or memory is wanting for the copy, there is none.
+/// A writer that keeps a copy of what the writer below it takes. There is no copy if it would be too long, or memory runs out for it.
 #[derive(Drop)]
 pub struct KeptText<W: Write + Drop> {
     to: W,
@@ -17,7 +17,7 @@ pub struct KeptText<W: Write + Drop> {
 }
 
 impl<W: Write + Drop> KeptText<W> {
-    /// A writer that keeps so much of what leaves by `to`.
+    /// A writer that keeps as much as `keeping` says of what leaves by `to`.
     pub fn new(alloc: Global, to: W, keeping: Keeping) -> KeptText<W>
         ensures { W.contents result.to ≡ W.contents to }
     {
@@ -29,7 +29,7 @@ impl<W: Write + Drop> KeptText<W> {
         KeptText { to, most, kept }
     }
 
-    /// What left, where it was kept.
+    /// What left, if it was kept.
     pub fn text(&self) -> Option<&[u8]> {
         match &self.kept {
             Some(kept) => Some(kept.as_slice()),

@@ -1,25 +1,25 @@
-// Who reads standard error, and so what is kept of a run to be told of there.
+// Who reads standard error, and so what is kept of a run for a report.
 
 use crate::kept_files::Keeping;
 use std::io::IsTerminal;
 use std::{env, fs};
 
-// The links that stand for standard input, output and error (Linux).
+// The links for standard input, output and error (Linux).
 const INPUT: &str = "/proc/self/fd/0";
 
 const OUTPUT: &str = "/proc/self/fd/1";
 
 const ERROR: &str = "/proc/self/fd/2";
 
-// What such a link says of a pipe begins so, and its number stands behind.
+// What such a link says of a pipe begins so, and its number is after.
 const PIPE: &str = "pipe:[";
 
-// Whether files that are open so stand between two programs: nothing is handed in, and both outputs are taken apart by pipes.
+// Whether files that are open so are between two programs: nothing is handed in, and both outputs are taken apart by pipes.
 fn are_between(input: &str, output: &str, error: &str) -> bool {
     input == "/dev/null" && output.starts_with(PIPE) && error.starts_with(PIPE) && output != error
 }
 
-// Whether a program drives this one and reads its status and its text. Where the system does not say so, none does.
+// Whether a program drives this one and reads its status and its text. False if the system does not say so.
 fn is_driven(rt: &HostRuntime) -> Option<bool> {
     let input = fs::read_link(rt, INPUT).ok()?;
     let output = fs::read_link(rt, OUTPUT).ok()?;
@@ -27,7 +27,8 @@ fn is_driven(rt: &HostRuntime) -> Option<bool> {
     Some(are_between(input.to_str()?, output.to_str()?, error.to_str()?))
 }
 
-/// What is kept: copies for a person at a terminal, or where the environment asks by `PIBOOT_WORDS` with a text; nothing where that is empty, or where a program drives this one; names elsewhere.
+/// What is kept. Copies, for a person at a terminal, or if `PIBOOT_WORDS` is set to a text. Nothing, if that is set to an empty text, or if a program drives
+/// this one. Names in all other cases.
 pub(crate) fn keeping_for(rt: &HostRuntime) -> Keeping {
     match env::var(rt, "PIBOOT_WORDS") {
         Ok(asked) if asked.is_empty() => Keeping::Nothing,

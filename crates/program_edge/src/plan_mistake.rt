@@ -13,7 +13,7 @@ use crate::shape::shape_of;
 use boot_plan::{PlanCause, PlanFault};
 use line_words::first_line;
 
-/// The line of a text with a number, from 1. None where the text has no such line.
+/// The line of a text with a number, from 1. None if the text has no such line.
 pub fn line_at(text: &[u8], number: u32) -> Option<&[u8]>
     ensures line { IfSome result (λ line. IsLine text.now line.now) }
     ensures numbered { MatchOption result (line_of text.now number ≡ None) (λ line. line_of text.now number ≡ Some line.now) }
@@ -45,7 +45,7 @@ fn front_of(line: &[u8]) -> Option<&[u8]>
     }
 }
 
-// Whether a line of a kind stands in a text.
+// Whether a line of a kind is in a text.
 #[tactic(auto, using(crate::proofs::Lacking::lacks_on))]
 fn has_line(text: &[u8], kind: Kind) -> bool
     ensures { result ≡ false → Lacks text.now (keyword kind) }
@@ -75,7 +75,7 @@ fn needed(kind: Kind) -> Mistake<'static>
     }
 }
 
-// The first kind of line that a text lacks.
+// The first required kind of line that is missing in a text.
 fn lacking(text: &[u8]) -> Option<Mistake<'static>>
     ensures needed { IfSome result IsNeeded }
     ensures lacks { IfSome result (λ mistake. Lacks text.now mistake.word.now) }
@@ -108,10 +108,10 @@ fn mistake_of(line: &[u8], cause: PlanCause) -> Option<Mistake<'_>>
     Some(Mistake { word, rule })
 }
 
-/// The word of a plan's text that is at fault where the plan is refused so, and the rule that it breaks. None where the text has no such mistake.
+/// The word of a refused plan's text that is at fault, and the rule that it breaks. None if the text has no such mistake.
 pub fn mistake_in(text: &[u8], fault: PlanFault) -> Option<Mistake<'_>>
     ensures told { IfSome result (IsMistakeIn text.now) }
-    // It is one of the line that is refused, or names a kind of line that the text lacks.
+    // It is in the line that is refused, or names a kind of line that is missing.
     ensures refused { IfSome result (IsMistakeOf text.now fault) }
 {
     if fault.cause == PlanCause::Missing {

@@ -2,7 +2,7 @@
 use crate::asked::Asked;
 use std::str;
 
-/// A program as a person knows it. What it tells goes to standard error, a line each; the exit status says it all where nothing can be written there.
+/// A program as its user knows it. It writes reports to standard error, one line each. The exit status alone is enough if nothing can be written there.
 #[derive(Clone, Copy)]
 pub struct Program {
     /// Its name.
@@ -11,7 +11,7 @@ pub struct Program {
     pub forms: &'static str,
 }
 
-/// Bytes as text, where they are one.
+/// Bytes as text, or words that say so if they are not UTF-8.
 pub fn text_of(bytes: &[u8]) -> &str {
     match str::from_utf8(bytes) {
         Ok(text) => text,
@@ -20,7 +20,7 @@ pub fn text_of(bytes: &[u8]) -> &str {
 }
 
 impl Program {
-    /// Tells what is at fault, and why.
+    /// Reports what is at fault, and why.
     pub fn put(&self, rt: &HostRuntime, what: &str, why: &str) {
         let name = self.name;
         let _ = eprintln!(rt; "{name}: {what}: {why}");

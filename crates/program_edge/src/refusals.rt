@@ -1,4 +1,4 @@
-// What is told of files, plans and images that are refused, and of an output that failed.
+// Reports on files, plans and images that are refused, and on an output that failed.
 use crate::image::image_words;
 use crate::kept_files::AskedFile;
 use crate::plan_mistake::mistake_in;
@@ -9,7 +9,7 @@ use boot_plan::read_plan;
 use mod_catalog::catalog;
 
 impl Program {
-    /// Tells of the file that was not read.
+    /// Reports the file that could not be read.
     pub fn tell_file(&self, rt: &HostRuntime, refused: &Option<AskedFile>, is_long: bool) {
         let program = self.name;
         let Some(AskedFile { name, limit }) = refused else {
@@ -28,7 +28,7 @@ impl Program {
         }
     }
 
-    /// Tells of the line of a plan that is at fault, where the plan was kept.
+    /// Reports the line of a plan that is at fault, if the plan was kept.
     pub fn tell_plan(&self, rt: &HostRuntime, plan: &str, files: &mut MemFiles) -> Option<()> {
         let text = read_file(rt.alloc(), plan, PLAN_LIMIT, files).ok()?;
         let text = text.as_slice();
@@ -43,7 +43,7 @@ impl Program {
         Some(())
     }
 
-    /// Tells of the place of a volume's file that is at fault, where the plan and its volumes were kept.
+    /// Reports the place of a volume's file that is at fault, if the plan and its volumes were kept.
     pub fn tell_image(&self, rt: &HostRuntime, plan: &str, files: &mut MemFiles) -> Option<()> {
         let Job { plan, images } = read_job(rt.alloc(), plan, files).ok()?;
         let fault = catalog(rt.alloc(), &plan, images.as_slice()).err()?;
@@ -56,7 +56,7 @@ impl Program {
         Some(())
     }
 
-    /// Tells that standard output failed.
+    /// Reports that standard output failed.
     pub fn tell_output(&self, rt: &HostRuntime) {
         self.put(
             rt,

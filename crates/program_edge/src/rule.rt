@@ -36,7 +36,7 @@ pub enum Rule {
     Fuel,
     /// The limits of the page region.
     PageRegion,
-    /// A line of a kind stands once.
+    /// A line of this kind may occur only once.
     Once,
     /// A plan has a line of a kind.
     Needed(Kind),
@@ -61,7 +61,7 @@ fn words_of(kind: Kind) -> &'static str {
     }
 }
 
-// How often a line of a kind has to stand.
+// How often a line of a kind must occur.
 fn need_of(kind: Kind) -> &'static str {
     match kind {
         Kind::Volume => "begins no line of the plan; 1 to 16 lines volume BASE NAME have to",

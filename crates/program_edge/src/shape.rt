@@ -8,7 +8,7 @@ use line_words::first_word;
 /// The words of a line.
 #[derive(Clone, Copy)]
 pub(crate) enum Shape<'a> {
-    /// There is none.
+    /// The line is empty.
     Empty,
     One(&'a [u8]),
     Two(&'a [u8], &'a [u8]),
@@ -17,7 +17,7 @@ pub(crate) enum Shape<'a> {
     More(&'a [u8]),
 }
 
-// The first word of a line and what follows it, where the line has a word.
+// The first word of a line and what follows it, if the line has a word.
 fn next_word(line: &[u8]) -> Option<(&[u8], &[u8])>
     requires { slice_index line.now 0 ≢ 32 }
     ensures found { MatchOption result (words line.now ≡ []) (λ parts. words line.now ≡ parts.0.now ∷ words parts.1.now) }

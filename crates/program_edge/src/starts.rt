@@ -41,7 +41,7 @@ fn has_silent_peim(modules: &[Module], volume: u32, name: Guid) -> bool
     modules.iter().any(|entry| is_module(entry, volume, name) && is_scriptless(&entry.pei))
 }
 
-// The same for DXE.
+// Whether DXE has a driver of a volume and name without a script.
 fn has_silent_driver(modules: &[Module], volume: u32, name: Guid) -> bool
     ensures { result ≡ list_any (is_silent_driver volume name) modules.now }
 {
@@ -60,7 +60,7 @@ pub fn has_no_script(catalog: &Catalog, line: &Line) -> bool
     }
 }
 
-/// The starts that a boot's text tells.
+/// The starts that a boot's text shows.
 pub fn starts_in(catalog: &Catalog, text: &[u8]) -> Starts
     ensures { result.scriptless ≤ result.all }
 {

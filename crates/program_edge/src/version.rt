@@ -6,7 +6,7 @@ use std::{env, fs};
 /// The version of both programs; CHANGELOG.md has it.
 const VERSION: &str = "0.1";
 
-// The text of the package's file that tells the commit and the kit, by the program's own path.
+// The text of the package's file with the commit and the kit, found by the program's own path.
 fn proved_text(rt: &HostRuntime) -> io::Result<String> {
     let program = env::current_exe(rt)?;
     let path = match program.parent() {
@@ -17,7 +17,7 @@ fn proved_text(rt: &HostRuntime) -> io::Result<String> {
 }
 
 impl Program {
-    // Tells the version, and the commit and the kit where the program is of a package.
+    // Prints the version, and the commit and the kit if the program is part of a package.
     pub(crate) fn put_version(&self, rt: &HostRuntime) {
         let name = self.name;
         let _ = eprintln!(rt; "{name} {VERSION}");

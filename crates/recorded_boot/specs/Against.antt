@@ -1,5 +1,5 @@
--- What stands against a start that an order asks for: no module has that name and a part of the phase; it has started and may not again; or it may not start yet, with the GUIDs that its dependency expression names and that are not installed.
--- PI 1.8, volumes 1 and 2, "Dependency Expressions"; the causes are own.
+-- Why a start that an order asks for is not possible: no module has that name and a part of the phase; it has started and may not again; or it may not start
+-- yet, with the GUIDs that its dependency expression names and that are not installed. PI 1.8, volumes 1 and 2, "Dependency Expressions"; the causes are own.
 use Rattle.std.specs.Prelude.{◌≡◌, ◌++◌, ℕ, Bool, not, List, [], ◌∷◌, Some, filter}
 use Rattle.pi_base.specs.{declared.guid.Guid.Guid, declared.phase.Phase.Phase}
 use Rattle.pi_base.specs.{declared.phase.Phase.TheVariants.Pei, declared.phase.Phase.TheVariants.Dxe, Guids.same_guid, Lists.firsts}
@@ -21,7 +21,7 @@ pushed_by (Not node) = pushed_by node
 pushed_by (And first second) = pushed_by first ++ pushed_by second
 pushed_by (Or first second) = pushed_by first ++ pushed_by second
 
--- those of an expression; BEFORE and AFTER push none
+-- the GUIDs that an expression pushes; BEFORE and AFTER push none
 abbrev pub pushed_in : PartExpr → List Guid
 pushed_in E.Absent = []
 pushed_in (E.Malformed at) = []
@@ -48,7 +48,7 @@ pub record IsModuleOf (catalog : Catalog) (start : Start) (part : Part) : Type 0
   pub named : IsNamed catalog start.volume start.name number
   pub part_is : part_at start.phase catalog number ≡ Some part
 
--- what stands against a start behind these starts, with this installed
+-- why a start after these starts is not possible, with this installed
 abbrev pub StandsAgainst : Catalog → List Start → StoreState → HandleState → Start → Against → Type 0
 StandsAgainst catalog made s h start Unknown = (part : Part) → IsModuleOf catalog start part → ⊥
 StandsAgainst catalog made s h start Started = ((part : Part) × IsModuleOf catalog start part) × IsAmong start made

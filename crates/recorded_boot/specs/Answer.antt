@@ -1,4 +1,4 @@
--- What a whole boot along an order comes to, by its answer.
+-- How a whole boot along an order ends, by its answer.
 -- Own.
 use Rattle.std.specs.Prelude.{ℕ, Result, Ok, Err, ⊤}
 use Rattle.boot_io.specs.declared.halt.Halt.{Halt}

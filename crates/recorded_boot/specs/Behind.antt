@@ -14,7 +14,7 @@ use Rattle.pei_dispatch.specs.{declared.boot.Ended.Ended, Ends.IsLeft}
 use Rattle.boot_core.specs.Closing.{closing_text}
 use Rattle.recorded_boot.specs.{InOrder.RunsInPei, InOrder.last_lines, Leaving.ComesTo}
 
--- the result of a boot that ends with PEI; behind a hand-off DXE goes on
+-- the result of a boot that ends with PEI; after a hand-off DXE continues
 abbrev pub pei_result : PeiEnd → Option RunEnd
 pei_result Handoff = None
 pei_result NoMemory = Some E.NoMemory
@@ -27,12 +27,12 @@ abbrev pub last_text : StoreState → HandleState → Option RunEnd → List ℕ
 last_text s h None = []
 last_text s h (Some end) = closing_text s h end
 
--- the last lines were put, and this is what the boot comes to, by the answer
+-- the last lines were printed, and this is how the boot ends, by the answer
 abbrev pub FinishesTo : Catalog → StartOrder → ℕ → StoreState → HandleState → Option RunEnd → Texts → Result Followed Halt → Type 0
 FinishesTo catalog order index s h end t (Ok followed) = Appends t.old t.new (text_of (last_lines s h end)) × ComesTo catalog order index s h end followed
 FinishesTo catalog order index s h end t (Err halt) = ⊤
 
--- behind each PEI that is over so in the order, and whose lines were put
+-- after each PEI that is over so in the order, and whose lines were written
 abbrev pub FollowsBehind : {M : Type 0} → (M → StoreState → Type 0) → Ended M → PeiEnd → Catalog → ℕ → StartOrder → Texts → Result Followed Halt → Type 0
 FollowsBehind stands left how catalog fuel order t result =
     (board : Board) (earlier : List PeiMachine) (m : PeiMachine) (first : Option (List ℕ)) → RunsInPei board catalog fuel order earlier m

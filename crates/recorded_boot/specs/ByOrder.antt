@@ -1,5 +1,6 @@
--- The choice by an order: behind so many starts the module of the order's line in that place is named, and no other is let; behind its last line nobody is named, so that the first that may start does, and each is let, unless the order stops there.
--- Own; PI 1.8, volumes 1 and 2, leave the order of the modules that may start to the dispatchers.
+-- The choice by an order: after so many starts the module of the order's line in that place is named, and no other is allowed; after its last line no module is
+-- named and each is allowed, so the first eligible one starts, unless the order stops there. Own; PI 1.8, volumes 1 and 2, leave the order of the modules that
+-- may start to the dispatchers.
 use Rattle.std.specs.Prelude.{◌≡◌, ℕ, Bool, true, false, ◌&&◌, ◌==◌, List, Option, Some, None, is_none, length, map, slice_get}
 use Rattle.pi_base.specs.{declared.guid.Guid.Guid, declared.phase.Phase.Phase}
 use Rattle.pi_base.specs.{declared.phase.Phase.TheVariants.Pei, declared.phase.Phase.TheVariants.Dxe, Guids.same_guid}
@@ -31,25 +32,25 @@ abbrev pub IsNumberOf : Catalog → Start → Option ℕ → Type 0
 IsNumberOf catalog start None = (number : ℕ) → IsNamed catalog start.volume start.name number → ⊥
 IsNumberOf catalog start (Some number) = IsNamed catalog start.volume start.name number
 
--- it is named where the start is one of the phase
+-- the module of the start is named, if the start is one of the phase
 abbrev pub NamesStart : Bool → Catalog → Start → Option ℕ → Type 0
 NamesStart true catalog start named = IsNumberOf catalog start named
 NamesStart false catalog start named = named ≡ None
 
--- by what the order asks for there: behind its last line nobody is named
+-- by what the order asks for there: after its last line no module is named
 abbrev pub NamesNext : Catalog → Phase → Option AskedStart → Option ℕ → Type 0
 NamesNext catalog phase None named = named ≡ None
 NamesNext catalog phase (Some asked) named = NamesStart (same_phase asked.start.phase phase) catalog asked.start named
 
--- whom the order names in a phase behind so many starts
+-- whom the order names in a phase after so many starts
 abbrev pub NamesAsked : Catalog → Phase → StartOrder → ℕ → Option ℕ → Type 0
 NamesAsked catalog phase order starts named = NamesNext catalog phase (slice_get order.starts starts) named
 
--- the same where the names of the modules are kept
+-- the same, by the names of the modules as they are kept
 abbrev pub NamesBy : Catalog → List (List (Guid × ℕ)) → Phase → StartOrder → ℕ → Option ℕ → Type 0
 NamesBy catalog names phase order starts named = AreNames catalog (length catalog.modules) names → NamesAsked catalog phase order starts named
 
--- whether a module is let, by what the order asks for there
+-- whether a module is allowed, by the start that the order asks for there
 abbrev pub lets_asked : Catalog → Phase → Option ℕ → Option AskedStart → ℕ → Bool
 lets_asked catalog phase stop None number = is_none stop
 lets_asked catalog phase stop (Some asked) number = is_start_of catalog phase number asked.start

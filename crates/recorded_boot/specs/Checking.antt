@@ -10,7 +10,7 @@ use Rattle.recorded_boot.specs.{Named.HasNoTwins, Named.IsFirstWithTwins, declar
 use Rattle.recorded_boot.specs.declared.trace.checking.CheckFault.TheVariants.{Image, Twins, Memory}
 use Rattle.recorded_boot.specs.{declared.trace.verdict.Verdict.Verdict, Verdict.IsVerdict}
 
--- a fault of images is told as it is; want of memory is none
+-- a fault of images is returned as it is; running out of memory is not one
 abbrev pub IsFaultTold : ImageFault → CheckFault → Type 0
 IsFaultTold fault (Image told) = (fault.cause ≢ I.Memory) × (told ≡ fault)
 IsFaultTold fault (Twins volume) = ⊥

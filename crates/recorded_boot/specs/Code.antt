@@ -1,4 +1,4 @@
--- The GUIDs that an expression pushes, as they are found in its opcodes one behind the other.
+-- The GUIDs that an expression pushes, as they are found in its opcodes one after the other.
 -- Own.
 use Rattle.std.specs.Prelude.{Bool, not, if◌then◌else◌, List, [], ◌∷◌, ◌++◌, flat_map}
 use Rattle.pi_base.specs.declared.guid.Guid.{Guid}
@@ -42,7 +42,7 @@ more_lacking has found O.Not = found
 more_lacking has found O.True = found
 more_lacking has found O.False = found
 
--- with what opcodes push and is not there, one behind the other
+-- with what opcodes push and is not there, one after the other
 abbrev pub lacking_from : (Guid → Bool) → List Guid → List Opcode → List Guid
 lacking_from has found [] = found
 lacking_from has found (opcode ∷ code) = lacking_from has (more_lacking has found opcode) code

@@ -1,5 +1,5 @@
--- The starts that a machine's lines tell are as many as those that it has counted: in PEI the first starts and the second ones, in DXE the drivers that have started.
--- Own; PI 1.8, volume 1, "PEI Dispatcher" and `RegisterForShadow()`, and volume 2, "DXE Dispatcher".
+-- A machine's lines show as many starts as it has counted: in PEI the first starts and the second ones, in DXE the drivers that have started. Own; PI 1.8,
+-- volume 1, "PEI Dispatcher" and `RegisterForShadow()`, and volume 2, "DXE Dispatcher".
 use Rattle.std.specs.Prelude.{◌≡◌, ◌+◌, ℕ, List, length}
 use Rattle.mod_catalog.specs.declared.catalogue.Catalog.{Catalog}
 use Rattle.store_model.specs.StoreState.{Board, StoreState}

@@ -1,5 +1,4 @@
--- What DXE along an order comes to, by its answer: its end, or the start of a driver that is not let.
--- Own.
+-- How DXE along an order ends, by its answer: at its end, or before the start of a driver that is not allowed. Own.
 use Rattle.std.specs.Prelude.{◌≡◌, ◌≤◌, ◌+◌, ◌-◌, ◌<◌, ◌^◌, ℕ, Bool, List, Option, Some, None, Result, Ok, Err, IfOk, length, ⊤}
 use Rattle.boot_io.specs.declared.halt.Halt.{Halt}
 use Rattle.std.specs.Io.KnownBytes.{Appends}
@@ -14,29 +13,29 @@ use Rattle.recorded_boot.specs.{declared.order.lines.StartOrder.StartOrder, decl
 use Rattle.dxe_dispatch.specs.Choices.{IsBarred, IsRunBy, LetsDrivers, NamesDrivers, came}
 use Rattle.recorded_boot.specs.ByOrder.{NamesBy, lets_by}
 
--- what an order names in DXE, and what it lets, behind so many starts in PEI
+-- what an order names in DXE, and what it allows, after so many starts in PEI
 abbrev pub named_by : {S : Type 0} → (S → Option (List ℕ)) → (S → ℕ) → Catalog → StartOrder → List (List (Guid × ℕ)) → ℕ → S → DxeMachine → Option ℕ → Type 0
 named_by text faults catalog order names in_pei first = NamesDrivers (λ sink starts named. NamesBy catalog names Dxe order starts named) text faults in_pei first
 
 abbrev pub let_by : Catalog → StartOrder → ℕ → DxeMachine → ℕ → Bool
 let_by catalog order in_pei = LetsDrivers (λ starts number. lets_by catalog order Dxe starts number) in_pei
 
--- DXE has ended with this result, or a driver is due in it that is not let
+-- DXE has ended with this result, or a driver that is not allowed is to start
 abbrev pub StandsSo : (DxeMachine → Option ℕ → Type 0) → (DxeMachine → ℕ → Bool) → Catalog → DxeMachine → Option RunEnd → Option (List ℕ) → Option (List ℕ) → Type 0
 StandsSo Names Lets catalog m (Some so) old new = (how : DxeEnd) × (m.ended ≡ Some how) × (so ≡ dxe_result how)
 StandsSo Names Lets catalog m None old new = (number : ℕ) × IsBarred Names Lets catalog m number old new
 
--- a driver that is not let is among those that have left the queue
+-- a driver that is not allowed is among those that have left the queue
 abbrev pub IsCounted : Reached DxeEnd → ℕ → Type 0
 IsCounted (R.End how) starts = ⊤
 IsCounted (R.Barred number) starts = 1 ≤ starts
 
--- what is left behind a run, by what it reached, and how many drivers have left the queue, the starts in PEI with them
+-- what is left after a run, by what it reached, and how many drivers have left the queue, the starts in PEI with them
 abbrev pub leaves : Reached DxeEnd → ℕ → HandleState → Drivers
 leaves (R.End how) starts handles = record { «end» = Some (dxe_result how); handles = handles; starts = starts }
 leaves (R.Barred number) starts handles = record { «end» = None; handles = handles; starts = starts - 1 }
 
--- a run by choices comes to a machine, all of whose lines were put
+-- a run by choices reaches a machine, all of whose lines were printed
 pub record HasRun (Names : DxeMachine → Option ℕ → Type 0) (Lets : DxeMachine → ℕ → Bool) (catalog : Catalog) (fuel : ℕ)
     (opening : DxeMachine) (in_pei : ℕ) (drivers : Drivers) (old new : Option (List ℕ)) : Type 0 where
   pub earlier : List DxeMachine

@@ -10,7 +10,7 @@ pub record BeginsWithStart (catalog : Catalog) (next : Scheduled) (bytes : List 
   pub more : List ℕ
   pub is : bytes ≡ line_text (dxe_start_line catalog next.module_number next.licence) ++ more
 
--- where the bytes begin with the start of the first of a group that may be scheduled, this is the driver of the group
+-- if the bytes begin with the start of the first of a group that may be scheduled, this is the driver of the group
 abbrev pub LeadsTo : Catalog → DxeMachine → List ℕ → Option ℕ → Type 0
 LeadsTo catalog m bytes root =
     (other : ℕ) (first : Scheduled) (rest : List Scheduled) → MaySchedule catalog m other → group_scheduled catalog m (Some other) ≡ first ∷ rest

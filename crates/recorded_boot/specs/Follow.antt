@@ -14,7 +14,7 @@ use Rattle.recorded_boot.specs.{declared.follow.images.FollowFault.FollowFault, 
 use Rattle.recorded_boot.specs.declared.follow.images.FollowFault.TheVariants.{Image, Twins, Sink, Memory}
 use Rattle.recorded_boot.specs.Answer.{FollowsTo}
 
--- a fault of images is told as it is; want of memory is none
+-- a fault of images is returned as it is; running out of memory is not one
 abbrev pub IsFaultTold : ImageFault → FollowFault → Type 0
 IsFaultTold fault (Image told) = (fault.cause ≢ I.Memory) × (told ≡ fault)
 IsFaultTold fault (Twins volume) = ⊥
@@ -49,7 +49,7 @@ Follows plan images order t (Err (Twins volume)) = HasTwins plan images volume �
 Follows plan images order t (Err Sink) = ⊤
 Follows plan images order t (Err Memory) = ⊤
 
--- the sink's count rises where a line could not be put, and nowhere else
+-- the sink's count rises if a line could not be written, and only then
 abbrev pub FaultsAfter : Result Followed FollowFault → ℕ → ℕ → Type 0
 FaultsAfter (Ok followed) before now = now ≡ before
 FaultsAfter (Err (Image fault)) before now = now ≡ before

@@ -1,5 +1,5 @@
--- What a boot along an order comes to: its end, a place where the order stops, or the start of a line that no free boot makes behind those of the lines before.
--- Own; PI 1.8, volumes 1 and 2, leave to the dispatchers which of the modules that may start does, and nothing else.
+-- How a boot along an order ends: at its end, at the start at which the order stops, or before the start of a line that no free boot makes after the lines
+-- before. Own; PI 1.8, volumes 1 and 2, leave to the dispatchers which eligible module starts, and nothing else.
 use Rattle.std.specs.Prelude.{◌≡◌, ◌⊎◌, ℕ, true, List, [], ◌∷◌, ◌++◌, Some, is_some}
 use Rattle.std.specs.Io.KnownBytes.{Appends}
 use Rattle.mod_catalog.specs.declared.catalogue.Catalog.{Catalog}
@@ -24,7 +24,8 @@ pub record IsBeforeStart (board : Board) (catalog : Catalog) (fuel : ℕ) (print
   pub rest : List Line
   pub are : lines ≡ printed ++ line ∷ rest
 
--- a boot that came to its end: its starts are those of the order, and others only where that does not stop; behind the last of the order it goes on as the machine itself does
+-- a boot that came to its end: its starts are those of the order, and more only if the order does not stop; after the last of the order it continues as the
+-- machine itself does
 pub record HasEnded (board : Board) (catalog : Catalog) (fuel : ℕ) (order : StartOrder) (end : RunEnd) (t : Texts) : Type 0 where
   pub lines : List Line
   pub boots : AreFreeLines board catalog fuel lines
@@ -34,7 +35,7 @@ pub record HasEnded (board : Board) (catalog : Catalog) (fuel : ℕ) (order : St
   pub itself : GoesOnItself board catalog fuel (starts_of order.starts) lines
   pub text : Appends t.old t.new (text_of lines)
 
--- a boot that was left before its next start, where the order stops
+-- a boot that was left before its next start, since the order stops there
 pub record HasStopped (board : Board) (catalog : Catalog) (fuel : ℕ) (order : StartOrder) (t : Texts) : Type 0 where
   pub printed : List Line
   pub before : IsBeforeStart board catalog fuel printed
@@ -42,7 +43,7 @@ pub record HasStopped (board : Board) (catalog : Catalog) (fuel : ℕ) (order : 
   pub stops : is_some order.stop ≡ true
   pub text : Appends t.old t.new (text_of printed)
 
--- where a boot stands: free steps lead to a machine of PEI, or over the hand-off to one of DXE; these lines were printed, and this is installed
+-- how far a boot is: free steps lead to a machine of PEI, or over the hand-off to one of DXE; these lines were printed, and this is installed
 pub data StandsAt (board : Board) (catalog : Catalog) (fuel : ℕ) (lines : List Line) (s : StoreState) (h : HandleState) : Type 0 where
   stands_in_pei : (earlier : List PeiMachine) (m : PeiMachine) → PeiComesTo catalog fuel (pei_opening board catalog) earlier m
       → lines ≡ m.lines → s ≡ m.store → h ≡ no_handles → StandsAt board catalog fuel lines s h
@@ -50,7 +51,7 @@ pub data StandsAt (board : Board) (catalog : Catalog) (fuel : ℕ) (lines : List
       → (over : List DxeMachine) (m : DxeMachine) → DxeComesTo catalog fuel (dxe_opening catalog pei.store pei.actions) over m
       → lines ≡ pei.lines ++ m.lines → s ≡ pei.store → h ≡ m.handles → StandsAt board catalog fuel lines s h
 
--- what stands against a start behind these lines, in the machine that printed them, or all but the last ones of a whole boot
+-- why a start after these lines is not possible, in the machine that printed them, or all but the last ones of a whole boot
 pub record StandsBehind (board : Board) (catalog : Catalog) (fuel : ℕ) (printed : List Line) (start : Start) (against : Against) : Type 0 where
   pub lines : List Line
   pub last : List Line

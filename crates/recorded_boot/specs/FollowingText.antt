@@ -18,7 +18,7 @@ pub record IsWhole (Lines : List Line → Type 0) (text printed : List ℕ) (s :
   pub is : printed ≡ text_of lines
   pub only : (others : List Line) → Lines others → IsPrefix printed (text_of others) → text_of others ≡ printed
 
--- a boot along a text, by the answer: to its end, or up to where the text is off
+-- a boot along a text, by the answer: to its end, or up to the point at which the text differs
 abbrev pub Follows : (List Line → Type 0) → List ℕ → Spelled → Result (Unit {0}) Parted → Type 0
 Follows Lines text s (Ok _) = IsWhole Lines text (met s) s
 Follows Lines text s (Err Off) = IsOffHere Lines text s
@@ -29,13 +29,13 @@ abbrev pub IsFollowed : {A : Type 0} → Result A Halt → Result (Unit {0}) Par
 IsFollowed (Ok _) followed = followed ≡ Ok tt
 IsFollowed (Err halt) followed = followed ≡ Err (parted_by halt)
 
--- the lines of the text can be counted, unless memory was wanting
+-- the lines of the text can be counted, unless memory ran out
 abbrev pub IsShort : Spelled → Result (Unit {0}) Parted → Type 0
 IsShort s (Ok _) = length (whole s) < 2 ^ 32 - 1
 IsShort s (Err Off) = length (whole s) < 2 ^ 32 - 1
 IsShort s (Err Memory) = ⊤
 
--- the whole of a boot: behind what was printed it prints its last lines, and so does each boot whose text begins so
+-- the whole of a boot: after what was printed it prints its last lines, and so does each boot whose text begins so
 pub record IsLast (Lines : List Line → Type 0) (printed last : List ℕ) : Type 0 where
   pub all : List Line
   pub boots : Lines all

@@ -8,7 +8,7 @@ use Rattle.boot_model.specs.{declared.line.Line.Line, Text.text_of}
 abbrev pub EndsLine : List ℕ → Type 0
 EndsLine bytes = (before : List ℕ) × (bytes ≡ before ++ 10 ∷ [])
 
--- Some free boot prints the beginning of a text that was met, and none prints a line more of it, or the text itself.
+-- Some free boot prints the matched beginning of a text, but none prints one more line of it, or the whole text.
 pub record IsOff (Lines : List Line → Type 0) (text met : List ℕ) : Type 0 where
   pub begins : (lines : List Line) × Lines lines × IsPrefix met (text_of lines)
   pub parted : (lines : List Line) (front : List ℕ) → Lines lines → IsPrefix front text → EndsLine front → length met < length front → IsPrefix front (text_of lines) → ⊥

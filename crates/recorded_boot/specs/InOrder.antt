@@ -1,5 +1,5 @@
--- The boot in an order of starts: the machines to which the order's choices lead. It comes to its end, or is left before the start of a module that the order does not let.
--- Own; PI 1.8, volumes 1 and 2, leave the order of the modules that may start to the dispatchers.
+-- The boot in an order of starts: the machines to which the order's choices lead. It ends, or is left before the start of a module that the order does not
+-- allow. Own; PI 1.8, volumes 1 and 2, leave the order of the eligible modules to the dispatchers.
 use Rattle.std.specs.Prelude.{◌≡◌, ℕ, false, List, [], ◌++◌, Option, Some, None}
 use Rattle.std.specs.Io.KnownBytes.{Appends}
 use Rattle.pi_base.specs.declared.phase.Phase.TheVariants.{Pei, Dxe}
@@ -33,7 +33,7 @@ abbrev pub RunsInPei : Board → Catalog → ℕ → StartOrder → List PeiMach
 RunsInPei board catalog fuel order earlier m =
     P.IsRunBy (order_choices catalog order).peims (order_choices catalog order).lets_peim catalog fuel (pei_opening board catalog) earlier m
 
--- what a boot has come to: its lines, but the last ones, its store and handles, how many starts there were, and its result where it has ended
+-- how far a boot is: its lines without the last ones, its store and handles, how many starts there were, and its result if it has ended
 pub record Place : Type 0 where
   pub lines : List Line
   pub store : StoreState
@@ -47,7 +47,7 @@ pei_place m end = record { lines = m.lines; store = m.store; handles = no_handle
 abbrev pub dxe_place : PeiMachine → DxeMachine → Option RunEnd → Place
 dxe_place pei m end = record { lines = pei.lines ++ m.lines; store = pei.store; handles = m.handles; starts = W.starts_of pei m; «end» = end }
 
--- in this machine of PEI, or of DXE, a module is due that is not let
+-- in this machine of PEI, or of DXE, a module is to start that is not allowed
 pub record BarsInPei (by : W.Choices) (catalog : Catalog) (m : PeiMachine) : Type 0 where
   pub number : ℕ
   pub due : P.IsDue by.peims catalog m number
@@ -58,7 +58,7 @@ pub record BarsInDxe (by : W.Choices) (catalog : Catalog) (pei : PeiMachine) (m 
   pub due : D.IsDue (by.drivers pei) catalog m number
   pub barred : by.lets_driver pei due.target number ≡ false
 
--- behind this PEI the boot stands there in DXE, which has ended so or is left
+-- after this PEI the boot is there in DXE, which has ended so or is left
 abbrev pub IsDxePlace : W.Choices → Catalog → PeiMachine → DxeMachine → Option DxeEnd → Place → Type 0
 IsDxePlace by catalog pei m None place = BarsInDxe by catalog pei m × (place ≡ dxe_place pei m None)
 IsDxePlace by catalog pei m (Some how) place = place ≡ dxe_place pei m (Some (dxe_result how))
@@ -68,7 +68,7 @@ pub record StandsInDxe (by : W.Choices) (catalog : Catalog) (fuel : ℕ) (pei : 
   pub comes : ComesInDxe by catalog fuel pei m
   pub stands : IsDxePlace by catalog pei m m.ended place
 
--- the boot stands there with PEI, which has ended so or is left; behind a hand-off it stands in DXE
+-- the boot is there with PEI, which has ended so or is left; after a hand-off it is in DXE
 abbrev pub IsPeiPlace : W.Choices → Catalog → ℕ → PeiMachine → Option PeiEnd → Place → Type 0
 IsPeiPlace by catalog fuel m None place = BarsInPei by catalog m × (place ≡ pei_place m None)
 IsPeiPlace by catalog fuel m (Some Handoff) place = StandsInDxe by catalog fuel m place
@@ -84,12 +84,12 @@ pub record LeadsTo (board : Board) (catalog : Catalog) (fuel : ℕ) (order : Sta
   pub runs : RunsInPei board catalog fuel order earlier m
   pub stands : IsPeiPlace (order_choices catalog order) catalog fuel m m.ended place
 
--- the last lines of a boot that has ended so, and none of one that is left before a start
+-- the last lines of a boot that has ended with a result; a boot that is left before a start has none
 abbrev pub last_lines : StoreState → HandleState → Option RunEnd → List Line
 last_lines s h None = []
 last_lines s h (Some end) = closing s h end
 
--- the boot in the order was put whole, and this is what the order makes of the place to which it leads
+-- the boot in the order was printed whole, and this is what the order makes of the place to which it leads
 pub record BootsInOrder (board : Board) (catalog : Catalog) (fuel : ℕ) (order : StartOrder) (t : Texts) (followed : Followed) : Type 0 where
   pub place : Place
   pub leads : LeadsTo board catalog fuel order place

@@ -1,4 +1,4 @@
--- The free boots that start what was started up to a machine are those that go on from it.
+-- The free boots that start what was started up to a machine are those that continue from it.
 -- Own; PI 1.8, volumes 1 and 2, leave to the dispatchers which of the eligible modules starts, and nothing else.
 use Rattle.std.specs.Prelude.{◌≡◌, ℕ, List, [], ◌∷◌, ◌++◌, None}
 use Rattle.mod_catalog.specs.{declared.catalogue.Catalog.Catalog, WellFormed.AreNumbered}
@@ -19,14 +19,14 @@ DxeComesTo catalog fuel first [] m = m ≡ first
 DxeComesTo catalog fuel first (before ∷ earlier) m =
     (before.ended ≡ None) × IsFreeDxeStep catalog fuel before m × DxeComesTo catalog fuel first earlier before
 
--- a boot from the opening that starts what was started goes on from here, and each boot from here is one from the opening
+-- a boot from the opening that starts what was started continues from here, and each boot from here is one from the opening
 abbrev pub PeiStartsLead : Type 0
 PeiStartsLead = (board : Board) (catalog : Catalog) (fuel : ℕ) (earlier : List PeiMachine) (m : PeiMachine) → HasNoTwins catalog
     → PeiComesTo catalog fuel (pei_opening board catalog) earlier m → (lines : List Line)
     → (AreFreeLines board catalog fuel lines → ComeFirst (starts m.lines) (starts lines) → AreFreePeiLines catalog fuel m lines)
     × (AreFreePeiLines catalog fuel m lines → AreFreeLines board catalog fuel lines)
 
--- the same behind the hand-off, where each volume's parent comes before it
+-- the same after the hand-off, if each volume's parent comes before it
 abbrev pub DxeStartsLead : Type 0
 DxeStartsLead = (catalog : Catalog) (fuel : ℕ) (pei : PeiMachine) (s : StoreState) (actions : ℕ) (earlier : List DxeMachine) (m : DxeMachine)
     → HasNoTwins catalog → AreNumbered 0 catalog.volumes → DxeComesTo catalog fuel (dxe_opening catalog s actions) earlier m → (lines : List Line)

@@ -1,5 +1,4 @@
--- What a boot along an order comes to where it is left before a start, or has ended, by what the order asks for behind so many starts.
--- Own.
+-- How a boot along an order ends if it is left before a start, or has ended, by what the order asks for after so many starts. Own.
 use Rattle.std.specs.Prelude.{◌≡◌, ℕ, Option, Some, None, slice_get, take}
 use Rattle.mod_catalog.specs.declared.catalogue.Catalog.{Catalog}
 use Rattle.store_model.specs.{HandleState.HandleState, StoreState.StoreState}
@@ -9,14 +8,14 @@ use Rattle.recorded_boot.specs.{declared.follow.against.Against.Against, declare
 use Rattle.recorded_boot.specs.declared.follow.following.Followed.TheVariants.{Ended, Stopped, No}
 use Rattle.recorded_boot.specs.ByOrder.{starts_of}
 
--- the order asks for a start there, against which something stands
+-- the order asks for a start there that is not possible
 pub record IsRefused (catalog : Catalog) (order : StartOrder) (index : ℕ) (s : StoreState) (h : HandleState) (line : ℕ) (against : Against) : Type 0 where
   pub asked : AskedStart
   pub asks : slice_get order.starts index ≡ Some asked
   pub line_is : line ≡ asked.line
   pub stood : StandsAgainst catalog (starts_of (take index order.starts)) s h asked.start against
 
--- behind so many starts, where the boot has ended so, or is left before the next one
+-- after so many starts, if the boot has ended with a result, or is left before the next start
 abbrev pub ComesTo : Catalog → StartOrder → ℕ → StoreState → HandleState → Option RunEnd → Followed → Type 0
 ComesTo catalog order index s h end (Ended so) = (end ≡ Some so) × (slice_get order.starts index ≡ None)
 ComesTo catalog order index s h end Stopped = (end ≡ None) × (slice_get order.starts index ≡ None)

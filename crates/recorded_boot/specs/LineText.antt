@@ -1,4 +1,5 @@
--- The lines of an order of starts (own): `pei V GUID` or `dxe V GUID`, a start in that phase by the number of the volume and the name of the file, or `stop`. Lines and words are those of `line_words`.
+-- The lines of an order of starts (own). Each is `pei V GUID` or `dxe V GUID`, a start in that phase by the number of the volume and the name of the file, or
+-- `stop`. Lines and words are those of `line_words`.
 use Rattle.std.specs.Prelude.{ℕ, if◌then◌else◌, List, [], ◌∷◌, Option, Some, None, codes, option_and_then, find, bytes_eq}
 use Rattle.line_words.specs.Words.{words, is_plain}
 use Rattle.pi_base.specs.declared.phase.Phase.{Phase}
@@ -17,13 +18,13 @@ keyword_text Stop = codes "stop"
 abbrev pub keyword_named : List ℕ → Option Keyword
 keyword_named word = find (λ keyword. bytes_eq word (keyword_text keyword)) (Pei ∷ Dxe ∷ Stop ∷ [])
 
--- what is made of two words, where each of them can be read
+-- what is made of two words, if each of them can be read
 abbrev pub of_two : {A B C : Type 0} → (A → B → C) → Option A → Option B → Option C
 of_two make None b = None
 of_two make (Some a) None = None
 of_two make (Some a) (Some b) = Some (make a b)
 
--- the start that the words behind a keyword spell
+-- the start that the words after a keyword spell
 abbrev pub start_by : ℕ → Phase → List (List ℕ) → Option Asked
 start_by number phase [] = None
 start_by number phase (volume ∷ []) = None

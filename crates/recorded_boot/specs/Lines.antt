@@ -6,7 +6,7 @@ use Rattle.std.specs.List.{list_all}
 abbrev pub is_feed : ℕ → Bool
 is_feed byte = byte == 10
 
--- no line feed stands there
+-- no line feed is there
 abbrev pub Lacks : List ℕ → Type 0
 Lacks bytes = list_all (λ byte. not (is_feed byte)) bytes ≡ true
 
@@ -20,7 +20,7 @@ pub record BeginsWithLine (bytes line : List ℕ) : Type 0 where
   pub rest : List ℕ
   pub is : bytes ≡ line ++ 10 ∷ rest
 
--- the front of a text up to its n-th line feed and with it; none where it has fewer
+-- the front of a text up to its n-th line feed, which it includes; nothing if the text has fewer
 abbrev pub front_lines : ℕ → List ℕ → Option (List ℕ)
 front_lines zero text = Some []
 front_lines (suc n) [] = None

@@ -10,17 +10,17 @@ use Rattle.recorded_boot.specs.{Named.HasNoTwins, declared.order.lines.StartOrde
 use Rattle.recorded_boot.specs.{declared.follow.images.FollowFault.FollowFault, Answer.FollowsTo, Follow.Follows}
 use Rattle.recorded_boot.specs.declared.follow.images.FollowFault.TheVariants.{Image, Twins, Sink, Memory}
 
--- this text was put, and nothing before it
+-- this text was written, and nothing before it
 abbrev pub put : List ℕ → Texts
 put text = record { old = Some []; new = Some text }
 
--- a boot that comes to its end, or is left, in the same order comes to the same, with the same text
+-- a boot that ends, or is left, in the same order ends in the same way, with the same text
 abbrev pub OneBoot : Type 0
 OneBoot = (board : Board) (catalog : Catalog) (fuel : ℕ) (order : StartOrder) → IsWellFormed catalog → HasNoTwins catalog → length order.starts ≤ 2 ^ 32 - 1
     → (one other : Followed) (text told : List ℕ) → FollowsTo board catalog fuel order (put text) (Ok one) → FollowsTo board catalog fuel order (put told) (Ok other)
     → (one ≡ other) × (text ≡ told)
 
--- the answer is none of a sink that failed or of want of memory
+-- the answer is neither that the sink failed nor that memory ran out
 abbrev pub IsAnswer : Result Followed FollowFault → Type 0
 IsAnswer (Ok followed) = ⊤
 IsAnswer (Err (Image fault)) = ⊤

@@ -1,4 +1,4 @@
--- The order of the starts of which lines tell.
+-- The order of the starts among printed lines.
 -- Own.
 use Rattle.std.specs.Prelude.{◌≡◌, ℕ, List, None, flat_map, map, option_map, option_to_list}
 use Rattle.std.specs.List.{enumerate_from}
@@ -10,7 +10,7 @@ use Rattle.recorded_boot.specs.{declared.order.lines.StartOrder.StartOrder, Star
 abbrev pub asked_at : ℕ → Start → AskedStart
 asked_at number start = record { line = number; start = start }
 
--- what the line with its number asks for, if it tells of a start
+-- what the line with its number asks for, if it is a start line
 abbrev pub asked_in : ℕ × Line → List AskedStart
 asked_in numbered = option_to_list (option_map (asked_at numbered.0) (start_of numbered.1))
 
@@ -18,10 +18,10 @@ asked_in numbered = option_to_list (option_map (asked_at numbered.0) (start_of n
 abbrev pub asked_from : ℕ → List Line → List AskedStart
 asked_from number lines = flat_map asked_in (enumerate_from number lines)
 
--- each start of which the lines tell, with the number of its line, from 1; behind the last of them the boot goes on
+-- each start among the lines, with the number of its line, from 1; after the last of them the boot continues
 abbrev pub order_of : List Line → StartOrder
 order_of lines = record { starts = asked_from 1 lines; stop = None }
 
--- what it asks for are the starts of which the lines tell
+-- the order asks for exactly the starts among the lines
 abbrev pub OrderIsOfStarts : Type 0
 OrderIsOfStarts = (lines : List Line) → map (λ (one : AskedStart). one.start) (order_of lines).starts ≡ starts lines

@@ -1,4 +1,4 @@
--- What the text of an order stands for, and where it stands for nothing (own). Lines that are empty or begin with `#` are passed over, and nothing follows `stop`.
+-- The text of an order, and when a text is not one (own). Lines that are empty or begin with `#` are skipped, and nothing follows `stop`.
 use Rattle.std.specs.Prelude.{◌≡◌, ◌⊎◌, ℕ, true, false, not, List, [], ◌∷◌, ◌++◌, map, filter, Option, Some, None, is_some, Result, Ok, Err}
 use Rattle.std.specs.List.{enumerate_from}
 use Rattle.line_words.specs.Line.{lines, is_passed_over}
@@ -32,11 +32,11 @@ all_asked order = map (λ start. A.Start start) order.starts ++ last_asked order
 abbrev pub AreLinesOf : StartOrder → List (ℕ × List ℕ) → Type 0
 AreLinesOf order lines = spelled lines ≡ map (λ asked. Some asked) (all_asked order)
 
--- the order that a text stands for
+-- the order that a text spells
 abbrev pub IsOrder : List ℕ → StartOrder → Type 0
 IsOrder text order = AreLinesOf order (numbered text)
 
--- the first bad line: those before it spell an order, and it asks for nothing or stands behind the stop
+-- the first bad line: those before it spell an order, and it asks for nothing or is after the stop
 pub record IsFirstBad (text : List ℕ) (number : ℕ) : Type 0 where
   pub before : List (ℕ × List ℕ)
   pub line : List ℕ

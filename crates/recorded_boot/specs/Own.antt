@@ -1,4 +1,4 @@
--- A boot that goes on from a machine as the machine itself does, by its own steps alone.
+-- A boot that continues from a machine as the machine itself does, by its own steps alone.
 -- PI 1.8, volumes 1 and 2, leave the order to the dispatchers; that of the machine is own.
 use Rattle.std.specs.Prelude.{◌≡◌, ℕ, List, ◌++◌, Option, Some, None}
 use Rattle.mod_catalog.specs.declared.catalogue.Catalog.{Catalog}
@@ -9,11 +9,11 @@ use Rattle.boot_model.specs.{DxeMachine.DxeMachine, DxeRun.IsDxeRun, DxeRun.dxe_
 use Rattle.boot_model.specs.PeiRun.{IsPeiRun, last_machine, pei_opening}
 use Rattle.recorded_boot.specs.{declared.order.line.Start.Start, Starts.starts, Leading.DxeComesTo, Leading.PeiComesTo}
 
--- all lines of a boot that goes on so from a machine of DXE, behind this one of PEI
+-- all lines of a boot that continues so from a machine of DXE, after this one of PEI
 abbrev pub AreOwnDxeLines : Catalog → ℕ → PeiMachine → DxeMachine → List Line → Type 0
 AreOwnDxeLines catalog fuel pei m lines = (run : List DxeMachine) × IsDxeRun catalog fuel m run × (lines ≡ both_lines pei (last_of_dxe m run) (last_of_dxe m run).ended)
 
--- behind a PEI that has ended so
+-- after a PEI that has ended so
 abbrev pub AreOwnLinesAfter : Catalog → ℕ → PeiMachine → Option PeiEnd → List Line → Type 0
 AreOwnLinesAfter catalog fuel pei None lines = lines ≡ lines_after catalog fuel pei None
 AreOwnLinesAfter catalog fuel pei (Some Handoff) lines = AreOwnDxeLines catalog fuel pei (dxe_opening catalog pei.store pei.actions) lines
@@ -26,7 +26,7 @@ AreOwnLinesAfter catalog fuel pei (Some Deep) lines = lines ≡ lines_after cata
 abbrev pub AreOwnPeiLines : Catalog → ℕ → PeiMachine → List Line → Type 0
 AreOwnPeiLines catalog fuel m lines = (run : List PeiMachine) × IsPeiRun catalog fuel m run × AreOwnLinesAfter catalog fuel (last_machine m run) (last_machine m run).ended lines
 
--- free steps lead to a machine behind these starts, in PEI or over the hand-off in DXE, and from there the boot goes on so
+-- free steps lead to a machine after these starts, in PEI or over the hand-off in DXE, and from there the boot continues so
 pub data GoesOnItself (board : Board) (catalog : Catalog) (fuel : ℕ) (made : List Start) (lines : List Line) : Type 0 where
   itself_in_pei : (earlier : List PeiMachine) (m : PeiMachine) → PeiComesTo catalog fuel (pei_opening board catalog) earlier m → starts m.lines ≡ made
       → AreOwnPeiLines catalog fuel m lines → GoesOnItself board catalog fuel made lines

@@ -14,20 +14,20 @@ use Rattle.recorded_boot.specs.StartLine.{phase_start}
 abbrev pub start_of : Phase → Catalog → ℕ → Licence → Line
 start_of phase catalog number licence = phase_start phase (module_volume catalog number) (module_name catalog number) licence
 
--- the text goes on with the start of this module by a licence
+-- the text continues with the start of this module by a licence
 pub record StartsNext (phase : Phase) (catalog : Catalog) (rest : List ℕ) (number : ℕ) : Type 0 where
   pub licence : Licence
   pub named : IsNamed catalog (module_volume catalog number) (module_name catalog number) number
   pub readable : IsReadable (start_of phase catalog number licence)
   pub next : IsPrefix (line_text (start_of phase catalog number licence)) rest
 
--- where the text goes on with the start of a module, that is the one
+-- if the text continues with the start of a module, that module is named
 abbrev pub NamesNext : Phase → List (List (Guid × ℕ)) → Spelled → Option ℕ → Type 0
 NamesNext phase names text named =
     IsRight text → (catalog : Catalog) → AreNames catalog (length catalog.modules) names
     → (number : ℕ) → StartsNext phase catalog (left text) number → named ≡ Some number
 
--- a cursor stands before the PEIM that the text starts next, where that is in the order
+-- a cursor is before the PEIM that the text starts next, if that is in the order
 abbrev pub IsAimedAt : Catalog → List ℕ → List ℕ → ℕ → Type 0
 IsAimedAt catalog rest order cursor =
     (number : ℕ) → StartsNext Pei catalog rest number → has_number order number ≡ true → slice_get order cursor ≡ Some number

@@ -17,7 +17,7 @@ volume_of word = below (2 ^ 32) (number_of word)
 abbrev pub guid_of : List ℕ → Option Guid
 guid_of word = option_map (λ bytes. record { 0 = bytes }) (guid_of_text word)
 
--- the first word of what is left of a line, and what is left behind it
+-- the first word of what is left of a line, and what is left after it
 abbrev pub Cuts : List ℕ → Option (Bor (List ℕ) × Bor (List ℕ)) → Type 0
 Cuts line None = words line ≡ []
 Cuts line (Some cut) = (words line ≡ cut.0.now ∷ words cut.1.now) × (slice_index cut.1.now 0 ≢ 32)

@@ -1,4 +1,5 @@
-//! A boot with its order of starts handed in: the order's next module starts, and behind the last line the first that may; where the next module may not start the boot is left there, with what stands against it.
+//! A boot with its order of starts handed in: the order's next module starts, and after the last line the first that may; where the next module may not start
+//! the boot is left there, with what stands against it.
 //!
 //! Tried by `example_boot`.
 

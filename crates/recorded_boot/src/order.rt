@@ -1,5 +1,5 @@
 //! The order of the starts of a boot (own): its text, which says which module starts first, which next and so on, each in its phase by its volume and file
-//! name, and whether the boot is followed no further behind the last; which module of a catalogue a volume and a file name tell; the order of the starts of
+//! name, and whether the boot is followed no further after the last; which module of a catalogue a volume and a file name tell; the order of the starts of
 //! which a boot's lines tell; and that it tells all of a boot that its dispatchers were free to choose.
 //!
 //! Tried by `example_boot` and `scripts/check-traces`.

@@ -1,5 +1,5 @@
 //! Whether a text is the trace of a boot of a plan in which the dispatchers chose freely: the boot prints into the text (`Spelled`), which takes a piece at a
-//! time up to the first byte that does not stand there, and where a module is chosen the text's next line says which.
+//! time up to the first byte that does not are there, and where a module is chosen the text's next line says which.
 //!
 //! Tried by `scripts/check-traces`, and in `boot_trials`: `held_text`.
 

@@ -1,4 +1,4 @@
--- The answers about a state are those of its image, where its numbers fit.
+-- The answers about a state are those of its image, if its numbers fit.
 -- Own.
 use Rattle.std.specs.Prelude.{◌≡◌, ℕ, map, filter, option_map, slice_get}
 use Rattle.std.specs.List.{list_any}

@@ -1,4 +1,4 @@
--- The entries of a list, told one behind the other by their nodes.
+-- The entries of a list, read one after the other by their nodes.
 -- Own.
 use Rattle.std.specs.Prelude.{◌≡◌, ◌≢◌, ℕ, ◌<◌, ◌^◌, List, [], ◌∷◌, length, Option, Some, None}
 use Rattle.store_model.specs.{declared.limits.TheConstants.NOTE_NUMBERS, declared.store_handle.EntryList.EntryList}
@@ -6,16 +6,16 @@ use Rattle.store_model.specs.{declared.store_handle.EntryList.TheVariants.Ppis, 
 use Rattle.store_model.specs.{StoreState.StoreState, StateFacts.IsStoreState, StoreCall.IsNodeIn}
 use Rattle.store_model.specs.Service.Reading.{entry_behind, told_behind, told_of}
 
--- those of a list that stand behind a node, or all
+-- those of a list that are after a node, or all
 abbrev pub left_behind : StoreState → EntryList → Option ℕ → List EntryTold
 left_behind s list node = told_behind node (told_of s list)
 
--- the entry that is told is the first of those that are left, and behind its node are the others
+-- the entry that is read is the first of those that are left, and the others are after its node
 pub record IsToldFirst (s : StoreState) (list : EntryList) (node : Option ℕ) (told : EntryTold) : Type 0 where
   pub is_in : IsNodeIn list (Some told.node) s
   pub left : left_behind s list node ≡ told ∷ left_behind s list (Some told.node)
 
--- the entries of a store's lists are told in order and each once, a list has few, and a notification's number is that of a module's block
+-- the entries of a store's lists are read in order and each once, a list is short, and a notification's number is that of a module's block
 pub record EntriesAreTold : Type 0 where
   pub first : (s : StoreState) (list : EntryList) (node : Option ℕ) (told : EntryTold) → IsStoreState s
       → entry_behind s list node ≡ Some told → IsToldFirst s list node told

@@ -1,11 +1,10 @@
--- Where bodies stand: behind those that were there, and in the same place where another one changes or where the store moves.
--- Own.
+-- Where bodies are: a new one after those that were there, and an old one in its place when another one changes or the store moves. Own.
 use Rattle.std.specs.Prelude.{◌≡◌, ◌≢◌, ℕ, ◌+◌, ◌%◌, ◌≤◌, Some, option_map}
 use Rattle.store_model.specs.{declared.state.Body.Body, declared.state.HobEntry.HobEntry, StateFacts.IsStoreState}
 use Rattle.store_model.specs.StoreState.{Range, StoreState, appended, body_at, body_len, end_place, handoff_len, header_len, next_body, with_body}
 use Rattle.store_model.specs.Migration.{migrated_to, moved_body}
 
--- every body of s stands in the same place of t
+-- every body of s is in the same place of t
 abbrev pub IsGrown : StoreState → StoreState → Type 0
 IsGrown s t = (place : ℕ) (body : Body) → body_at s place ≡ Some body → body_at t place ≡ Some body
 
@@ -29,7 +28,7 @@ pub record BodiesStay : Type 0 where
   pub moved : (s : StoreState) (to : Range) (place : ℕ) → IsStoreState s
       → body_at (migrated_to s to) place ≡ option_map (moved_body s to place) (body_at s place)
 
--- a body stands behind the hand-off HOB and its own header, at a multiple of 8, and ends where the end HOB stands or before
+-- a body is after the hand-off HOB and its own header, at a multiple of 8, and ends before the end HOB or at it
 pub record IsInside (s : StoreState) (place : ℕ) (body : Body) : Type 0 where
   pub behind : handoff_len + header_len ≤ place
   pub aligned : place % 8 ≡ 0

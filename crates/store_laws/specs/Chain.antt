@@ -29,7 +29,7 @@ SecondIsRead = (s : StoreState) (list : EntryList) (i : ℕ) (item : Item) (rest
     → drop i (items s list) ≡ item ∷ rest
     → word_in (heap_image s) (item.node + 16) ≡ item.second
 
--- its fourth is the number of a module, where that fits
+-- its fourth is the number of a module, if that fits
 abbrev pub NumberIsRead : Type 0
 NumberIsRead = (s : StoreState) (list : EntryList) (i : ℕ) (item : Item) (rest : List Item) → IsStoreState s
     → drop i (items s list) ≡ item ∷ rest → item.number < 2 ^ 64

@@ -19,7 +19,7 @@ FreeBottomsAreRead = (s : StoreState) → IsStoreState s → word_in (heap_image
 abbrev pub EndsAreRead : Type 0
 EndsAreRead = (s : StoreState) → IsStoreState s → word_in (heap_image s) 48 ≡ s.base + end_place s
 
--- what is free lies between the two
+-- what is free is between the two
 abbrev pub FreeIsRead : Type 0
 FreeIsRead = (s : StoreState) → IsStoreState s → word_in (heap_image s) 32 - word_in (heap_image s) 40 ≡ free s
 

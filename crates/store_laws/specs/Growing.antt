@@ -1,5 +1,5 @@
--- What the heap becomes where a HOB is added: the last three fields of the hand-off HOB change, the HOB stands over the end HOB, and another end HOB stands behind it.
--- PI 1.8, volume 3, `EFI_HOB_HANDOFF_INFO_TABLE` and `EFI_HOB_GENERIC_HEADER`.
+-- What the heap becomes when a HOB is added: the last three fields of the hand-off HOB change, the HOB is written over the end HOB, and a new end HOB follows
+-- it. PI 1.8, volume 3, `EFI_HOB_HANDOFF_INFO_TABLE` and `EFI_HOB_GENERIC_HEADER`.
 use Rattle.std.specs.Prelude.{◌≡◌, ℕ, ◌+◌, ◌-◌, ◌≤◌, List, ◌++◌, length, replicate}
 use Rattle.pi_base.specs.Field.{little_bytes}
 use Rattle.phys_mem.specs.Region.{replaced}
@@ -16,7 +16,7 @@ front_bytes s = header_bytes HANDOFF handoff_len ++ handoff_body s
 abbrev pub free_fields_at : ℕ
 free_fields_at = 32
 
--- the address behind what is free, its first address, and that of the end HOB
+-- the address after what is free, its first address, and that of the end HOB
 abbrev pub free_bytes : (top end : ℕ) → List ℕ
 free_bytes top end = little_bytes 8 top ++ little_bytes 8 (end + header_len) ++ little_bytes 8 end
 
@@ -27,12 +27,12 @@ grown s hob taken = record (appended s hob) { taken = taken }
 abbrev pub free_fields : StoreState → List ℕ
 free_fields s = free_bytes (s.base + s.len - page_bytes s.moved s.taken) (s.base + end_place s)
 
--- a heap with these fields, with a text at a place, and with an end HOB so many bytes behind that place
+-- a heap with these fields, with a text at a place, and with an end HOB so many bytes after that place
 abbrev pub with_hob : (heap fields : List ℕ) (place : ℕ) (text : List ℕ) (len : ℕ) → List ℕ
 with_hob heap fields place text len =
     replaced (replaced (replaced heap free_fields_at fields) place text) (place + len) (header_bytes END header_len)
 
--- a HOB behind the others has these bytes, its header among them, and then zeros
+-- a HOB after the others has these bytes, its header among them, and then zeros
 pub record IsText (s : StoreState) (hob : HobEntry) (text : List ℕ) (zeros : ℕ) : Type 0 where
   pub bytes : header_bytes hob.kind (hob_len hob) ++ body_bytes s (next_body s) hob.body ≡ text ++ replicate zeros 0
   pub len : length text + zeros ≡ hob_len hob

@@ -19,7 +19,7 @@ last_address base [] = 0
 last_address base (item ∷ []) = base + item.node
 last_address base (item ∷ next ∷ list) = last_address base (next ∷ list)
 
--- the node at an address, where that is not 0, names another
+-- the node at an address, if that is not 0, names another
 abbrev pub named_at : ℕ → ℕ → ℕ → List ℕ → List ℕ
 named_at base tail address heap = if tail == 0 then heap else replaced heap (tail - base) (little_bytes 8 address)
 
@@ -27,7 +27,7 @@ abbrev pub LastIsNamed : Type 0
 LastIsNamed = (s : StoreState) (list : EntryList) (address : ℕ) (heap : List ℕ) → IsStoreState s
     → named_by (last_place (places_of (items s list))) address heap ≡ named_at s.base (last_address s.base (items s list)) address heap
 
--- it lies before the end HOB
+-- it is before the end HOB
 abbrev pub LastIsInside : Type 0
 LastIsInside = (s : StoreState) (list : EntryList) → IsStoreState s → last_address s.base (items s list) ≢ 0
     → (s.base + 64 ≤ last_address s.base (items s list)) × (last_address s.base (items s list) + 32 ≤ s.base + end_place s)

@@ -9,16 +9,16 @@ use Rattle.store_model.specs.{declared.state.HobEntry.HobEntry, StateFacts.IsSto
 use Rattle.store_model.specs.StoreState.{StoreState, end_place, handoff_len, header_len, hob_len}
 use Rattle.store_model.specs.HeapImage.{body_bytes, handoff_body, heap_image}
 
--- the HOBs by their places, types and lengths, where the first stands at `at`
+-- the HOBs by their places, types and lengths, if the first is at `at`
 abbrev pub places_from : ℕ → List HobEntry → List HobPlace
 places_from at [] = []
 places_from at (hob ∷ hobs) = record { at = at; kind = hob.kind; length = hob_len hob } ∷ places_from (at + hob_len hob) hobs
 
--- those of a state: the hand-off HOB, and the others behind it
+-- those of a state: the hand-off HOB, and the others after it
 abbrev pub hob_places : StoreState → List HobPlace
 hob_places s = record { at = 0; kind = HANDOFF; length = handoff_len } ∷ places_from handoff_len s.hobs
 
--- at each place stands the HOB's body
+-- at each place there is the HOB's body
 abbrev pub HaveBodies : StoreState → List ℕ → ℕ → List HobEntry → Type 0
 HaveBodies s heap at [] = ⊤
 HaveBodies s heap at (hob ∷ hobs) =

@@ -6,7 +6,7 @@ use Rattle.store_model.specs.{declared.store_handle.HobSpan.HobSpan, StoreState.
 use Rattle.store_model.specs.{StoreCall.IsHobPlace, HeapImage.heap_image, Service.Reading.hob_at}
 use Rattle.store_laws.specs.Word.{short_in}
 
--- the HOB at a place, by its type and length; none at the end HOB
+-- the HOB at a place, by its type and length; nothing at the end HOB
 abbrev pub span_told : List ℕ → ℕ → Option HobSpan
 span_told heap place =
     if short_in heap place == END then None
@@ -15,6 +15,6 @@ span_told heap place =
 abbrev pub HobsAreTold : Type 0
 HobsAreTold = (s : StoreState) (place : ℕ) → IsStoreState s → IsHobPlace place s → hob_at s place ≡ span_told (heap_image s) place
 
--- its header lies in the heap
+-- its header is in the heap
 abbrev pub HobPlacesAreInside : Type 0
 HobPlacesAreInside = (s : StoreState) (place : ℕ) → IsStoreState s → IsHobPlace place s → place + header_len ≤ s.len

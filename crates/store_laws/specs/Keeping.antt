@@ -18,7 +18,7 @@ use Rattle.store_model.specs.Service.Queue as Q
 use Rattle.store_model.specs.Service.Hob as H
 use Rattle.store_model.specs.Service.Memory as M
 
--- the state after a call, where the call is not refused
+-- the state after a call, if the call is not refused
 abbrev pub Keeps : {A : Type 0} → Service A → Type 0
 Keeps (Ok (answer, t)) = IsStoreState t
 Keeps (Err fault) = ⊤
@@ -42,7 +42,7 @@ pub record IsScripted (hob : HobValue) : Type 0 where
   pub script : IsScriptHob hob
   pub len : header_len + length (joined (fields_of hob)) ≡ length_of hob
 
--- for each service, with the needs of its call; that arguments fit their width is a need here, where they are any numbers and lists
+-- for each service, with the needs of its call; here arguments are any numbers and lists, so that they fit their width is one of the needs
 pub record KeepFacts : Type 0 where
   pub first : (board : Board) → IsBoard board → IsStoreState (empty_store board)
   pub pool : (s : StoreState) (size : ℕ) → IsStoreState s → Keeps (P.pool s size)

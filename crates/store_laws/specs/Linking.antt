@@ -27,12 +27,12 @@ abbrev pub named_by : Option ℕ → ℕ → List ℕ → List ℕ
 named_by None address heap = heap
 named_by (Some last) address heap = replaced heap last (little_bytes 8 address)
 
--- the heap with the node of an item, which stands behind the others of a list
+-- the heap with the node of an item, which is after the others of a list
 abbrev pub with_last : StoreState → EntryList → Item → List ℕ → List ℕ
 with_last s list item heap =
     named_by (last_place (places_of (items s list))) (s.base + item.node) (replaced heap item.node (links_bytes (Some (links_before item 0))))
 
--- an entry more, behind the others of its list, over the heap with a node more
+-- an entry more, after the others of its list, over the heap with a node more
 abbrev pub PpisAreLinked : Type 0
 PpisAreLinked = (s : StoreState) (by : ℕ) (d : Desc) → IsStoreState s → HasNodeRoom s
     → heap_image (with_ppi by s d) ≡ with_last s Ppis (item_of s.base (note_entry s d by)) (heap_image (with_node s))

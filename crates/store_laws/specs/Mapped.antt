@@ -1,12 +1,11 @@
--- The regions of memory whose heap has these bytes: temporary RAM with the page region behind the heap, or RAM with zeros round it.
--- Own.
+-- The regions of memory whose heap has these bytes: temporary RAM with the page region after the heap, or RAM with zeros round it. Own.
 use Rattle.std.specs.Prelude.{◌≡◌, ℕ, ◌+◌, ◌-◌, ◌≤◌, Bool, true, false, List, ◌∷◌, ◌++◌, length, map, replicate, take, drop, Some}
 use Rattle.phys_mem.specs.{Region.Region, declared.memory.PhysMem.PhysMem}
 use Rattle.phys_mem.specs.Regions.{rom_region, regions, bytes_at}
 use Rattle.store_model.specs.StoreState.{Board, StoreState, empty_store}
 use Rattle.store_model.specs.HeapImage.{heap_image}
 
--- where the heap lies on a board
+-- the place of the heap on a board
 pub record Layout : Type 0 where
   pub board : Board
   pub moved : Bool
@@ -30,7 +29,7 @@ regions_by l true heap =
 abbrev pub regions_with : Layout → List ℕ → List Region
 regions_with l heap = regions_by l l.moved heap
 
--- the heap lies where it may
+-- the heap is where it may be
 abbrev pub IsPlacedBy : Layout → Bool → Type 0
 IsPlacedBy l false = (l.base ≡ l.board.temp.base) × (l.len ≤ l.board.temp.len)
 IsPlacedBy l true = (l.board.ram.base ≤ l.base) × (l.base + l.len ≤ l.board.ram.base + l.board.ram.len)

@@ -57,7 +57,7 @@ PagesAreMoved = (s : StoreState) (to : Range) (done : Done) (hobs : List HobEntr
     → spelled (half s to (with_pages_done done p)) at hobs
     ≡ replaced (spelled (half s to done) at hobs) (p - at) (allocation_bytes (to.base + to.len) a)
 
--- where all is done, these are the bytes of the state after the move
+-- if all is moved, these are the bytes of the state after the move
 abbrev pub HeapsAreMoved : Type 0
 HeapsAreMoved = (s : StoreState) (to : Range) (hobs : List HobEntry) (at : ℕ)
     → Each (λ hob. (place : ℕ) → body_len (moved_body s to place hob.body) ≡ body_len hob.body) hobs

@@ -1,4 +1,4 @@
--- What memory reads where its heap is the image of a state.
+-- What memory reads if its heap is the image of a state.
 -- Own.
 use Rattle.std.specs.Prelude.{◌≡◌, ℕ}
 use Rattle.phys_mem.specs.{Regions.regions, declared.memory.PhysMem.PhysMem}

@@ -6,7 +6,7 @@ use Rattle.pi_base.specs.Lists.{Each}
 use Rattle.store_model.specs.{declared.state.Body.Body, declared.state.HobEntry.HobEntry, HeapImage.header_bytes}
 use Rattle.store_model.specs.StoreState.{header_len, hob_len, body_len, body_from, with_body}
 
--- the HOBs, of which the first stands at `at`
+-- the HOBs, of which the first is at `at`
 abbrev pub spelled : (ℕ → Body → List ℕ) → ℕ → List HobEntry → List ℕ
 spelled spell at [] = []
 spelled spell at (hob ∷ hobs) = header_bytes hob.kind (hob_len hob) ++ spell (at + header_len) hob.body

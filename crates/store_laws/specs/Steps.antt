@@ -1,5 +1,4 @@
--- The steps that services are made of: each makes one HOB, where there is room for it, and what holds of every state still holds.
--- Own.
+-- The steps that services are made of: each makes one HOB, if there is room for it, and what holds of every state still holds. Own.
 use Rattle.std.specs.Prelude.{◌≡◌, ◌≢◌, ℕ, ◌+◌, ◌≤◌}
 use Rattle.store_model.specs.{declared.store_handle.Desc.Desc, declared.store_handle.DescKind.DescKind}
 use Rattle.store_model.specs.declared.store_handle.DescKind.TheVariants.{Ppi, Dispatch}
@@ -9,7 +8,7 @@ use Rattle.store_model.specs.StateFacts.{IsStoreState, IsHobEntry, IsDescOf, IsD
 use Rattle.store_model.specs.Service.Install.{node_need, renamed, with_node, with_pending, with_ppi}
 use Rattle.store_laws.specs.{Bodies.IsGrown, Keeping.IsWord}
 
--- a state with so many bytes free, and one behind it with so many bytes less
+-- a state with so many bytes free, and one after it with so many bytes less
 pub record HasRoom (s : StoreState) (need : ℕ) : Type 0 where
   pub state : IsStoreState s
   pub room : need ≤ free s

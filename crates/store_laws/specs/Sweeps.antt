@@ -1,4 +1,4 @@
--- How a sweep goes on: from pair to pair of one PPI, and from that PPI to the next.
+-- How a sweep continues: from pair to pair of one PPI, and from that PPI to the next.
 -- Own.
 use Rattle.std.specs.Prelude.{◌≡◌, ℕ, ◌+◌, ◌<◌, ◌≤◌, List, ◌∷◌, ◌++◌, None}
 use Rattle.std.specs.Option.{option_or}

@@ -1,5 +1,4 @@
--- What the bytes of a heap tell of its lists: a function of the bytes, the heap's base, the volumes and the first node's address.
--- Own.
+-- What the bytes of a heap say about its lists: a function of the bytes, the heap's base, the volumes and the first node's address. Own.
 use Rattle.std.specs.Prelude.{ℕ, ◌+◌, ◌-◌, List, map, length}
 use Rattle.pi_base.specs.declared.guid.Guid.{Guid}
 use Rattle.phys_mem.specs.declared.rom.Rom.{Rom}

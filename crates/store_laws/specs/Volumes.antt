@@ -1,4 +1,4 @@
--- The bases of the volumes that HOBs tell of, by a walk over the headers.
+-- The bases of the volumes that HOBs report, by a walk over the headers.
 -- Own.
 use Rattle.std.specs.Prelude.{◌≡◌, ℕ, zero, suc, ◌+◌, ◌<◌, ◌==◌, if◌then◌else◌, List, [], ◌∷◌, length}
 use Rattle.hob_codec.specs.declared.kind.TheConstants.{END, VOLUME}

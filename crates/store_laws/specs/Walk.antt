@@ -1,5 +1,4 @@
--- The addresses of linked nodes in bytes: each node's first eight bytes are the address of the next, and 0 is none.
--- Own.
+-- The addresses of linked nodes in bytes: each node's first eight bytes are the address of the next, and 0 ends the list. Own.
 use Rattle.std.specs.Prelude.{◌≡◌, ℕ, zero, suc, ◌+◌, ◌-◌, ◌≤◌, ◌==◌, if◌then◌else◌, List, [], ◌∷◌, map, length}
 use Rattle.store_model.specs.{StoreState.StoreState, StateFacts.IsStoreState, HeapImage.heap_image}
 use Rattle.store_model.specs.declared.store_handle.EntryList.{EntryList}

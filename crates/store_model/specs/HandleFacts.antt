@@ -1,10 +1,10 @@
--- What the handles keep: interfaces stand in order of handle, a handle has a protocol once, and each handle was made. So the first interface of a protocol is on the lowest handle that has it.
--- Own; PI 1.8, volume 2, "Protocol Handler Services", has one interface of a protocol on a handle.
+-- What the handles keep: interfaces are in order of handle, a handle has a protocol once, and each handle was made. So the first interface of a protocol is on
+-- the lowest handle that has it. Own; PI 1.8, volume 2, "Protocol Handler Services", has one interface of a protocol on a handle.
 use Rattle.std.specs.Prelude.{◌≡◌, ◌≤◌, ℕ, true, false, Option, Some, Ok, Err, ⊤}
 use Rattle.pi_base.specs.{declared.guid.Guid.Guid, Guids.same_guid, Lists.Each, Lists.Ordered}
 use Rattle.store_model.specs.HandleState.{Interface, HandleState, HandleService, no_handles, is_on, install_interface, reinstall_interface, uninstall_interface, locate_handle}
 
--- one interface stands before another or on the same handle
+-- one interface is before another or on the same handle
 abbrev pub IsNotBehind : Interface → Interface → Type 0
 IsNotBehind a b = a.handle ≤ b.handle
 
@@ -27,7 +27,7 @@ abbrev pub Keeps : {A : Type 0} → HandleService A → Type 0
 Keeps (Ok (answer, new)) = IsHandleState new
 Keeps (Err status) = ⊤
 
--- at the beginning, and behind each service
+-- at the beginning, and after each service
 pub record KeepHandleFacts : Type 0 where
   pub first : IsHandleState no_handles
   pub install : (h : HandleState) (handle : Option ℕ) (guid : Guid) (value : ℕ) → IsHandleState h → Keeps (install_interface h handle guid value)

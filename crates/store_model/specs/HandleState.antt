@@ -36,7 +36,7 @@ is_on_with handle guid value i = is_on handle guid i && i.value == value
 abbrev pub has_protocol : HandleState → Guid → Bool
 has_protocol h guid = list_any (λ i. same_guid i.guid guid) h.interfaces
 
--- an interface behind the others of its handle
+-- an interface after the others of its handle
 abbrev pub placed : Interface → List Interface → List Interface
 placed new [] = new ∷ []
 placed new (i ∷ is) = if nat_lt new.handle i.handle then new ∷ i ∷ is else i ∷ placed new is
@@ -52,7 +52,7 @@ install_on h handle guid value =
     if not (is_live h handle) || list_any (is_on handle guid) h.interfaces then Err InvalidParameter
     else Ok (handle, record h { interfaces = placed (record { handle = handle; guid = guid; value = value }) h.interfaces })
 
--- `InstallProtocolInterface()`: on a new handle where none is given, else on that one
+-- `InstallProtocolInterface()`: on a new handle if none is given, else on that one
 abbrev pub install_interface : HandleState → Option ℕ → Guid → ℕ → HandleService ℕ
 install_interface h None guid value = install_new h guid value
 install_interface h (Some handle) guid value = install_on h handle guid value

@@ -24,12 +24,12 @@ kind_flags Ppi = 0x80000010
 kind_flags Callback = 0x80000020
 kind_flags Dispatch = 0x80000040
 
--- where the GUID of the descriptor at a place stands
+-- the address of the GUID of the descriptor at a place
 abbrev pub guid_address : ℕ → ℕ → Option ℕ → ℕ
 guid_address base place None = base + place + 24
 guid_address base place (Some address) = address
 
--- the sixteen bytes of the GUID behind the descriptor, where it stands in no volume
+-- the sixteen bytes of the GUID after the descriptor, if the GUID is in no volume
 abbrev pub guid_behind : DescriptorBody → Option ℕ → List ℕ
 guid_behind d None = d.guid.0
 guid_behind d (Some address) = []
@@ -50,7 +50,7 @@ abbrev pub first_pending : ℕ → List Pending → ℕ
 first_pending base [] = 0
 first_pending base (pending ∷ pendings) = base + pending.node
 
--- the fields of the node at a place, where an entry of these has it
+-- the fields of the node at a place, if one of these entries has it
 abbrev pub links_in : ℕ → ℕ → List Entry → Option Links
 links_in base place [] = None
 links_in base place (entry ∷ entries) =
@@ -58,7 +58,7 @@ links_in base place (entry ∷ entries) =
     then Some (record { next = first_node base entries; descriptor = base + entry.descriptor; second = 0; number = entry.by })
     else links_in base place entries
 
--- and where a queued pair of these has it: its second descriptor is the PPI's
+-- the fields of the node at a place, if one of these queued pairs has it; its second descriptor is the PPI's
 abbrev pub pending_links_in : ℕ → ℕ → List Pending → Option Links
 pending_links_in base place [] = None
 pending_links_in base place (pending ∷ pendings) =
@@ -71,13 +71,13 @@ pending_links_in base place (pending ∷ pendings) =
     })
     else pending_links_in base place pendings
 
--- of the node at a place, whichever of the four lists has it; none where none has
+-- the fields of the node at a place, from whichever of the four lists has it; nothing if no list has
 abbrev pub links_at : StoreState → ℕ → Option Links
 links_at s place =
     option_or (links_in s.base place s.ppis)
     (option_or (links_in s.base place s.callbacks) (option_or (links_in s.base place s.dispatches) (pending_links_in s.base place s.pendings)))
 
--- the four fields, or zeros where no list has the node
+-- the four fields, or zeros if no list has the node
 abbrev pub links_bytes : Option Links → List ℕ
 links_bytes None = replicate node_len 0
 links_bytes (Some links) =
@@ -102,13 +102,13 @@ body_bytes s place (Allocation a) = allocation_bytes s.page_end a
 abbrev pub header_bytes : ℕ → ℕ → List ℕ
 header_bytes kind len = joined (header_fields kind len)
 
--- the HOBs, of which the first stands at `at`
+-- the HOBs, of which the first is at `at`
 abbrev pub hobs_bytes : StoreState → ℕ → List HobEntry → List ℕ
 hobs_bytes s at [] = []
 hobs_bytes s at (hob ∷ hobs) =
     header_bytes hob.kind (hob_len hob) ++ body_bytes s (at + header_len) hob.body ++ hobs_bytes s (at + hob_len hob) hobs
 
--- what the first HOB says: the heap, less the pages that it has lost, and the places of the end HOB and behind it
+-- what the first HOB says: the heap, less the pages that it has lost, and the places of the end HOB and after it
 abbrev pub handoff_of : StoreState → Handoff
 handoff_of s = record {
   boot_mode = s.boot_mode;
@@ -123,7 +123,7 @@ handoff_of s = record {
 abbrev pub handoff_body : StoreState → List ℕ
 handoff_body s = joined (fields_of (HandoffHob (handoff_of s)))
 
--- the HOB list, behind which the heap is zero
+-- the HOB list, after which the heap is zero
 abbrev pub hob_list : StoreState → List ℕ
 hob_list s = header_bytes HANDOFF handoff_len ++ handoff_body s ++ hobs_bytes s handoff_len s.hobs ++ header_bytes END header_len
 

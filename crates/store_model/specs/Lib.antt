@@ -1,5 +1,5 @@
--- What a store of the boot core is, in the order in which to read it: the state, the services over it, its bytes, the move, and the handles of DXE. PI 1.8, volume 1, PEI services; volume 3, HOBs.
--- HOBs, PPIs, notifications and queued pairs, and where the heap and its pages lie.
+-- What a store of the boot core is, in the order in which to read it: the state, the services over it, its bytes, the move, and the handles of DXE. PI 1.8,
+-- volume 1, PEI services; volume 3, HOBs. HOBs, PPIs, notifications and queued pairs, and where the heap and its pages are.
 pub mod StoreState
 -- What holds of every state: what is named is there, all has room, numbers fit.
 pub mod StateFacts

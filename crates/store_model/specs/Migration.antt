@@ -6,14 +6,14 @@ use Rattle.store_model.specs.{declared.store_handle.DescKind.DescKind, HeapImage
 use Rattle.store_model.specs.declared.store_handle.DescKind.TheVariants.{Ppi, Callback, Dispatch}
 use Rattle.store_model.specs.StoreState.{Range, DescriptorBody, Body, Bytes, Descriptor, Node, Allocation, HobEntry, StoreState, hob_len, header_len, handoff_len}
 
--- a number that lies in the old heap moves with the heap, and one that lies in the page region with the pages; every other is itself
+-- a number in the old heap moves with the heap, and one in the page region with the pages; every other number stays
 abbrev pub moved_number : StoreState → Range → ℕ → ℕ
 moved_number s to number =
     if nat_le s.base number && nat_lt number (s.base + s.len) then number - s.base + to.base
     else if nat_le (s.page_end - s.board.pages) number && nat_lt number s.page_end then to.base + to.len - (s.page_end - number)
     else number
 
--- a PPI's value is such a number, and a notification's entry is none
+-- a PPI's value is such a number; a notification's entry is not
 abbrev pub moved_value : StoreState → Range → DescKind → ℕ → ℕ
 moved_value s to Ppi number = moved_number s to number
 moved_value s to Callback number = number
@@ -31,7 +31,7 @@ moved_body s to place (Bytes bytes) = Bytes bytes
 moved_body s to place Node = Node
 moved_body s to place (Allocation a) = Allocation a
 
--- the HOBs, of which the first stands at `at`: each keeps its type and its length
+-- the HOBs, of which the first is at `at`: each keeps its type and its length
 abbrev pub moved_hobs : StoreState → Range → ℕ → List HobEntry → List HobEntry
 moved_hobs s to at [] = []
 moved_hobs s to at (hob ∷ hobs) =
@@ -42,6 +42,6 @@ abbrev pub migrated_to : StoreState → Range → StoreState
 migrated_to s to =
     record s { base = to.base; len = to.len; page_end = to.base + to.len; moved = true; hobs = moved_hobs s to handoff_len s.hobs }
 
--- the state after the move, where one is due
+-- the state after the move, if one is due
 abbrev pub migration : StoreState → Option StoreState
 migration s = if s.moved then None else option_map (migrated_to s) s.planned

@@ -16,11 +16,11 @@ use Rattle.pi_base.specs.declared.word.Word.TheVariants.{InvalidParameter, NotFo
 use Rattle.store_model.specs.{declared.store_handle.StoreFault.StoreFault, StoreState.StoreState, StoreState.free}
 use Rattle.store_model.specs.declared.store_handle.StoreFault.TheVariants as F
 
--- the answer with the state after it, or a fault, behind which the state is the one before
+-- the answer with the state after it, or a fault, after which the state is the one before
 abbrev pub Service : Type 0 → Type 0
 Service A = Result (A × StoreState) StoreFault
 
--- the status that a refusal is to its caller; want of memory is none, since it ends the boot
+-- the status that a refusal gives its caller; running out of memory gives none, since it ends the boot
 abbrev pub fault_status : StoreFault → Option Word
 fault_status F.Full = Some OutOfResources
 fault_status F.Bad = Some InvalidParameter
@@ -28,7 +28,7 @@ fault_status F.Missing = Some NotFound
 fault_status F.NotYet = Some NotAvailableYet
 fault_status F.Memory = None
 
--- a call's answer and the state after it are those of the service; want of memory alone is free, for a store that takes memory
+-- a call's answer and the state after it are those of the service; only a store that allocates may instead run out of memory
 abbrev pub Answers : {A : Type 0} → Bool → Service A → StoreState → Result A StoreFault → StoreState → Type 0
 Answers takes service old (Ok answer) new = service ≡ Ok (answer, new)
 Answers takes service old (Err F.Memory) new = (takes ≡ true) × (new ≡ old)
@@ -37,7 +37,7 @@ Answers takes service old (Err F.Bad) new = (service ≡ Err F.Bad) × (new ≡ 
 Answers takes service old (Err F.Missing) new = (service ≡ Err F.Missing) × (new ≡ old)
 Answers takes service old (Err F.NotYet) new = (service ≡ Err F.NotYet) × (new ≡ old)
 
--- a call whose answer is none or a value with a new state
+-- a call that returns nothing, or a value with a new state
 abbrev pub Takes : {A : Type 0} → Option (A × StoreState) → StoreState → Option A → StoreState → Type 0
 Takes service old (Some answer) new = service ≡ Some (answer, new)
 Takes service old None new = (service ≡ None) × (new ≡ old)
@@ -47,11 +47,11 @@ abbrev pub Stores : Option StoreState → StoreState → Bool → StoreState →
 Stores service old true new = service ≡ Some new
 Stores service old false new = (service ≡ None) × (new ≡ old)
 
--- some state stands and has what a call needs
+-- the store stands for some state that has what a call needs
 abbrev pub Present : (StoreState → Type 0) → (StoreState → Type 0) → Type 0
 Present Stands Needs = (s : StoreState) × Stands s × Needs s
 
--- a state stands and has it
+-- the store stands for a state, and the state has a fact
 abbrev pub And : (StoreState → Type 0) → (StoreState → Type 0) → StoreState → Type 0
 And Stands Needs s = Stands s × Needs s
 
@@ -59,15 +59,15 @@ And Stands Needs s = Stands s × Needs s
 abbrev pub OfEach : (StoreState → Type 0) → (StoreState → Type 0) → (StoreState → Type 0) → Type 0
 OfEach Stands Needs R = (s : StoreState) → Stands s → Needs s → R s
 
--- for each state that stood before there is one that stands now, and the two are as R says
+-- for each state that the store stood for there is one that it stands for now, and R holds of the two
 abbrev pub AfterEach : (StoreState → Type 0) → (StoreState → Type 0) → (StoreState → StoreState → Type 0) → Type 0
 AfterEach Before Now R = (old : StoreState) → Before old → (new : StoreState) × R old new × Now new
 
--- a call that may refuse: for each state that stood before, its answer and the state that stands now are those of the service
+-- a call that may refuse: for each state that the store stood for, its answer and the state afterwards are those of the service
 abbrev pub Performs : {A : Type 0} → Bool → (Before Now : StoreState → Type 0) → (StoreState → Service A) → Result A StoreFault → Type 0
 Performs takes Before Now service result = AfterEach Before Now (λ old new. Answers takes (service old) old result new)
 
--- refused for want of room where the need is more than free
+-- refused as Full if the need is more than what is free
 abbrev pub in_room : {A : Type 0} → StoreState → ℕ → Service A → Service A
 in_room s need service = if nat_lt (free s) need then Err F.Full else service
 

@@ -1,5 +1,5 @@
--- What holds of every state of a store: each entry names a node of its own and a descriptor of its list's kind, all of it has room, and numbers fit their fields.
--- Own; the state that stands for linked nodes in byte memory.
+-- What holds of every state of a store: each entry names a node of its own and a descriptor of its list's kind, everything has room, and numbers fit their
+-- fields. Own; this state describes linked nodes in byte memory.
 use Rattle.std.specs.Prelude.{◌≡◌, ◌≢◌, ◌⊎◌, ℕ, ◌+◌, ◌%◌, ◌^◌, ◌<◌, ◌≤◌, Bool, true, false, List, ◌++◌, length, map, Option, Some, None, AllPairs, IfSome, ⊤}
 use Rattle.hob_codec.specs.declared.kind.TheConstants.{HANDOFF, ALLOCATION, RESOURCE, NAMED, VOLUME, CPU, POOL, VOLUME2, END}
 use Rattle.boot_plan.specs.declared.limits.TheConstants.{MOST_TEMP, MOST_RAM, MOST_END}
@@ -10,11 +10,11 @@ use Rattle.store_model.specs.{declared.store_handle.Desc.Desc, declared.store_ha
 use Rattle.store_model.specs.StoreState.{StoreState, Board, Range, Rom, Entry, Pending, DescriptorBody, AllocationBody, Body, Bytes, Descriptor, Node, Allocation, HobEntry, body_at, body_len, hob_len, most_hob, end_place, header_len, handoff_len, page_bytes}
 use Rattle.store_model.specs.MemoryReading.{rom_bytes}
 
--- a node stands at a place
+-- a node is at a place
 abbrev pub IsNodeAt : StoreState → ℕ → Type 0
 IsNodeAt s place = body_at s place ≡ Some Node
 
--- a descriptor of a kind stands at a place
+-- a descriptor of a kind is at a place
 abbrev pub IsDescriptorAt : StoreState → DescKind → ℕ → Type 0
 IsDescriptorAt s kind place = (d : DescriptorBody) × (body_at s place ≡ Some (Descriptor d)) × (d.kind ≡ kind)
 
@@ -31,7 +31,7 @@ IsPending s pending =
 abbrev pub nodes : StoreState → List ℕ
 nodes s = map (λ entry. entry.node) (s.ppis ++ s.callbacks ++ s.dispatches) ++ map (λ pending. pending.node) s.pendings
 
--- a GUID that stands behind its descriptor has sixteen bytes, and one at an address is the volume's sixteen bytes there
+-- a GUID that is after its descriptor has sixteen bytes, and one at an address is the volume's sixteen bytes there
 abbrev pub IsGuidOf : Board → DescriptorBody → Option ℕ → Type 0
 IsGuidOf board d None = length d.guid.0 ≡ 16
 IsGuidOf board d (Some address) = rom_bytes board.roms address 16 ≡ Some d.guid.0
@@ -42,13 +42,13 @@ IsNumberOf Ppi number = number < 2 ^ 64
 IsNumberOf Callback number = number < NOTE_NUMBERS
 IsNumberOf Dispatch number = number < NOTE_NUMBERS
 
--- what an allocation HOB says of pages: its fields fit, and none of its pages lies lower than all that were taken
+-- what an allocation HOB says of pages: its fields fit, and none of its pages is below all that were taken
 pub record IsAllocation (taken : ℕ) (a : AllocationBody) : Type 0 where
   pub memory_type : a.memory_type < 2 ^ 32
   pub len : a.len < 2 ^ 64
   pub below : a.below ≤ taken
 
--- descriptors and nodes stand in pools, and pages in allocation HOBs
+-- descriptors and nodes are in pools, and pages in allocation HOBs
 abbrev pub IsBodyOf : Board → (taken kind : ℕ) → Body → Type 0
 IsBodyOf board taken kind (Bytes bytes) = kind ≢ ALLOCATION
 IsBodyOf board taken kind (Descriptor d) = (kind ≡ POOL) × IsGuidOf board d d.stands × IsNumberOf d.kind d.number
@@ -63,8 +63,7 @@ pub record HasTypesLength (kind len : ℕ) : Type 0 where
   pub cpu : kind ≡ CPU → len ≡ 8
   pub volume2 : kind ≡ VOLUME2 → len ≡ 48
 
--- a HOB behind the hand-off HOB: its type is not that one's nor the end HOB's, its length is a multiple of 8 that fits,
--- and its body is as long as its type asks
+-- a HOB after the hand-off HOB: its type is not that one's nor the end HOB's, its length is a multiple of 8 that fits, and its body has the length of its type
 pub record IsHobEntry (board : Board) (taken : ℕ) (hob : HobEntry) : Type 0 where
   pub kind : hob.kind < 2 ^ 16
   pub not_handoff : hob.kind ≢ HANDOFF
@@ -87,14 +86,14 @@ AreApart a b = (a.base + a.len ≤ b.base) ⊎ (b.base + b.len ≤ a.base)
 abbrev pub rom_range : Rom → Range
 rom_range rom = record { base = rom.base; len = length rom.bytes }
 
--- a volume ends where a plan lets it, apart from temporary RAM and from RAM
+-- a volume ends where a plan allows, and shares no address with temporary RAM or RAM
 pub record IsMapped (board : Board) (rom : Rom) : Type 0 where
   pub end : rom.base + length rom.bytes ≤ MOST_END
   pub temp : AreApart board.temp (rom_range rom)
   pub ram : AreApart board.ram (rom_range rom)
 
--- temporary RAM and RAM are as long and end as high as a plan lets them, and the page region leaves room for an empty heap;
--- no two of temporary RAM, RAM and the volumes have an address in common, and address 0 is in no heap
+-- temporary RAM and RAM have a length and an end that a plan allows, and the page region leaves room for an empty heap; temporary RAM, RAM and the volumes
+-- share no address, and address 0 is in no heap
 pub record IsBoard (board : Board) : Type 0 where
   pub temp_len : board.temp.len ≤ MOST_TEMP
   pub ram_len : board.ram.len ≤ MOST_RAM
@@ -106,7 +105,7 @@ pub record IsBoard (board : Board) : Type 0 where
   pub roms : Each (IsMapped board) board.roms
   pub roms_apart : Ordered (λ a b. AreApart (rom_range a) (rom_range b)) board.roms
 
--- permanent memory lies in RAM, and temporary RAM fits into it
+-- permanent memory is in RAM, and temporary RAM fits into it
 abbrev pub IsPlanned : Board → Range → Type 0
 IsPlanned board to = (board.ram.base ≤ to.base) × (to.base + to.len ≤ board.ram.base + board.ram.len) × (board.temp.len ≤ to.len)
 
@@ -116,8 +115,7 @@ IsHeap s false =
     (s.base ≡ s.board.temp.base) × (s.len + s.board.pages ≡ s.board.temp.len) × (s.page_end ≡ s.board.temp.base + s.board.temp.len)
 IsHeap s true = (s.planned ≡ Some (record { base = s.base; len = s.len })) × (s.page_end ≡ s.base + s.len)
 
--- all lists name what is there, each node once; the HOBs and pages have room, and every number fits its field,
--- so that the bytes of the heap tell all of it
+-- all lists name what is there, each node once; the HOBs and pages have room, and every number fits its field, so that the bytes of the heap show all of it
 pub record IsStoreState (s : StoreState) : Type 0 where
   pub ppis : Each (IsEntry s Ppi) s.ppis
   pub callbacks : Each (IsEntry s Callback) s.callbacks

@@ -52,7 +52,7 @@ IsScriptHob (OtherHob kind body) = ⊥
 abbrev pub IsHobPlace : ℕ → StoreState → Type 0
 IsHobPlace offset s = (is_some (hob_at s offset) ≡ true) ⊎ (offset ≡ end_place s)
 
--- the node, where one is given, is that of an entry of the list
+-- the node, if one is given, is that of an entry of the list
 abbrev pub IsNodeIn : EntryList → Option ℕ → StoreState → Type 0
 IsNodeIn list None s = ⊤
 IsNodeIn list (Some node) s = list_any (λ told. told.node == node) (told_of s list) ≡ true
@@ -61,7 +61,7 @@ IsNodeIn list (Some node) s = list_any (λ told. told.node == node) (told_of s l
 abbrev pub IsDue : StoreState → Type 0
 IsDue s = memory_due s ≡ true
 
--- a pair is found, and where the sweep then stands; or none is left
+-- a pair is found, and the place of the sweep after it; or none is left
 abbrev pub IsMatch : Option (Firing × Sweep) → Option Firing → Sweep → Type 0
 IsMatch found (Some firing) sweep = found ≡ Some (firing, sweep)
 IsMatch found None sweep = found ≡ None
@@ -70,7 +70,7 @@ IsMatch found None sweep = found ≡ None
 abbrev pub Migrates : StoreState → (ℕ × ℕ) → StoreState → Type 0
 Migrates old answer new = (migration old ≡ Some new) × (answer ≡ (old.base, new.base))
 
--- bytes were read, or none and nothing was written
+-- the bytes were read, or there are none and the buffer is unchanged
 abbrev pub Peeks : Option (List ℕ) → Bool → List ℕ → List ℕ → Type 0
 Peeks bytes true old new = bytes ≡ Some new
 Peeks bytes false old new = (bytes ≡ None) × (new ≡ old)

@@ -1,5 +1,5 @@
--- What a store holds: the HOBs in order, the PPIs, the notifications and the queued pairs, and where its heap and its pages lie.
--- A place is an offset from the heap's base. The board's memory never changes in a boot.
+-- What a store holds: the HOBs in order, the PPIs, the notifications and the queued pairs, and where its heap and its pages are. A place is an offset from the
+-- heap's base. The board's memory never changes in a boot.
 -- PI 1.8, volume 1 (PPIs and notifications) and volume 3 (HOBs); the record of lists is own.
 use Rattle.std.specs.Prelude.{ℕ, ◌+◌, ◌-◌, ◌*◌, ◌/◌, Bool, ◌==◌, if◌then◌else◌, List, [], ◌∷◌, ◌++◌, length, sum_by, Option, Some, None}
 use Rattle.hob_codec.specs.declared.kind.TheConstants.{POOL}
@@ -29,7 +29,7 @@ pub record Board : Type 0 where
   pub ram : Range
   pub roms : List Rom
 
--- the HOBs stand between the hand-off HOB and the end HOB; base and len are the heap's; `taken` bytes of pages lie below `page_end`
+-- the HOBs are between the hand-off HOB and the end HOB; base and len are the heap's; `taken` bytes of pages are below `page_end`
 pub record StoreState : Type 0 where
   pub board : Board
   pub hobs : List HobEntry
@@ -65,7 +65,7 @@ most_hob = 65528
 abbrev pub rounded : ℕ → ℕ
 rounded n = (n + 7) / 8 * 8
 
--- the length of a descriptor's body, by where its GUID stands
+-- the length of a descriptor's body, which depends on where its GUID is
 abbrev pub descriptor_len : Option ℕ → ℕ
 descriptor_len None = 40
 descriptor_len (Some address) = 24
@@ -89,7 +89,7 @@ end_place s = handoff_len + sum_by hob_len s.hobs
 abbrev pub next_body : StoreState → ℕ
 next_body s = end_place s + header_len
 
--- the bytes of pages that the heap has lost: before the move pages lie outside the heap
+-- the bytes of the heap that pages take: none before the move, since pages are then outside the heap
 abbrev pub page_bytes : Bool → ℕ → ℕ
 page_bytes moved taken = if moved then taken else 0
 
@@ -97,7 +97,7 @@ page_bytes moved taken = if moved then taken else 0
 abbrev pub free : StoreState → ℕ
 free s = s.len - header_len - end_place s - page_bytes s.moved s.taken
 
--- the body at a place, where the first of these HOBs stands at `at`
+-- the body at a place, if the first of these HOBs is at `at`
 abbrev pub body_from : ℕ → List HobEntry → ℕ → Option Body
 body_from at [] place = None
 body_from at (hob ∷ hobs) place = if at + header_len == place then Some hob.body else body_from (at + hob_len hob) hobs place
@@ -106,13 +106,13 @@ body_from at (hob ∷ hobs) place = if at + header_len == place then Some hob.bo
 abbrev pub body_at : StoreState → ℕ → Option Body
 body_at s place = body_from handoff_len s.hobs place
 
--- the HOBs with the body at a place changed, where the first of these stands at `at`
+-- the HOBs with the body at a place changed, if the first of these is at `at`
 abbrev pub with_body : (Body → Body) → ℕ → List HobEntry → ℕ → List HobEntry
 with_body change at [] place = []
 with_body change at (hob ∷ hobs) place =
     (if at + header_len == place then record hob { body = change hob.body } else hob) ∷ with_body change (at + hob_len hob) hobs place
 
--- a HOB behind the others
+-- a HOB after the others
 abbrev pub appended : StoreState → HobEntry → StoreState
 appended s hob = record s { hobs = s.hobs ++ hob ∷ [] }
 

@@ -2,7 +2,7 @@
 use crate::store_handle::DescKind;
 use pi_base::{Guid, Seq};
 
-/// The number that stands for the core in the place of a module's.
+/// The number that the core has among module numbers.
 pub const CORE: u32 = u32::MAX;
 
 /// A PPI or a notification: the places of its node and of its descriptor, and the module whose script made it (PI 1.8, volume 1, "PEI Services").
@@ -16,7 +16,7 @@ pub struct Entry {
     pub by: u32,
 }
 
-/// A queued pair: a dispatch notification that has to run for a PPI.
+/// A queued pair: a dispatch notification that is still to run for a PPI.
 #[derive(Clone, Copy)]
 pub struct Pending {
     /// The place of its node.
@@ -34,27 +34,27 @@ pub struct Pending {
 pub struct DescriptorBody {
     pub kind: DescKind,
     pub guid: Guid,
-    /// The address of the GUID in a volume; none where it stands behind the descriptor.
+    /// The physical address of the GUID, if it is in a volume. None if the GUID follows the descriptor.
     pub stands: Option<u64>,
     /// A PPI's value, or a notification's entry: module times 64, and block.
     pub number: u64,
 }
 
-/// What a HOB of allocated pages says.
+/// The contents of a HOB of allocated pages.
 #[derive(Clone, Copy)]
 pub struct AllocationBody {
     /// The type of the memory.
     pub memory_type: u32,
     /// How many bytes were taken.
     pub len: u64,
-    /// How far the first byte lies below the end from which pages are taken.
+    /// How many bytes the first byte is below the end from which pages are taken.
     pub below: u64,
 }
 
-/// What stands behind a HOB's header.
+/// What follows a HOB's header.
 #[derive(Drop)]
 pub enum Body {
-    /// Bytes that nobody shifts.
+    /// Bytes that no module shifts.
     Bytes(Seq<u8>),
     /// A PPI's descriptor or a notification's, in a pool.
     Descriptor(DescriptorBody),

@@ -24,9 +24,10 @@ use depex_code::GuidSet;
 use hob_codec::Hob;
 use pi_base::{Guid, OutOfMemory, Seq};
 
-/// A store, known by the states that it stands for. Each call speaks of every such state: its answer is that of the service over the state before, and the store then stands for the state after. A refusal leaves the state as it was. `by` is the number of the module whose script calls.
+/// A store, known by the states that it stands for. Each call promises, for every such state: it returns what the service returns in that state, and the store
+/// then stands for the state after. A refusal leaves the state unchanged. `by` is the number of the module whose script calls.
 pub trait PeiStore: GuidSet {
-    /// Whether a call may want memory. Where not, the fault `Memory` never comes.
+    /// Whether a call may allocate memory. If not, no call returns `Memory`.
     const TAKES_MEMORY: bool;
 
     ghost TAKES_MEMORY: { Bool };
@@ -39,7 +40,7 @@ pub trait PeiStore: GuidSet {
         requires state { Present (stands_for self.old) Anything }
         ensures row { Performs TAKES_MEMORY (stands_for self.old) (stands_for self.new) (λ s. P.pool s size) result };
 
-    /// Writes bytes into a pool, at an offset of its body. False where they pass the size that was asked for.
+    /// Writes bytes into a pool, at an offset of its body. Returns false, and writes nothing, if they pass the size that was asked for.
     fn store(&mut self, pool: Pool, at: u32, bytes: &[u8]) -> bool
         requires state { Present (stands_for self.old) (HasPool pool) }
         ensures row { AfterEach (And (stands_for self.old) (HasPool pool)) (stands_for self.new)
@@ -71,12 +72,12 @@ pub trait PeiStore: GuidSet {
         ensures row { Performs TAKES_MEMORY (And (stands_for self.old) (AreDescs list.now)) (stands_for self.new)
             (λ s. N.notify s list.now by) result };
 
-    /// The first pair of the sweep that fires now, the sweep then standing behind it. None where none is left.
+    /// The next pair of the sweep that fires now. The sweep then continues after it. None if no pair is left.
     fn next_match(&self, sweep: &mut Sweep) -> Option<Firing>
         requires state { Present (stands_for self.now) (IsAmong sweep.old) }
         ensures row { OfEach (stands_for self.now) (IsAmong sweep.old) (λ s. IsMatch (W.next_match s sweep.old) result sweep.new) };
 
-    /// The first queued pair leaves the queue. None where the queue is empty.
+    /// Removes the first queued pair and returns it. None if the queue is empty.
     fn queue_pop(&mut self) -> Option<Firing>
         requires state { Present (stands_for self.old) Anything }
         ensures row { AfterEach (stands_for self.old) (stands_for self.new) (λ old new. Takes (Q.queue_pop old) old result new) };
@@ -86,17 +87,17 @@ pub trait PeiStore: GuidSet {
         requires state { Present (stands_for self.now) Anything }
         ensures row { OfEach (stands_for self.now) Anything (λ s. result ≡ R.nth_ppi s guid.now n) };
 
-    /// GUID, value and maker of the PPI in a place. None past the last.
+    /// The GUID, the value and the module of the PPI at a place of its list, from 0. None past the last.
     fn ppi_at(&self, place: u32) -> Option<(Guid, u64, u32)>
         requires state { Present (stands_for self.now) Anything }
         ensures row { OfEach (stands_for self.now) Anything (λ s. result ≡ R.ppi_at s place) };
 
-    /// GUID and entry of the notification in a place of its kind's list. None past the last.
+    /// The GUID and the entry of the notification at a place of its kind's list, from 0. None past the last.
     fn note_at(&self, kind: DescKind, place: u32) -> Option<(Guid, u32)>
         requires state { Present (stands_for self.now) Anything }
         ensures row { OfEach (stands_for self.now) Anything (λ s. result ≡ R.note_at s kind place) };
 
-    /// The PPI's GUID and the notification's entry of the queued pair in a place. None past the last.
+    /// The PPI's GUID and the notification's entry of the queued pair at a place, from 0. None past the last.
     fn pending_at(&self, place: u32) -> Option<(Guid, u32)>
         requires state { Present (stands_for self.now) Anything }
         ensures row { OfEach (stands_for self.now) Anything (λ s. result ≡ R.pending_at s place) };
@@ -106,7 +107,7 @@ pub trait PeiStore: GuidSet {
         requires state { Present (stands_for self.now) (λ s. IsDesc s d) }
         ensures row { OfEach (stands_for self.now) (λ s. IsDesc s d) (λ s. result ≡ R.descriptor s d) };
 
-    /// The entry of a list behind the one with this node, and the first where none is given. None behind the last.
+    /// The entry of a list after the one with this node, or the first entry if no node is given. None after the last.
     fn entry_behind(&self, list: EntryList, node: Option<u64>) -> Option<EntryTold>
         requires state { Present (stands_for self.now) (IsNodeIn list node) }
         ensures row { OfEach (stands_for self.now) (IsNodeIn list node) (λ s. result ≡ R.entry_behind s list node) };
@@ -117,7 +118,7 @@ pub trait PeiStore: GuidSet {
         requires hob { IsScriptHob (hob_value hob.now) }
         ensures row { Performs TAKES_MEMORY (stands_for self.old) (stands_for self.new) (λ s. H.create_hob s (hob_value hob.now)) result };
 
-    /// Says where permanent memory is (PI 1.8, volume 1, `InstallPeiMemory()`).
+    /// Reports where permanent memory is (PI 1.8, volume 1, `InstallPeiMemory()`). The store moves there later, by `migrate`.
     fn set_memory(&mut self, begin: u64, len: u64) -> Result<(), StoreFault>
         requires state { Present (stands_for self.old) Anything }
         ensures row { Performs TAKES_MEMORY (stands_for self.old) (stands_for self.new) (λ s. M.set_memory s begin len) result };
@@ -163,28 +164,28 @@ pub trait PeiStore: GuidSet {
         requires state { Present (stands_for self.now) Anything }
         ensures row { OfEach (stands_for self.now) Anything (λ s. result ≡ s.base) };
 
-    /// Reads bytes at an address. False where they do not lie in one mapped region.
+    /// Reads bytes at a physical address. Returns false, and reads nothing, if no single mapped region has all of them.
     fn peek(&self, at: u64, into: &mut [u8]) -> bool
         requires state { Present (stands_for self.now) Anything }
         ensures row { OfEach (stands_for self.now) Anything (λ s. Peeks (At.bytes_at s at (length into.old)) result into.old into.new) };
 
-    /// The HOB at an offset of the heap. None at the end HOB.
+    /// The HOB at an offset from the heap's base. None at the end HOB.
     fn hob_at(&self, offset: u64) -> Option<HobSpan>
         requires state { Present (stands_for self.now) (IsHobPlace offset) }
         ensures row { OfEach (stands_for self.now) (IsHobPlace offset) (λ s. result ≡ R.hob_at s offset) };
 
-    /// The bases of the volumes that FV HOBs tell of, in order.
+    /// The bases of the volumes that FV HOBs report, in order.
     fn fv_bases(&self) -> Result<Seq<u64>, OutOfMemory>
         requires state { Present (stands_for self.now) Anything }
         ensures row { OfEach (stands_for self.now) Anything (λ s. IfOk result (λ bases. bases ≡ R.fv_bases s)) };
 
-    // A store that stands for a state is in order.
+    // A store that stands for a state is well formed.
     ghost ordered: { (store : Self) (s : StoreState) → stands_for store s → Self.GuidSet.in_order store };
 
     // Its GUIDs are those of the installed PPIs.
     ghost knows: { (store : Self) (s : StoreState) → stands_for store s → (guid : Guid)
         → Self.GuidSet.has_guid store guid ≡ I.has_ppi s guid };
 
-    // What holds of every state holds of those that it stands for.
+    // The states that it stands for have all facts that hold of every state.
     ghost facts: { (store : Self) (s : StoreState) → stands_for store s → IsStoreState s };
 }

@@ -37,7 +37,7 @@ const CALLBACK_FLAGS: u64 = 0x8000_0020;
 const DISPATCH_FLAGS: u64 = 0x8000_0040;
 
 impl DescKind {
-    /// The flags of a descriptor of the kind that is the last of its list.
+    /// The flags of a descriptor of this kind that is the last of its list.
     pub fn flags(self) -> u64
         ensures { result ≡ kind_flags self }
     {
@@ -49,23 +49,23 @@ impl DescKind {
     }
 }
 
-/// The GUID of a descriptor that is made.
+/// Where the GUID of a new descriptor comes from.
 #[derive(Clone, Copy)]
 pub enum GuidFrom {
-    /// It stands behind the descriptor.
+    /// It is after the descriptor.
     Inline(Guid),
-    /// It stands at this address, in a volume.
+    /// It is at this address, in a volume.
     At(u64),
 }
 
-/// What a call that installs, reinstalls or notifies has still to visit: pairs of a PPI and a callback, in order of PPI and then of registration.
+/// The callbacks that a call still has to visit: pairs of a PPI and a callback, in order of PPI and then of registration.
 #[derive(Clone, Copy)]
 pub struct Sweep {
-    /// The place behind the last PPI.
+    /// The place after the last PPI.
     pub ppi_to: u32,
     /// The first callback's place.
     pub note_from: u32,
-    /// The place behind the last callback.
+    /// The place after the last callback.
     pub note_to: u32,
     /// The PPI's place of the next pair.
     pub ppi_at: u32,
@@ -73,7 +73,7 @@ pub struct Sweep {
     pub note_at: u32,
 }
 
-/// What a notification is told: its entry, and the PPI for which it runs with its GUID and value.
+/// What a notification receives: its entry, and the PPI for which it runs, with GUID and value.
 #[derive(Clone, Copy, PartialEq, Eq)]
 pub struct Firing {
     pub entry: u32,
@@ -95,7 +95,7 @@ pub enum EntryList {
     Pendings,
 }
 
-/// What a store tells of an entry.
+/// What a store says about an entry.
 #[derive(Clone, Copy, PartialEq, Eq)]
 pub struct EntryTold {
     /// The offset of its node.
@@ -108,7 +108,7 @@ pub struct EntryTold {
     pub by: u32,
 }
 
-/// A HOB's type and length, and the offset of the one behind it.
+/// A HOB's type and length, and the offset of the next one.
 #[derive(Clone, Copy)]
 pub struct HobSpan {
     pub kind: u16,
@@ -117,7 +117,7 @@ pub struct HobSpan {
     pub next: u64,
 }
 
-/// Why a store refused. The state is then as it was.
+/// Why a store refused a call. The state is then unchanged.
 #[derive(Clone, Copy, Debug, PartialEq, Eq)]
 pub enum StoreFault {
     /// What the call needs is more than is free.
@@ -133,7 +133,7 @@ pub enum StoreFault {
 }
 
 impl StoreFault {
-    /// The status that the refused call answers (PI 1.8, volume 1, the status codes of "PEI Services"). None for want of memory, which ends the boot.
+    /// The status that the refused call returns (PI 1.8, volume 1, the status codes of "PEI Services"). None if memory ran out, which ends the boot.
     pub fn status(self) -> Option<Word>
         ensures { result ≡ fault_status self }
     {

@@ -6,11 +6,11 @@ use Rattle.pi_base.specs.declared.span.Span.{Span}
 use Rattle.store_model.specs.{declared.state.HobEntry.HobEntry, StoreState.Range, StoreState.StoreState, Migration.moved_body}
 use Rattle.store_plain.specs.{declared.store.PlainStore.PlainStore, PlainState.state_of}
 
--- the heap and the page region fit into it, and it ends where a plan lets it
+-- the heap and the page region fit into it, and it ends where a plan allows
 abbrev pub FitsInto : PlainStore → Span → Type 0
 FitsInto p to = (p.len + p.region ≤ to.len) × (to.base + to.len ≤ MOST_END)
 
--- a HOB after the move, whose body stands at a place
+-- a HOB after the move, whose body is at a place
 abbrev pub moved_hob : StoreState → Range → ℕ → HobEntry → HobEntry
 moved_hob s to place hob = record hob { body = moved_body s to place hob.body }
 

@@ -9,7 +9,7 @@ use Rattle.store_model.specs.HeapImage.{Links}
 abbrev pub byte_of : List ℕ → ℕ → ℕ
 byte_of bytes place = unwrap_or (slice_get bytes place) 0
 
--- the bytes of a HOB of pages behind its header, from a base
+-- the bytes of a HOB of pages after its header, from a base
 abbrev pub pages_bytes : ℕ → AllocationBody → List ℕ
 pages_bytes base a = joined (fields_of (AllocationHob (replicate 16 0) base a.len a.memory_type))
 
@@ -17,7 +17,7 @@ pages_bytes base a = joined (fields_of (AllocationHob (replicate 16 0) base a.le
 abbrev pub link_words : Links → List ℕ
 link_words links = links.next ∷ links.descriptor ∷ links.second ∷ links.number ∷ []
 
--- what is named lies in a heap at a base, whose addresses fit
+-- what is named is in a heap at a base, whose addresses fit
 abbrev pub IsNear : ℕ → Entry → Type 0
 IsNear base entry = (base + entry.node < 2 ^ 64) × (base + entry.descriptor < 2 ^ 64)
 

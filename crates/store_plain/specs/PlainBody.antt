@@ -1,5 +1,4 @@
--- What a body of a plain store stands for: its bytes, wherever they lie, or a descriptor, a node or pages.
--- Own.
+-- What a body of a plain store stands for: its bytes, or a descriptor, a node or pages. Own.
 use Rattle.std.specs.Prelude.{ℕ, ⊤}
 use Rattle.store_model.specs.{HeapImage.descriptor_bytes, declared.state.Body.Body}
 use Rattle.store_model.specs.declared.state.Body.TheVariants as S

@@ -1,4 +1,4 @@
-// The entries of a list, told one behind the other by their nodes.
+// The entries of a list, read one after the other by their nodes.
 ghost use Rattle.std.specs.Prelude.{◌≡◌, drop, map, slice_get};
 ghost use Rattle.pi_base.specs.Lists.{Each};
 ghost use Rattle.store_model.specs.{StateFacts.IsStoreState, StateFacts.IsDesc, StoreState.StoreState};
@@ -9,7 +9,7 @@ use crate::store::PlainStore;
 use pi_base::Guid;
 use store_model::{Desc, Entry, EntryList, EntryTold, Pending};
 
-// Where the entry stands that is behind the one with this node: first, where none is given.
+// The place after the entry with this node, or 0 if no node is given.
 fn place_behind(entries: &[Entry], node: Option<u64>) -> usize
     ensures { (s : StoreState) → drop result (map (entry_told s) entries.now) ≡ told_behind node (map (entry_told s) entries.now) }
 {
@@ -24,7 +24,7 @@ fn place_behind(entries: &[Entry], node: Option<u64>) -> usize
     entries.len()
 }
 
-// The same for a queued pair.
+// The place after the queued pair with this node, or 0 if no node is given.
 fn pair_behind(pendings: &[Pending], node: Option<u64>) -> usize
     ensures { (s : StoreState) → drop result (map (pending_told s) pendings.now) ≡ told_behind node (map (pending_told s) pendings.now) }
 {
@@ -50,7 +50,7 @@ impl PlainStore {
         (self.guid_at(d.offset), self.number_at(d.offset))
     }
 
-    // What is told of the entry in a place of these.
+    // What can be read of the entry at a place.
     fn tell_entry(&self, entries: &[Entry], place: usize) -> Option<EntryTold>
         requires { Each (IsNamed (state_of self.now)) entries.now }
         ensures { result ≡ slice_get (map (entry_told (state_of self.now)) entries.now) place }
@@ -64,7 +64,7 @@ impl PlainStore {
         })
     }
 
-    // What is told of the queued pair in a place.
+    // What can be read of the queued pair at a place.
     fn tell_pair(&self, pendings: &[Pending], place: usize) -> Option<EntryTold>
         requires { Each (IsPpiNamed (state_of self.now)) pendings.now }
         ensures { result ≡ slice_get (map (pending_told (state_of self.now)) pendings.now) place }
@@ -78,7 +78,7 @@ impl PlainStore {
         })
     }
 
-    // What is told of the entry behind a node.
+    // What can be read of the entry after a node.
     fn tell_entry_behind(&self, entries: &[Entry], node: Option<u64>) -> Option<EntryTold>
         requires { Each (IsNamed (state_of self.now)) entries.now }
         ensures { result ≡ slice_get (told_behind node (map (entry_told (state_of self.now)) entries.now)) 0 }
@@ -86,7 +86,7 @@ impl PlainStore {
         self.tell_entry(entries, place_behind(entries, node))
     }
 
-    // What is told of the queued pair behind a node.
+    // What can be read of the queued pair after a node.
     fn tell_pair_behind(&self, node: Option<u64>) -> Option<EntryTold>
         requires { Each (IsPpiNamed (state_of self.now)) self.now.pendings.items }
         ensures { result ≡ slice_get (told_behind node (map (pending_told (state_of self.now)) self.now.pendings.items)) 0 }
@@ -95,7 +95,7 @@ impl PlainStore {
         self.tell_pair(pendings, pair_behind(pendings, node))
     }
 
-    // What is told of the entry of a list behind a node.
+    // What can be read of the entry of a list after a node.
     pub(crate) fn tell_behind(&self, list: EntryList, node: Option<u64>) -> Option<EntryTold>
         requires { IsStoreState (state_of self.now) }
         ensures { result ≡ entry_behind (state_of self.now) list node }

@@ -15,7 +15,7 @@ use phys_mem::Rom;
 use pi_base::{GUID_LEN, Guid};
 use store_model::{Desc, DescKind, DescriptorBody, GuidFrom, StoreFault};
 
-// The bytes of a descriptor's GUID, or none.
+// The bytes of a descriptor's GUID, or no bytes.
 fn guid_bytes(found: &Option<DescriptorBody>) -> &[u8]
     ensures { result.now ≡ (unwrap_or (option_map (λ d. d.guid) found.now) no_guid).0 }
 {
@@ -25,7 +25,7 @@ fn guid_bytes(found: &Option<DescriptorBody>) -> &[u8]
     }
 }
 
-// The bytes at an address, if they all lie here.
+// The bytes at an address, if all of them are in this stretch.
 fn part_of(base: u64, bytes: &[u8], at: u64, n: usize) -> Option<&[u8]>
     ensures part { option_map (λ part. part.now) result ≡ part_of base bytes.now at n }
     ensures len { IfSome result (λ part. length part.now ≡ n) }
@@ -38,7 +38,7 @@ fn part_of(base: u64, bytes: &[u8], at: u64, n: usize) -> Option<&[u8]>
     Some(&bytes[start..start + n])
 }
 
-// The `n` bytes at an address, if all of them lie in one volume.
+// The `n` bytes at an address, if one volume has all of them.
 pub(crate) fn rom_bytes(roms: &[Rom], at: u64, n: usize) -> Option<&[u8]>
     ensures bytes { option_map (λ bytes. bytes.now) result ≡ rom_bytes roms.now at n }
     ensures len { IfSome result (λ bytes. length bytes.now ≡ n) }
@@ -54,7 +54,7 @@ pub(crate) fn rom_bytes(roms: &[Rom], at: u64, n: usize) -> Option<&[u8]>
 impl PlainStore {
     ghost use Rattle.store_plain.specs.PlainState.{state_of};
 
-    // The GUID, and its address where it stands in a volume.
+    // The GUID, and its address if it is in a volume.
     fn guid_from(&self, guid: GuidFrom) -> Option<(Guid, Option<u64>)>
         ensures found { result ≡ guid_from (state_of self.now) guid }
         ensures whole { IsWholeGuid guid }
@@ -96,7 +96,7 @@ impl PlainStore {
         Ok(Desc { offset })
     }
 
-    // The number of the HOB whose body stands at a place.
+    // The number of the HOB whose body is at a place.
     #[tactic(auto, using(crate::proofs::Rest::part_of_rest))]
     pub(crate) fn index_of(&self, place: u64) -> Option<usize>
         ensures inside { IfSome result (λ i. i < length self.now.hobs.items) }
@@ -139,7 +139,7 @@ impl PlainStore {
         }
     }
 
-    // Its kind; that of a dispatch notification where there is none.
+    // Its kind, or that of a dispatch notification if there is no descriptor.
     pub(crate) fn kind_at(&self, place: u64) -> DescKind
         ensures { result ≡ kind_at (state_of self.now) place }
     {
@@ -149,7 +149,7 @@ impl PlainStore {
         }
     }
 
-    // Its number, or 0 where there is none.
+    // Its number, or 0 if there is no descriptor.
     pub(crate) fn number_at(&self, place: u64) -> u64
         ensures { result ≡ number_at (state_of self.now) place }
     {

@@ -33,7 +33,7 @@ fn header(kind: u16, len: u16) -> [u8; 8]
     bytes
 }
 
-// A byte of a HOB of pages, behind its header.
+// A byte of a HOB of pages, after its header.
 fn allocation_byte(base: u64, allocation: &AllocationBody, place: usize) -> u8
     ensures { result ≡ byte_of (pages_bytes base allocation.now) place }
 {
@@ -58,7 +58,7 @@ fn node_array(words: &[u64; 4]) -> [u8; 32]
     bytes
 }
 
-// The numbers of the node at a place, where one of these entries has it.
+// The numbers of the node at a place, if one of these entries has it.
 fn links_in(base: u64, place: u64, entries: &[Entry]) -> Option<[u64; 4]>
     requires { Each (IsNear base) entries.now }
     ensures { result ≡ option_map link_words (links_in base place entries.now) }
@@ -77,7 +77,7 @@ fn links_in(base: u64, place: u64, entries: &[Entry]) -> Option<[u64; 4]>
     None
 }
 
-// The numbers of the node at a place, where one of these queued pairs has it.
+// The numbers of the node at a place, if one of these queued pairs has it.
 fn pending_links_in(base: u64, place: u64, pendings: &[Pending]) -> Option<[u64; 4]>
     requires { Each (IsPendingNear base) pendings.now }
     ensures { result ≡ option_map link_words (pending_links_in base place pendings.now) }
@@ -104,7 +104,7 @@ fn pending_links_in(base: u64, place: u64, pendings: &[Pending]) -> Option<[u64;
 impl PlainStore {
     ghost use Rattle.store_plain.specs.PlainState.{state_of};
 
-    // The numbers of the node at a place, where one of the lists has it.
+    // The numbers of the node at a place, if one of the lists has it.
     fn links_at(&self, place: u64) -> Option<[u64; 4]>
         requires { IsStoreState (state_of self.now) }
         ensures { result ≡ option_map link_words (links_at (state_of self.now) place) }
@@ -158,7 +158,7 @@ impl PlainStore {
         }
     }
 
-    // A byte of a HOB whose body stands at a place.
+    // A byte of a HOB whose body is at a place.
     fn hob_byte(&self, place: u64, hob: &PlainHob, at: usize) -> u8
         requires facts { IsStoreState (state_of self.now) }
         requires place { place ≤ self.now.end }
@@ -172,7 +172,7 @@ impl PlainStore {
         }
     }
 
-    // A byte of the HOBs behind the hand-off HOB, and of the end HOB.
+    // A byte of the HOBs after the hand-off HOB, and of the end HOB.
     fn hobs_byte(&self, place: u64) -> u8
         requires facts { IsStoreState (state_of self.now) }
         requires place { handoff_len ≤ place }

@@ -62,7 +62,7 @@ fn body_of(alloc: Global, hob: &Hob<'_>) -> Result<Vec<u8>, OutOfMemory>
 impl PlainStore {
     ghost use Rattle.store_plain.specs.PlainState.{state_of};
 
-    // Makes a HOB behind the others, and answers its address.
+    // Makes a HOB after the others, and answers its address.
     pub(crate) fn make_hob(&mut self, hob: &Hob<'_>) -> Result<u64, StoreFault>
         requires { IsScriptHob (hob_value hob.now) }
         ensures answer { Answers true (create_hob (state_of self.old) (hob_value hob.now)) (state_of self.old) result (state_of self.new) }

@@ -1,4 +1,4 @@
-// PPIs are installed, and one is put in the place of another.
+// Installing PPIs, and replacing one by another.
 ghost use Rattle.std.specs.Prelude.{◌≡◌, ◌≤◌, ◌<◌, ◌+◌, ℕ, true, false, length, IfOk, OnOk, OnErr, IfSome, IfNone};
 ghost use Rattle.std.specs.List.{list_all};
 ghost use Rattle.store_model.specs.{StoreState.free, Service.Answers, Service.Descriptor.is_ppi, Service.Descriptor.kind_at};
@@ -48,7 +48,7 @@ impl PlainStore {
         self.pairs_of(ppis.as_slice(), notes.as_slice())
     }
 
-    // Adds PPIs and the pairs, for which there is room. Where memory is wanting nothing changes.
+    // Adds PPIs and the pairs, for which there is room. If memory runs out, nothing changes.
     fn put_ppis(
         &mut self,
         list: &[Desc],
@@ -114,7 +114,7 @@ impl PlainStore {
         self.ppis[place].descriptor = new.offset;
     }
 
-    // Puts a PPI in the place of another, and adds the pairs, for which there is room. Where memory is wanting nothing changes.
+    // Puts a PPI in the place of another, and adds the pairs, for which there is room. If memory runs out, nothing changes.
     fn put_again(
         &mut self,
         place: usize,

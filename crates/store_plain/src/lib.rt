@@ -1,6 +1,6 @@
 //! The store of PEI services over plain lists: the slow, plain program beside the definitions.
 //!
-//! Tried in `heap_trials`: `store`, `readings`, `refusals`.
+//! Tested in `heap_trials`: `store`, `readings`, `refusals`.
 #![tactic(auto)]
 
 mod behind;

@@ -26,7 +26,7 @@ impl PlainStore {
             && self.planned.is_none()
     }
 
-    // Says where permanent memory is.
+    // Reports where permanent memory is.
     pub(crate) fn plan_memory(&mut self, begin: u64, len: u64) -> Result<(), StoreFault>
         ensures { Answers true (set_memory (state_of self.old) begin len) (state_of self.old) result (state_of self.new) }
     {

@@ -49,7 +49,7 @@ impl PlainStore {
             || self.is_pending(place)
     }
 
-    // Where a number lies after the move.
+    // A number after the move.
     fn moved_number(&self, to: Span, number: u64) -> u64
         requires { FitsInto self.now to }
         ensures { result ≡ moved_number (state_of self.now) (range_of to) number }
@@ -75,7 +75,7 @@ impl PlainStore {
         }
     }
 
-    // The HOB with a number, whose body stands at a place, moves.
+    // The HOB with a number, whose body is at a place, moves.
     fn move_hob(&mut self, index: usize, place: u64, to: Span)
         requires index { index < length self.old.hobs.items }
         requires place { place ≤ self.old.end }

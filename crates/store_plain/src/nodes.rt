@@ -16,7 +16,7 @@ const NODE_NEED: u64 = NODE_LEN + HEADER_LEN;
 // The most places that a sweep can name.
 const MOST_PLACES: usize = u32::MAX as usize;
 
-// A sweep from the first of its pairs on. None where a place is past what it can name.
+// A sweep from the first of its pairs on. None if a place is past what a sweep can name.
 pub(crate) fn sweep_from(
     ppi_at: usize,
     ppi_to: usize,

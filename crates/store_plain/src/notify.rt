@@ -90,7 +90,7 @@ impl PlainStore {
         }
     }
 
-    // Adds notifications and the pairs, for which there is room. Where memory is wanting nothing changes.
+    // Adds notifications and the pairs, for which there is room. If memory runs out, nothing changes.
     fn put_notes(
         &mut self,
         list: &[Desc],

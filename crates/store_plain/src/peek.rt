@@ -8,7 +8,7 @@ use crate::descriptor::rom_bytes;
 use crate::store::PlainStore;
 use pi_base::Span;
 
-// Whether `n` addresses from `at` on all lie in a span.
+// Whether a span has all `n` addresses from `at` on.
 fn is_inside(span: Span, at: u64, n: usize) -> bool
     ensures { result ≡ is_inside span.base span.len at n }
 {
@@ -18,7 +18,7 @@ fn is_inside(span: Span, at: u64, n: usize) -> bool
 impl PlainStore {
     ghost use Rattle.store_plain.specs.PlainState.{state_of};
 
-    // Whether so many bytes lie in temporary RAM that is mapped, or in RAM.
+    // Whether mapped temporary RAM or RAM has so many bytes at an address.
     fn is_in_ram(&self, at: u64, n: usize) -> bool
         ensures is { result ≡ ((not self.now.moved && is_inside self.now.temp.base self.now.temp.len at n)
             || is_inside self.now.ram.base self.now.ram.len at n) }
@@ -38,7 +38,7 @@ impl PlainStore {
         }
     }
 
-    // Reads bytes at an address. False where they do not lie in one mapped region.
+    // Reads bytes at an address. Returns false if no single mapped region has all of them.
     pub(crate) fn read_bytes(&self, at: u64, into: &mut [u8]) -> bool
         requires { IsStoreState (state_of self.now) }
         ensures { Peeks (bytes_at (state_of self.now) at (length into.old)) result into.old into.new }

@@ -9,22 +9,22 @@ use crate::word_bytes::{descriptor_words, long_bytes, short_bytes};
 use std::marker::Model;
 use store_model::{AllocationBody, DescriptorBody, NODE_LEN};
 
-/// A body. The bytes of a node that left its list, and of a descriptor that was forgotten, lie in arrays, since the calls that leave them there take no memory.
+/// A body. The bytes of a node that left its list, and of a descriptor that was dropped, are in arrays, since the calls that leave them allocate nothing.
 #[derive(Drop)]
 pub(crate) enum PlainBody {
     Bytes(Vec<u8>),
     /// Of a node.
     NodeBytes([u8; 32]),
-    /// Of a descriptor whose GUID stands in a volume.
+    /// Of a descriptor whose GUID is in a volume.
     ShortBytes([u8; 24]),
-    /// Of a descriptor whose GUID stands behind it.
+    /// Of a descriptor whose GUID is after it.
     LongBytes([u8; 40]),
     Descriptor(DescriptorBody),
     Node,
     Allocation(AllocationBody),
 }
 
-/// What a HOB has behind its header.
+/// What a HOB has after its header.
 pub(crate) enum Role<'a> {
     Bytes(&'a [u8]),
     Descriptor(DescriptorBody),
@@ -74,7 +74,7 @@ impl PlainHob {
         HEADER_LEN as u16 + body_len(&self.body)
     }
 
-    // What it has behind its header.
+    // What it has after its header.
     pub(crate) fn role(&self) -> Role<'_>
         ensures { role_body result ≡ self.now.body }
     {
@@ -89,7 +89,7 @@ impl PlainHob {
         }
     }
 
-    // The descriptor that stands here.
+    // The descriptor that is here.
     pub(crate) fn descriptor(&self) -> Option<DescriptorBody>
         ensures { result ≡ descriptor_of self.now.body }
     {

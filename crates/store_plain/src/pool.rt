@@ -40,7 +40,7 @@ impl PlainStore {
         Ok(Pool { offset, size })
     }
 
-    // Writes bytes into a pool. False where they pass the size that was asked for.
+    // Writes bytes into a pool. Returns false if they pass the size that was asked for.
     pub(crate) fn write_pool(&mut self, pool: Pool, at: u32, bytes: &[u8]) -> bool
         requires { IsPool (state_of self.old) pool }
         ensures { Stores (store (state_of self.old) pool at bytes.now) (state_of self.old) result (state_of self.new) }

@@ -1,4 +1,4 @@
-// What a store tells of its lists and of its HOBs.
+// What can be read of a store's lists and of its HOBs.
 ghost use Rattle.std.specs.Prelude.{◌≡◌, true, IfOk, slice_get, slice_index, length, ◌<◌, ◌+◌, is_some};
 ghost use Rattle.pi_base.specs.Field.{little_number};
 ghost use Rattle.store_model.specs.{HeapImage.body_bytes, StateFacts.IsStoreState};
@@ -121,7 +121,7 @@ impl PlainStore {
         }
     }
 
-    // What a notification is told.
+    // What a notification receives.
     pub(crate) fn firing(&self, ppi: u64, note: u64) -> Firing
         requires named { is_some (descriptor_at (state_of self.now) ppi) ≡ true }
         requires entry { number_at (state_of self.now) note < NOTE_NUMBERS }
@@ -167,7 +167,7 @@ impl PlainStore {
         None
     }
 
-    // The base of the volume that a HOB tells of.
+    // The base of the volume that a HOB reports.
     fn volume_base(&self, hob: &PlainHob) -> u64
         requires { IsBytes hob.now.body }
         ensures { result ≡ little_number 8 (body_bytes (state_of self.now) 0 hob.now.body) }
@@ -180,7 +180,7 @@ impl PlainStore {
         }
     }
 
-    // The bases of the volumes that HOBs tell of.
+    // The bases of the volumes that HOBs report.
     pub(crate) fn volume_bases(&self) -> Result<Seq<u64>, OutOfMemory>
         requires { IsStoreState (state_of self.now) }
         ensures { IfOk result (λ bases. bases ≡ fv_bases (state_of self.now)) }
@@ -202,7 +202,7 @@ fn byte_or_zero(bytes: &[u8], place: usize) -> u8
     if place < bytes.len() { bytes[place] } else { 0 }
 }
 
-// The number in the first eight bytes, and zeros behind them.
+// The number in the first eight bytes, and zeros after them.
 fn first_number(bytes: &[u8]) -> u64
     ensures { result ≡ little_number 8 bytes.now }
 {

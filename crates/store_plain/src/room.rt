@@ -1,4 +1,4 @@
-// What is left of the heap, and HOBs put behind the others.
+// The room that is left in the heap, and HOBs added after the others.
 ghost use Rattle.std.specs.Prelude.{◌≡◌, ◌+◌, ◌≤◌, ◌<◌, ◌^◌, OnOk, OnErr};
 ghost use Rattle.store_model.specs.StoreState.{free, page_bytes, hob_len, appended};
 
@@ -23,7 +23,7 @@ impl PlainStore {
         }
     }
 
-    // Puts a HOB behind the others. Where memory is wanting nothing changes.
+    // Puts a HOB after the others. If memory runs out, nothing changes.
     pub(crate) fn put_behind(&mut self, hob: PlainHob) -> Result<(), OutOfMemory>
         requires { hob_len hob ≤ free (state_of self.old) }
         ensures ok { OnOk result (state_of self.new ≡ appended (state_of self.old) hob) }

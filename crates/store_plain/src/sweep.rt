@@ -46,7 +46,7 @@ impl PlainStore {
         None
     }
 
-    // The first pair that fires now, the sweep then standing behind it.
+    // The first pair that fires now, the sweep then standing after it.
     #[tactic(auto, using(store_laws::proofs::Named::ppi_is_named))]
     pub(crate) fn next_firing(&self, sweep: &mut Sweep) -> Option<Firing>
         requires facts { IsStoreState (state_of self.now) }

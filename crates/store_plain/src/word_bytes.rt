@@ -16,7 +16,7 @@ pub(crate) fn put_words(out: &mut [u8], words: &[u64])
     }
 }
 
-// Where the GUID of the descriptor at a place stands.
+// The address of the GUID of the descriptor at a place.
 fn guid_address(base: u64, place: u64, stands: Option<u64>) -> u64
     requires { base + place + 24 < 2 ^ 64 }
     ensures { result ≡ guid_address base place stands }
@@ -39,7 +39,7 @@ pub(crate) fn descriptor_words(base: u64, place: u64, d: &DescriptorBody) -> [u6
     ]
 }
 
-// The bytes of a descriptor whose GUID stands in a volume.
+// The bytes of a descriptor whose GUID is in a volume.
 pub(crate) fn short_bytes(words: &[u64; 3]) -> [u8; 24]
     ensures { result ≡ words_bytes words.now }
 {
@@ -48,7 +48,7 @@ pub(crate) fn short_bytes(words: &[u64; 3]) -> [u8; 24]
     bytes
 }
 
-// The bytes of a descriptor whose GUID stands behind it.
+// The bytes of a descriptor whose GUID is after it.
 pub(crate) fn long_bytes(words: &[u64; 3], guid: &[u8; 16]) -> [u8; 40]
     ensures { result ≡ words_bytes words.now ++ guid.now }
 {

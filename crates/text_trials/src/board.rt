@@ -6,7 +6,7 @@ use std::alloc::Global;
 /// Texts of the tests are shorter.
 pub(crate) const MOST_TEXT: usize = 10_000;
 
-/// The parts, one behind another. Where memory runs out bytes are missing, and the test fails for it; so it is with the next two.
+/// The parts, one after another. If memory runs out bytes are missing, and the test fails for it; so it is with the next two.
 pub(crate) fn joined(alloc: Global, parts: &[&[u8]]) -> Vec<u8> {
     let mut bytes = Vec::new(alloc);
     for part in parts {
@@ -15,7 +15,7 @@ pub(crate) fn joined(alloc: Global, parts: &[&[u8]]) -> Vec<u8> {
     bytes
 }
 
-/// A front, a part so many times, and what stands behind.
+/// A front, a part so many times, and what is after.
 pub(crate) fn repeated(
     alloc: Global,
     front: &[u8],
@@ -38,7 +38,7 @@ pub(crate) fn list_of<T: Copy>(alloc: Global, items: &[T]) -> Seq<T> {
     list
 }
 
-/// Whether these are the bytes, where there are any.
+/// Whether these are the bytes, if there are any.
 pub(crate) fn are(found: Option<Seq<u8>>, bytes: &[u8]) -> bool {
     match found {
         Some(found) => found.as_slice() == bytes,
@@ -46,7 +46,7 @@ pub(crate) fn are(found: Option<Seq<u8>>, bytes: &[u8]) -> bool {
     }
 }
 
-/// An empty sink with room for 4,096 bytes, none where memory runs out.
+/// An empty sink with room for 4,096 bytes, none if memory runs out.
 pub(crate) fn empty_sink(alloc: Global) -> Option<MemSink> {
     MemSink::new(alloc, 4096, Seq::new(alloc)).ok()
 }

@@ -75,7 +75,7 @@ static READINGS: [(&[u8], (u8, u32), (u8, u32)); 27] = [
     // TRUE FALSE END leaves two values.
     (&[6, 7, 8], (MALFORMED, 2), (MALFORMED, 2)),
     (&[6, 8], (TREE, 1), (TREE, 1)),
-    // Bytes behind END are ignored.
+    // Bytes after END are ignored.
     (&[6, 8, 0xee, 8], (TREE, 1), (TREE, 1)),
     // The end of the bytes.
     (&[6], (MALFORMED, 1), (MALFORMED, 1)),
@@ -101,7 +101,7 @@ static READINGS: [(&[u8], (u8, u32), (u8, u32)); 27] = [
         (MALFORMED, 1),
         (MALFORMED, 1),
     ),
-    // BEFORE and AFTER whole; with another opcode, nothing and an unknown byte behind; cut short.
+    // BEFORE and AFTER whole; with another opcode, nothing and an unknown byte after; cut short.
     (
         &[0, 7, 7, 7, 7, 7, 7, 7, 7, 7, 7, 7, 7, 7, 7, 7, 7, 8],
         (BEFORE_READ, 7),
@@ -132,7 +132,7 @@ static READINGS: [(&[u8], (u8, u32), (u8, u32)); 27] = [
     (&[9, 8], (MALFORMED, 1), (MALFORMED, 0)),
     (&[9, 9, 6, 8], (MALFORMED, 1), (MALFORMED, 0)),
     (&[6, 9, 8], (MALFORMED, 1), (MALFORMED, 1)),
-    // AFTER behind a tree.
+    // AFTER after a tree.
     (
         &[6, 1, 7, 7, 7, 7, 7, 7, 7, 7, 7, 7, 7, 7, 7, 7, 7, 7, 8],
         (MALFORMED, 1),
@@ -148,7 +148,7 @@ fn an_expression_is_read_or_refused_at_its_opcode(rt: HostRuntime) {
     }
 }
 
-// What is read where so many NOTs stand between TRUE and END.
+// What is read where so many NOTs are between TRUE and END.
 fn told_of_nots(alloc: Global, count: usize) -> (u8, u32) {
     told(read_depex(alloc, &repeated(alloc, &[6], &[5], count, &[8]), Phase::Pei))
 }
@@ -163,7 +163,7 @@ const ZERO: Opcode = Opcode::Push(Guid([0; 16]));
 
 const ONE: Opcode = Opcode::Push(Guid([1; 16]));
 
-/// Postfix opcodes, and whether they hold with no GUID, with the first, and with both; none where they are of no tree.
+/// Postfix opcodes, and whether they hold with no GUID, with the first, and with both; none if they are of no tree.
 static TRUTHS: [(&[Opcode], Option<[bool; 3]>); 13] = [
     (&[Opcode::True], Some([true, true, true])),
     (&[Opcode::False], Some([false, false, false])),
@@ -199,7 +199,7 @@ static TRUTHS: [(&[Opcode], Option<[bool; 3]>); 13] = [
     (&[Opcode::Not, Opcode::True], None),
 ];
 
-// Where the tree of this code holds: with no GUID, with the first, and with both; none where there is no tree.
+// Where the tree of this code holds: with no GUID, with the first, and with both; none if there is no tree.
 fn truths_of(rt: &impl Abort, alloc: Global, code: &[Opcode]) -> Option<[bool; 3]> {
     match Tree::from_code(list_of(alloc, code)) {
         Some(tree) => {

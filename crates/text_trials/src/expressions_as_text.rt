@@ -69,7 +69,7 @@ static NO_EXPRESSIONS: [(&[u8], u32); 12] = [
     (b"before 03020100-0504-0706-0809-0A0B0C0D0E0F\n", 1),
 ];
 
-// Why a text is no expression's, none where it is.
+// Why a text is no expression's, none if it is.
 fn fault_of(alloc: Global, text: &[u8]) -> Option<TextFault> {
     parse_depex(alloc, text).err()
 }
@@ -81,7 +81,7 @@ fn what_is_no_expression_is_bad_at_its_line(rt: HostRuntime) {
     }
 }
 
-// The fault of TRUE behind so many NOTs.
+// The fault of TRUE after so many NOTs.
 fn fault_of_nots(alloc: Global, count: usize) -> Option<TextFault> {
     fault_of(alloc, &repeated(alloc, b"", b"not ", count, b"true\n"))
 }

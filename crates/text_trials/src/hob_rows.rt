@@ -5,7 +5,7 @@ use hob_codec::{Handoff, Hob, encode_into, hob_len};
 use pi_base::Guid;
 use std::alloc::Global;
 
-/// A HOB behind the hand-off: what a map is made of, with its type, base and length, and what is passed over.
+/// A HOB after the hand-off: what a map is made of, with its type, base and length, and what is passed over.
 #[derive(Clone, Copy)]
 pub(crate) enum Row {
     Cpu(u8),
@@ -43,7 +43,7 @@ fn hob_of(row: &Row) -> Hob<'static> {
     }
 }
 
-// Adds a HOB's bytes. Where memory runs out they are missing, and the test fails for it.
+// Adds a HOB's bytes. If memory runs out they are missing, and the test fails for it.
 fn put_hob(alloc: Global, bytes: &mut Vec<u8>, hob: &Hob<'_>) {
     let Some(len) = hob_len(hob) else {
         return;

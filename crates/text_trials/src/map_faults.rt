@@ -11,7 +11,7 @@ static FRONT: [u8; 120] = *b"\x01\0\x38\0\0\0\0\0\x09\0\0\0\0\0\0\0\0\0\0\0\0\0\
     \x03\0\x30\0\0\0\0\0\0\0\0\0\0\0\0\0\0\0\0\0\0\0\0\0\0\0\0\0\0\0\0\0\
     \0\0\0\0\0\0\0\0\0\0\0\0\0\0\0\0";
 
-/// What stands behind so many bytes of that front, and the fault.
+/// What is after so many bytes of that front, and the fault.
 static LIST_FAULTS: [(usize, &[u8], GcdCause, u32); 9] = [
     (0, b"", GcdCause::NoEnd, 0),
     (0, b"\xff\xff\x08\0\0\0\0\0", GcdCause::Form, 0),
@@ -29,7 +29,7 @@ static LIST_FAULTS: [(usize, &[u8], GcdCause, u32); 9] = [
     (120, b"\xff\xff\x08\0\0\0\0\0", GcdCause::Range, 72),
 ];
 
-// The fault of so many bytes of the front, and a rest; none where they have a map.
+// The fault of so many bytes of the front, and a rest; none if they have a map.
 fn fault_behind(alloc: Global, front: usize, rest: &[u8]) -> Option<(GcdCause, u32)> {
     let hobs = joined(alloc, &[FRONT.get(..front)?, rest]);
     if hobs.len() > MOST_BYTES {

@@ -10,7 +10,7 @@ use gcd_map::{
 use std::alloc::Global;
 use std::test::*;
 
-/// HOBs behind a hand-off and before an end, the text of commands, and what is printed.
+/// HOBs after a hand-off and before an end, the text of commands, and what is printed.
 struct Case {
     hobs: &'static [Row],
     commands: &'static [u8],
@@ -18,7 +18,7 @@ struct Case {
 }
 
 static CASES: [Case; 30] = [
-    // The greatest base, an allocation across what is allocated, and an end behind the space.
+    // The greatest base, an allocation across what is allocated, and an end after the space.
     Case {
         hobs: &[Cpu(32), Resource(0, 0x40000000, 0x10000)],
         commands: b"top system 12 0x1000\nallocate system 0x4000f800 0x1000\n\
@@ -209,7 +209,7 @@ static CASES: [Case; 30] = [
         commands: b"",
         text: b"refused hobs NoCpu 0\n",
     },
-    // The first CPU HOB's bits, behind a resource without addresses.
+    // The first CPU HOB's bits, after a resource without addresses.
     Case {
         hobs: &[Cpu(11), Cpu(12)],
         commands: b"",
@@ -220,7 +220,7 @@ static CASES: [Case; 30] = [
         commands: b"",
         text: b"refused hobs Bits 104\n",
     },
-    // A resource without addresses, with its end behind the space, and with its end behind all numbers.
+    // A resource without addresses, with its end after the space, and with its end after all numbers.
     Case {
         hobs: &[Cpu(52), Resource(1, 0x1000, 0)],
         commands: b"",
@@ -274,7 +274,7 @@ static CASES: [Case; 30] = [
         commands: b"",
         text: b"refused hobs Range 168\n",
     },
-    // An allocation without addresses, behind the space, of what is not system memory, partly of it, and twice.
+    // An allocation without addresses, after the space, of what is not system memory, partly of it, and twice.
     Case {
         hobs: &[Cpu(12), Allocation(0, 0)],
         commands: b"",

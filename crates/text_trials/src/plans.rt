@@ -9,7 +9,7 @@ use std::test::*;
 // The usual plan.
 const USUAL: &[u8] = b"temp 0x80000000 0x10000\nram 0x40000000 0x4000000\nvolume 0xfff00000 a.fv\n";
 
-/// The first bad line of a text with its cause, none where it is a plan.
+/// The first bad line of a text with its cause, none if it is a plan.
 type Fault = Option<(u32, PlanCause)>;
 
 // The fault of a text; where it is too long, one that no test expects.
@@ -23,7 +23,7 @@ fn fault_of(alloc: Global, text: &[u8]) -> Fault {
     }
 }
 
-// Each line behind a text gives this answer.
+// Each line after a text gives this answer.
 fn check(rt: &impl Abort, alloc: Global, front: &[u8], rows: &[(&[u8], Fault)]) {
     for (line, want) in rows {
         assert!(rt; fault_of(alloc, &joined(alloc, &[front, line])) == *want);
@@ -72,7 +72,7 @@ fn a_plan_is_read(rt: HostRuntime) {
     one_reading();
 }
 
-/// Texts, and the first bad line with its cause; none where they are plans.
+/// Texts, and the first bad line with its cause; none if they are plans.
 static PLANS: [(&[u8], Fault); 34] = [
     (USUAL, None),
     (
@@ -153,7 +153,7 @@ static PLANS: [(&[u8], Fault); 34] = [
     (b"ram 0xfffffff000 0x2000", Some((1, Limit))),
 ];
 
-/// The same of lines behind the usual plan.
+/// The same of lines after the usual plan.
 static LINES: [(&[u8], Fault); 44] = [
     (b"fuel 1", None),
     (b"fuel 1000000", None),
@@ -201,7 +201,7 @@ static LINES: [(&[u8], Fault); 44] = [
     (b"volume 0x100004 a", Some((4, Limit))),
 ];
 
-/// Lines behind a plan of sixteen volumes.
+/// Lines after a plan of sixteen volumes.
 static BEHIND_SIXTEEN: [(&[u8], Fault); 4] = [
     (b"", None),
     (b"volume 0x100000 a", Some((19, Limit))),
@@ -209,7 +209,7 @@ static BEHIND_SIXTEEN: [(&[u8], Fault); 4] = [
     (b"volume x a b", Some((19, Word))),
 ];
 
-/// What stands behind a name of 255 letters.
+/// What is after a name of 255 letters.
 static BEHIND_A_NAME: [(&[u8], Fault); 3] = [(b"", None), (b"\n", None), (b"n", Some((4, Word)))];
 
 #[test]

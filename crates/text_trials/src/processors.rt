@@ -131,7 +131,7 @@ fn a_run_prints_what_was_reckoned(rt: HostRuntime) {
     each_call_is_answered();
 }
 
-// The first bad line of a text, 0 where there is none.
+// The first bad line of a text, 0 if there is none.
 fn bad_line(alloc: Global, text: &[u8]) -> u32 {
     if text.len() >= MOST_TEXT {
         return 0;

@@ -13,7 +13,7 @@ fn fault_of(alloc: Global, bytes: &[u8]) -> Option<(ActCause, u32)> {
 
 /// Scripts and what is none, and the first fault: one thing changed in each.
 static FAULTS: [(&[u8], Option<(ActCause, u32)>); 33] = [
-    // What is cut off: in the header, in front of the block, before and in its actions.
+    // What is cut off: in the header, before the block, before and in its actions.
     (&[], Some((ActCause::Magic, 0))),
     (&[0x50, 0x49, 0x41, 0x53], Some((ActCause::Magic, 0))),
     (

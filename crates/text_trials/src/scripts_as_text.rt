@@ -129,7 +129,7 @@ fn disassembled(alloc: Global, bytes: &[u8]) -> Option<Seq<u8>> {
     }
 }
 
-/// What stands in front of the action and behind it: two rets, and another block.
+/// What is before the action and after it: two rets, and another block.
 const PEI_TEXT: &[u8] = b"phase pei\nblock\n";
 
 static DXE_TEXT: &[u8] = b"phase dxe\nblock\n";
@@ -192,7 +192,7 @@ static NO_SCRIPTS: [(&[u8], u32); 20] = [
     ),
 ];
 
-// Why a text is no script's, none where it is.
+// Why a text is no script's, none if it is.
 fn fault_of(alloc: Global, text: &[u8]) -> Option<TextFault> {
     parse_script(alloc, text).err()
 }
@@ -213,7 +213,7 @@ const LAST: &[u8] = b"log 0123456789abcdef0123456789abcdef0123456789abcdef01\nre
 const LAST_LONGER: &[u8] =
     b"log 0123456789abcdef0123456789abcdef0123456789abcdef012\nret Success\n";
 
-/// Lines, a line and how many times it stands behind them, other lines, and why the text is no script's; none where it is.
+/// Lines, a line and how many times it is after them, other lines, and why the text is no script's; none if it is.
 static LIMITS: [(&[u8], &[u8], usize, &[u8], Option<TextFault>); 10] = [
     // 1,024 actions
     (

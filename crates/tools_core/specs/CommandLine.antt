@@ -44,7 +44,7 @@ abbrev pub plan_word : PlanTool → List ℕ
 plan_word Hobs = codes "hobs"
 plan_word Reasons = codes "explain"
 
--- the words ask for the HOB list that the PEI of a plan hands on, or why each module of the plan's boot started, or why it never did
+-- the words ask for the HOB list that the PEI of a plan hands on, or for an explanation of each module of the plan's boot
 abbrev pub AskForPlan : List (List ℕ) → PlanTool → List ℕ → Type 0
 AskForPlan words tool plan = (words ≡ plan_word tool ∷ plan ∷ []) × (plan ≢ [])
 

@@ -1,5 +1,4 @@
--- How a call ends, by its status: with the whole text of an outcome, or by a fault of the files or of the sink, or for want of memory.
--- Own.
+-- How a call ends, by its status: with the whole text of an outcome, or by a fault of the files or of the sink, or because memory ran out. Own.
 use Rattle.std.specs.Prelude.{◌≡◌, ℕ, List, Option, Result, Ok, Err}
 use Rattle.std.specs.Io.KnownBytes.{Appends}
 use Rattle.boot_io.specs.{Faults.Rose, Sink.AppendsPart, declared.sink.SinkFault.SinkFault}
@@ -68,14 +67,14 @@ pub data IsDue (Out : ToolStatus → List ℕ → Type 0) (Named : List ℕ → 
   outcome : Out status text → files.now ≡ files.before → IsDue Out Named status text files
   unread : (name : List ℕ) → FilesFailed Named name files → status ≡ S.FileFault → text ≡ file_line name → IsDue Out Named status text files
 
--- a text with its status, and the whole text was put
+-- a text with its status, and the whole text was written
 pub record Answered (Out : ToolStatus → List ℕ → Type 0) (Named : List ℕ → Type 0) (status : ToolStatus) (t : Trail) : Type 0 where
   pub text : List ℕ
   pub due : IsDue Out Named status text t.files
   pub whole : Appends t.old t.new text
   pub sink : t.now ≡ t.before
 
--- the sink failed, and a part of such a text was put
+-- the sink failed, and a part of such a text was written
 pub record SinkFailed (Out : ToolStatus → List ℕ → Type 0) (Named : List ℕ → Type 0) (t : Trail) : Type 0 where
   pub status : ToolStatus
   pub text : List ℕ
@@ -83,13 +82,13 @@ pub record SinkFailed (Out : ToolStatus → List ℕ → Type 0) (Named : List �
   pub part : AppendsPart t.old t.new text
   pub sink : Rose t.before t.now
 
--- want of memory: nothing was put, and no fault was counted
+-- memory ran out: nothing was written, and no failure was counted
 pub record NoMemory (t : Trail) : Type 0 where
   pub kept : t.new ≡ t.old
   pub sink : t.now ≡ t.before
   pub files : t.files.now ≡ t.files.before
 
--- the kinds of statuses: one of the sink's fault, one of want of memory, and those that go with a text
+-- the kinds of statuses: the sink failed, memory ran out, and those that go with a text
 pub data Kind : Type 0 where
   OfSink : Kind
   OfMemory : Kind
@@ -122,7 +121,7 @@ EndsBy OfText Out Named status t = Answered Out Named status t
 abbrev pub Ends : (ToolStatus → List ℕ → Type 0) → (List ℕ → Type 0) → ToolStatus → Trail → Type 0
 Ends Out Named status t = EndsBy (kind_of status) Out Named status t
 
--- a status, or the sink's fault where its text could not be put
+-- a status, or the sink's failure if its text could not be written
 abbrev pub status_after : Result (Unit {0}) SinkFault → ToolStatus → ToolStatus
 status_after (Ok _) status = status
 status_after (Err _) status = S.SinkFault

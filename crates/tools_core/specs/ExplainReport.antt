@@ -1,5 +1,5 @@
--- What a plan and the images of its volumes lead to where the boot is explained: the refusal of the images' first fault, or the lines of the catalogue and of the run.
--- Own.
+-- The report for a plan and the images of its volumes if the boot is explained: the refusal of the images' first fault, or the lines of the catalogue and of
+-- the run. Own.
 use Rattle.std.specs.Prelude.{◌≡◌, ℕ, List, ◌++◌}
 use Rattle.boot_plan.specs.declared.plan.Plan.{Plan}
 use Rattle.mod_catalog.specs.{declared.catalogue.Catalog.Catalog, declared.image_fault.ImageFault.ImageFault, Catalogue.IsCatalogue}

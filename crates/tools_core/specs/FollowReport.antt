@@ -1,5 +1,5 @@
--- What a plan, the images of its volumes and the text of an order of starts lead to: the refusal of the order's first line of no form, that of the images' first fault, the first volume with two modules of one name, or the boot in that order.
--- Own.
+-- The report for a plan, the images of its volumes and the text of an order of starts: the refusal of the order's first bad line, that of the images' first
+-- fault, the first volume with two modules of one name, or the boot in that order. Own.
 use Rattle.std.specs.Prelude.{◌≡◌, ℕ, List, [], ◌++◌, Option, Some, Ok}
 use Rattle.boot_plan.specs.declared.plan.Plan.{Plan}
 use Rattle.mod_catalog.specs.{declared.catalogue.Catalog.Catalog, declared.image_fault.ImageFault.ImageFault, Catalogue.IsCatalogue}
@@ -17,7 +17,7 @@ use Rattle.tools_core.specs.ReportText.{followed_status}
 abbrev pub order_limit : ℕ
 order_limit = 0x10000
 
--- a boot over the catalogue of the images comes to this in the order, with these lines
+-- a boot over the catalogue of the images ends this way in the order, with these lines
 abbrev pub BootsSo : Plan → List (List ℕ) → Catalog → StartOrder → Followed → List ℕ → Type 0
 BootsSo plan images catalog order followed lines =
     FollowsTo (board_of plan catalog images) catalog plan.fuel order (record { old = Some []; new = Some lines }) (Ok followed)

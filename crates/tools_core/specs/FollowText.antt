@@ -1,5 +1,4 @@
--- What is printed of an order of starts that has a line of no form, and behind the lines of a boot in an order.
--- Own.
+-- What is printed of an order of starts that has a line of no form, and after the lines of a boot in an order. Own.
 use Rattle.std.specs.Prelude.{ℕ, List, [], ◌∷◌, ◌++◌, codes, decimal, flat_map}
 use Rattle.boot_io.specs.Line.{line_of, spaced}
 use Rattle.pi_base.specs.{declared.guid.Guid.Guid, WordText.guid_text}
@@ -27,17 +26,17 @@ not_eligible_text = codes "not eligible"
 abbrev pub order_line : ℕ → List ℕ
 order_line line = line_of refused_order (decimal line ∷ [])
 
--- a GUID behind a space
+-- a GUID after a space
 abbrev pub guid_word : Guid → List ℕ
 guid_word guid = spaced (guid_text guid)
 
--- what stands against a start
+-- why a start is not possible
 abbrev pub against_line : Against → List ℕ
 against_line Unknown = line_of unknown_text []
 against_line Started = line_of started_text []
 against_line (NotEligible guids) = (not_eligible_text ++ flat_map guid_word guids) ++ 10 ∷ []
 
--- what is printed behind the lines of a boot that came to this
+-- what is printed after the lines of a boot that ended this way
 abbrev pub last_text : Followed → List ℕ
 last_text (Ended end) = []
 last_text Stopped = line_of stop_text []

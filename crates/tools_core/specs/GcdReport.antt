@@ -9,7 +9,7 @@ use Rattle.gcd_map.specs.SpaceMap.{IsSpaceMap}
 use Rattle.tools_core.specs.declared.status.ToolStatus.{ToolStatus}
 use Rattle.tools_core.specs.declared.status.ToolStatus.TheVariants.{Done, HobsRefused, CommandRefused}
 
--- the commands of the text, done one after another from the space that the HOB list tells, and the one map of the space that they leave
+-- the commands of the text, run one after another on the memory space of the HOB list, and the one map of the space after them
 pub record MapRun (bytes text : List ℕ) : Type 0 where
   pub first : MemorySpace
   pub tells : IsSpaceOf bytes first

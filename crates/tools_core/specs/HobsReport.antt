@@ -1,5 +1,5 @@
--- The HOB list that PEI hands to DXE in the boot of a plan, byte by byte, or how a boot ends whose PEI hands nothing on.
--- PI 1.8, volume 3, "HOB List"; the lines are own.
+-- The HOB list that PEI hands to DXE in the boot of a plan, byte by byte, or the end of a boot whose PEI does not hand off. PI 1.8, volume 3, "HOB List"; the
+-- lines are own.
 use Rattle.std.specs.Prelude.{◌≡◌, ℕ, List}
 use Rattle.boot_plan.specs.declared.plan.Plan.{Plan}
 use Rattle.mod_catalog.specs.{declared.image_fault.ImageFault.ImageFault, ImageFault.IsImageFault}

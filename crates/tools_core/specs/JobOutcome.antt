@@ -1,5 +1,4 @@
--- What the text of a plan leads to, by the files of its volumes, which are read behind its examination.
--- Own.
+-- What the text of a plan leads to, by the files of its volumes, which are read after its examination. Own.
 use Rattle.std.specs.Prelude.{◌≡◌, ℕ, List, Option}
 use Rattle.boot_plan.specs.{declared.plan.Plan.Plan, declared.fault.PlanFault.PlanFault}
 use Rattle.boot_model.specs.declared.line.Line.{Line}

@@ -12,7 +12,7 @@ use Rattle.tools_core.specs.{PlanReport.PlanNames, PlanReport.PlanOutcome, GcdRe
 use Rattle.tools_core.specs.VolumeReport.{VolumeReport}
 use Rattle.tools_core.specs.TextReport.{AssemblyReport, DepexReport, ExpressionReport, ScriptReport}
 
--- how many bytes a HOB list, a text and bytes that are read may have, and how many a file of commands or an MP file
+-- how many bytes a HOB list, a text and other bytes may have, and how many a file of commands or an MP file
 abbrev pub file_limit : ℕ
 file_limit = 0x100000
 

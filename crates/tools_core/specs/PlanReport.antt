@@ -1,5 +1,4 @@
--- What a plan leads to where nothing else is given: the HOB list that its PEI hands on, or its boot, explained.
--- Own.
+-- The report for a plan alone: the HOB list that its PEI hands on, or its boot, explained. Own.
 use Rattle.std.specs.Prelude.{◌≡◌, ℕ, List, Option}
 use Rattle.boot_plan.specs.declared.plan.Plan.{Plan}
 use Rattle.boot_core.specs.{Job.IsNamedIn, Reading.plan_limit}

@@ -1,4 +1,4 @@
--- The lines of the refusals. A proof sees a text whole only where it asks for it.
+-- The lines of the refusals. A proof sees a text whole only when it asks for it.
 -- Own.
 use Rattle.std.specs.Prelude.{ℕ, List, [], ◌∷◌, codes, decimal}
 use Rattle.boot_io.specs.Line.{line_of}

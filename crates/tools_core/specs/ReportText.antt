@@ -50,7 +50,7 @@ end_status E.NoIpl = S.NoHandoff
 end_status E.Spent = S.Spent
 end_status E.Deep = S.Deep
 
--- the status of a boot in an order of starts that came to this
+-- the status of a boot in an order of starts that ended this way
 abbrev pub followed_status : Followed → ToolStatus
 followed_status (F.Ended end) = end_status end
 followed_status F.Stopped = S.Done

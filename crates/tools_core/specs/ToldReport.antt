@@ -1,5 +1,5 @@
--- The boot of which a trace tells, explained: the boot in the order of the trace's starts.
--- Own; PI 1.8, volumes 1 and 2, leave the order of the modules that may start to the dispatchers.
+-- The boot that a trace records, explained: the boot in the order of the trace's starts.
+-- Own; PI 1.8, volumes 1 and 2, leave the order of the eligible modules to the dispatchers.
 use Rattle.std.specs.Prelude.{◌≡◌, ℕ, true, List}
 use Rattle.boot_plan.specs.declared.plan.Plan.{Plan}
 use Rattle.mod_catalog.specs.declared.catalogue.Catalog.{Catalog}
@@ -14,7 +14,7 @@ use Rattle.tools_core.specs.declared.status.ToolStatus.{ToolStatus}
 use Rattle.tools_core.specs.declared.status.ToolStatus.TheVariants.{Done, No}
 use Rattle.tools_core.specs.{ExplainReport.IsExplanation, Refusals.no_line}
 
--- the choices that the starts of an order have: the module of the next one is named, and each is let
+-- the choices by the starts of an order: the module of the next start is named, and each is allowed
 abbrev pub start_choices : Catalog → StartOrder → Choices
 start_choices catalog order = record {
   peims = (order_choices catalog order).peims;

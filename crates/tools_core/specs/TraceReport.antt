@@ -1,5 +1,5 @@
--- What a plan, the images of its volumes and a trace lead to: the refusal of the images' first fault, the first volume with two modules of one name, or the verdict on the trace or its boot, explained.
--- Own.
+-- The report for a plan, the images of its volumes and a trace: the refusal of the images' first fault, the first volume with two modules of one name, or the
+-- verdict on the trace, or its boot, explained. Own.
 use Rattle.std.specs.Prelude.{◌≡◌, ℕ, List, Option}
 use Rattle.boot_plan.specs.declared.plan.Plan.{Plan}
 use Rattle.mod_catalog.specs.{declared.catalogue.Catalog.Catalog, declared.image_fault.ImageFault.ImageFault, Catalogue.IsCatalogue}

@@ -6,7 +6,7 @@ ghost use Rattle.recorded_boot.specs.Named.{AreNames};
 use boot_laws::Choice;
 use recorded_boot::follow::ByOrder;
 
-/// The module of an order's next start is named, and each is let: where that one may not start, the first that may does.
+/// The choice by an order of starts: it names the module of the next start, and allows each. If the named module may not start, the first eligible one starts.
 #[derive(Drop)]
 pub(crate) struct ByStarts<'o> {
     by: ByOrder<'o>,

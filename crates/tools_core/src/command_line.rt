@@ -40,7 +40,7 @@ pub(crate) enum PlanTool {
 pub(crate) enum TraceTool {
     /// Whether the trace is that of a free boot.
     Check,
-    /// The boot of which the trace tells, explained.
+    /// Explains the boot that the trace records.
     Explain,
 }
 
@@ -104,7 +104,7 @@ fn short_tool_of(verb: &str) -> Option<Tool>
     }
 }
 
-// The tool that words name which stand before a file's name.
+// The tool that words name which are before a file's name.
 fn named_tool(words: &[String]) -> Option<Tool>
     ensures found { IfSome result (λ tool. tool_words tool ≡ words_of words.now) }
     ensures none { IfNone result ((tool : Tool) → tool_words tool ≡ words_of words.now → ⊥) }
@@ -219,7 +219,7 @@ pub(crate) fn asked_trace(words: &[String]) -> Option<(TraceTool, &str, &str)>
     }
 }
 
-/// The names of the files of a plan and of an order of starts, where the words ask for the plan's boot in that order.
+/// The names of the files of a plan and of an order of starts, if the words ask for the plan's boot in that order.
 pub(crate) fn asked_follow(words: &[String]) -> Option<(&str, &str)>
     ensures found { IfSome result (λ asked. AskForFollow (words_of words.now) asked.0.now asked.1.now) }
     ensures none { IfNone result ((plan order : List ℕ) → AskForFollow (words_of words.now) plan order → ⊥) }
@@ -241,7 +241,7 @@ pub(crate) fn asked_follow(words: &[String]) -> Option<(&str, &str)>
     }
 }
 
-/// The names of the files of a HOB list and of commands, where the words ask for their map.
+/// The names of the files of a HOB list and of commands, if the words ask for their map.
 pub(crate) fn asked_map(words: &[String]) -> Option<(&str, &str)>
     ensures found { IfSome result (λ asked. AskForMap (words_of words.now) asked.0.now asked.1.now) }
     ensures none { IfNone result ((hobs commands : List ℕ) → AskForMap (words_of words.now) hobs commands → ⊥) }

@@ -33,7 +33,7 @@ pub(crate) fn catalog_text(
     Ok(text)
 }
 
-/// A catalogue's text, and behind it the run.
+/// A catalogue's text, and after it the run.
 pub(crate) fn with_run(
     alloc: Global,
     front: Seq<u8>,

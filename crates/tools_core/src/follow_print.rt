@@ -1,4 +1,4 @@
-// Printing what a boot in an order of starts came to.
+// Printing how a boot in an order of starts ended.
 ghost use Rattle.std.specs.Prelude.{◌≡◌, ◌++◌, flat_map};
 ghost use Rattle.boot_io.specs.Sink.{Puts, SinkFaultsAfter};
 ghost use Rattle.recorded_boot.specs.declared.follow.against.Against.TheVariants.{NotEligible};
@@ -20,7 +20,7 @@ pub(crate) fn put_order<S: Sink>(sink: &mut S, line: u32) -> Result<(), SinkFaul
     put_line(sink, b"refused order", &[line.as_slice()])
 }
 
-// A GUID behind a space.
+// A GUID after a space.
 fn put_guid<S: Sink>(sink: &mut S, guid: &Guid) -> Result<(), SinkFault>
     ensures text { Puts result (S.text sink.old) (S.text sink.new) (guid_word guid.now) }
     ensures cause { SinkFaultsAfter result (S.faults sink.old) (S.faults sink.new) }
@@ -29,7 +29,7 @@ fn put_guid<S: Sink>(sink: &mut S, guid: &Guid) -> Result<(), SinkFault>
     sink.put(guid.to_text().as_slice())
 }
 
-// GUIDs, each behind a space.
+// GUIDs, each after a space.
 fn put_guids<S: Sink>(sink: &mut S, guids: &[Guid]) -> Result<(), SinkFault>
     ensures text { Puts result (S.text sink.old) (S.text sink.new) (flat_map guid_word guids.now) }
     ensures cause { SinkFaultsAfter result (S.faults sink.old) (S.faults sink.new) }
@@ -40,7 +40,7 @@ fn put_guids<S: Sink>(sink: &mut S, guids: &[Guid]) -> Result<(), SinkFault>
     Ok(())
 }
 
-// The first words of the GUIDs that lack.
+// The words before the missing GUIDs.
 #[tactic(auto, unfolding(crate::specs::FollowText::not_eligible_text))]
 fn not_eligible_text() -> &'static [u8]
     ensures { result.now ≡ not_eligible_text }
@@ -48,7 +48,7 @@ fn not_eligible_text() -> &'static [u8]
     b"not eligible"
 }
 
-// The GUIDs that lack.
+// Prints the missing GUIDs.
 fn put_lacking<S: Sink>(sink: &mut S, guids: &[Guid]) -> Result<(), SinkFault>
     ensures text { Puts result (S.text sink.old) (S.text sink.new) (against_line (NotEligible guids.now)) }
     ensures cause { SinkFaultsAfter result (S.faults sink.old) (S.faults sink.new) }
@@ -58,7 +58,7 @@ fn put_lacking<S: Sink>(sink: &mut S, guids: &[Guid]) -> Result<(), SinkFault>
     sink.put(b"\n")
 }
 
-// What stands against a start.
+// Prints why a start is not possible.
 #[tactic(auto, unfolding(crate::specs::FollowText::unknown_text, crate::specs::FollowText::started_text))]
 fn put_against<S: Sink>(sink: &mut S, against: &Against) -> Result<(), SinkFault>
     ensures text { Puts result (S.text sink.old) (S.text sink.new) (against_line against.now) }
@@ -71,7 +71,7 @@ fn put_against<S: Sink>(sink: &mut S, against: &Against) -> Result<(), SinkFault
     }
 }
 
-// What is printed behind the lines of a boot.
+// What is printed after the lines of a boot.
 #[tactic(auto, unfolding(crate::specs::FollowText::stop_text))]
 fn put_last<S: Sink>(sink: &mut S, followed: &Followed) -> Result<(), SinkFault>
     ensures text { Puts result (S.text sink.old) (S.text sink.new) (last_text followed.now) }
@@ -87,7 +87,7 @@ fn put_last<S: Sink>(sink: &mut S, followed: &Followed) -> Result<(), SinkFault>
     }
 }
 
-/// The lines of a boot in an order of starts, and what it came to.
+/// Prints the lines of a boot in an order of starts, and how it ended.
 pub(crate) fn put_followed<S: Sink>(
     sink: &mut S,
     lines: &[u8],

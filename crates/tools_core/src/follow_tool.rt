@@ -34,7 +34,7 @@ fn order_report(alloc: Global, job: Job, order: &StartOrder) -> Result<Report, O
         }),
         Err(FollowFault::Image(fault)) => Ok(Report::Image(fault)),
         Err(FollowFault::Twins { volume }) => Ok(Report::Twins(volume)),
-        // What is held wants memory, and nothing else.
+        // The held text fails only if memory runs out.
         Err(FollowFault::Sink | FollowFault::Memory) => Err(OutOfMemory),
     }
 }
@@ -75,7 +75,8 @@ fn with_texts<F: Files>(
     }
 }
 
-/// What the files of a plan, of an order of starts and of the plan's volumes lead to, which are read in this order; the plan is examined before its volumes are read, and the order behind that.
+/// What the files of a plan, of an order of starts and of the plan's volumes lead to, which are read in this order; the plan is examined before its volumes are
+/// read, and the order after that.
 pub(crate) fn with_follow<F: Files>(
     alloc: Global,
     plan: &str,

@@ -1,13 +1,13 @@
-// A sink that holds what is put.
+// A sink that holds what is written.
 
 use boot_io::{Sink, SinkFault};
 use pi_base::{OutOfMemory, Seq};
 use std::alloc::Global;
 
-/// Holds all that is put, as long as there is memory. It fails for want of it alone.
+/// A sink that holds all that is written. It fails only if memory runs out.
 #[derive(Drop)]
 pub(crate) struct HeldText {
-    /// All that was put.
+    /// All bytes written so far.
     pub(crate) text: Seq<u8>,
     faults: u64,
 }
@@ -15,7 +15,7 @@ pub(crate) struct HeldText {
 impl HeldText {
     ghost use Rattle.std.specs.Prelude.{◌≡◌, []};
 
-    /// Nothing was put yet.
+    /// Nothing was written yet.
     pub(crate) fn new(alloc: Global) -> HeldText
         ensures text { result.text ≡ [] }
         ensures faults { result.faults ≡ 0 }

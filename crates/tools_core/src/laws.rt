@@ -32,7 +32,7 @@ pub(crate) fn one_content_report()
     fv_volume::one_reading();
 }
 
-/// The texts of a plan and of a trace lead to one report, where the files of the plan's volumes are told.
+/// The texts of a plan and of a trace lead to one report, if the contents of the plan's volumes are known.
 pub(crate) fn one_trace_report()
     ensures { (tool : TraceTool) (told : List ℕ → Option (List ℕ)) (content text : List ℕ) → AreAllTold told (IsNamedIn told content)
         → IsOne (TextsOutcome tool told content text) }
@@ -46,7 +46,7 @@ pub(crate) fn one_trace_report()
     trace_reader::one_reading();
 }
 
-/// The texts of a plan and of an order of starts within its limit lead to one report, where the files of the plan's volumes are told.
+/// The texts of a plan and of an order of starts within its limit lead to one report, if the contents of the plan's volumes are known.
 pub(crate) fn one_follow_report()
     ensures { (told : List ℕ → Option (List ℕ)) (content text : List ℕ) → length text ≤ order_limit
         → AreAllTold told (IsNamedIn told content) → IsOne (OrderTextsOutcome told content text) }
@@ -58,7 +58,7 @@ pub(crate) fn one_follow_report()
     recorded_boot::follow::one_boot();
 }
 
-/// The text of a plan leads to one report, where the files of the plan's volumes are told.
+/// The text of a plan leads to one report, if the contents of the plan's volumes are known.
 pub(crate) fn one_plan_report()
     ensures { (tool : PlanTool) (told : List ℕ → Option (List ℕ)) (content : List ℕ) → AreAllTold told (IsNamedIn told content)
         → IsOne (JobOutcome (PlanReport tool) told content) }
@@ -71,7 +71,7 @@ pub(crate) fn one_plan_report()
     boot_laws::order_is_of_modules();
 }
 
-/// Words and told files have one outcome: one status, and one text.
+/// A command line and known file contents have one outcome: one status, and one text.
 pub fn one_outcome()
     ensures { (told : List ℕ → Option (List ℕ)) (words : List (List ℕ)) → AreTold told words → IsOne (Outcome told words) }
 {

@@ -10,7 +10,7 @@ use boot_plan::PlanFault;
 use pi_base::{OutOfMemory, Seq};
 use std::alloc::Global;
 
-/// The content of a file, or why there is none.
+/// The content of a file, or why it could not be read.
 #[derive(Drop)]
 pub(crate) enum Reading {
     Content(Seq<u8>),

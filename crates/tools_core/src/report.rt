@@ -33,7 +33,7 @@ pub(crate) enum Report {
     Verdict(Verdict),
     /// The first line, from 1, of an order of starts that has no form.
     Order(u32),
-    /// The lines of a boot in an order of starts, and what it came to.
+    /// The lines of a boot in an order of starts, and how it ended.
     Followed {
         lines: Seq<u8>,
         followed: Followed,

@@ -1,6 +1,6 @@
 // What the tools answer.
 
-/// What the tools answer, with the number that the program ends with.
+/// The exit status of the tools.
 #[derive(Clone, Copy, PartialEq, Eq)]
 pub enum ToolStatus {
     /// The text is the answer.
@@ -21,19 +21,19 @@ pub enum ToolStatus {
     Spent = 7,
     /// The boot's frames are nested too deep.
     Deep = 8,
-    /// The text could not be put.
+    /// The text could not be written.
     SinkFault = 9,
     /// Want of memory.
     Memory = 10,
-    /// The trace is no free boot's, or a module may not start where an order of starts has it start.
+    /// The trace is not that of a free boot, or a module may not start at its place in an order of starts.
     No = 11,
     /// A volume has two modules of one name.
     Twins = 12,
-    /// The HOB list tells no memory space.
+    /// No memory space can be made of the HOB list.
     HobsRefused = 13,
     /// A line of a file of commands has no form.
     CommandRefused = 14,
-    /// A text is that of no expression or script, or bytes are none.
+    /// A text is not an expression or script, or bytes are not one.
     TextRefused = 15,
     /// A line of an order of starts has no form.
     OrderRefused = 16,

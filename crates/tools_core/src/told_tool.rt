@@ -1,4 +1,4 @@
-// The boot of which a trace tells, explained.
+// Explaining the boot that a trace records.
 ghost use Rattle.std.specs.Prelude.{◌≡◌, ◌≤◌, ◌<◌, ◌-◌, ◌^◌, ℕ, List, IfOk, length};
 ghost use Rattle.boot_core.specs.Examining.{IsExamined};
 ghost use Rattle.boot_plan.specs.Range.{IsPlanInRange};
@@ -59,7 +59,7 @@ fn run_explained(
 {
     match explain_plan_by(alloc, plan, by.catalog, images, &ByStarts::new(by))? {
         Reached::End(explained) => Ok(explained),
-        // Each start is let.
+        // Each start is allowed.
         Reached::Barred(_) => unreachable!(),
     }
 }
@@ -150,7 +150,7 @@ fn read_report(
     }
 }
 
-/// What a plan, the images of its volumes and the text of a trace lead to: the boot of which the trace tells, explained. The check takes a copy of the images.
+/// The report for a plan, the images of its volumes and the text of a trace: an explanation of the boot that the trace records. The check copies the images.
 pub(crate) fn told_report(alloc: Global, job: Job, text: &[u8]) -> Result<Report, OutOfMemory>
     requires in_range { IsPlanInRange job.plan }
     requires as_many { length job.images ≡ length job.plan.volumes }

@@ -115,7 +115,7 @@ fn with_words<F: Files>(
     }
 }
 
-// The status of a text that was put, or the sink's fault.
+// The status of a text that was written, or the sink's failure.
 fn answer(put: Result<(), SinkFault>, status: ToolStatus) -> ToolStatus
     ensures { result ≡ status_after put status }
 {
@@ -149,16 +149,18 @@ fn run_words<F: Files, S: Sink>(
     }
 }
 
-/// Does what the words of a command line ask for: `check PLAN TRACE`, `follow PLAN ORDER`, `hobs PLAN`, `explain PLAN`, `explain PLAN TRACE`, `gcd HOBS COMMANDS`, `mp FILE`, `volume TEXT`, `text VOLUME`, `asm depex FILE`, `asm script FILE`, `dis pei FILE`,
-/// `dis dxe FILE` or `dis script FILE`. The files that the words name are read in their order before any is examined, those of a plan's volumes behind the plan's examination, and all is decided before anything is put.
+/// Does what the words of a command line ask for: `check PLAN TRACE`, `follow PLAN ORDER`, `hobs PLAN`, `explain PLAN`, `explain PLAN TRACE`, `gcd HOBS
+/// COMMANDS`, `mp FILE`, `volume TEXT`, `text VOLUME`, `asm depex FILE`, `asm script FILE`, `dis pei FILE`, `dis dxe FILE` or `dis script FILE`. All files that
+/// the words name are read, in their order, before the first is examined. The files of a plan's volumes are read after the plan is examined. The whole outcome
+/// is decided before anything is written.
 pub fn tools_main<F: Files, S: Sink>(
     alloc: Global,
     words: &[String],
     files: &mut F,
     sink: &mut S,
 ) -> ToolStatus
-    // The text and the status are those that the words lead to by the files that are read; or the files failed, and the text names the file;
-    // or the sink failed, behind a part of such a text; or memory was wanting, and nothing was put.
+    // The text and the status are those that the words lead to by the files that are read; or the files failed, and the text names the file; or the sink
+    // failed, after a part of such a text; or memory ran out, and nothing was written.
     ensures ends { Ends (Outcome (F.told files.old) (words_of words.now)) (Names (F.told files.old) (words_of words.now)) result (record {
       old = S.text sink.old;
       new = S.text sink.new;
@@ -166,20 +168,23 @@ pub fn tools_main<F: Files, S: Sink>(
       now = S.faults sink.new;
       files = record { before = F.faults files.old; now = F.faults files.new; missed = F.missed files.new };
     }) }
-    // Where files and sink do not fail and there is memory, the status and the text are those to which the words lead, and no others: told files have one outcome.
+    // If files and sink do not fail and memory does not run out, the status and the text are exactly those to which the words lead: known contents have one
+    // outcome.
     ensures exactly { AnswersExactly (F.told files.old) (words_of words.now) (S.text sink.old) (S.text sink.new) result }
-    // The files' fault is answered where their count rose, and a count that rose is answered as a fault.
+    // A failure of the files is returned exactly if their count rose.
     ensures file_fault { result ≡ ToolStatus.FileFault → Rose (F.faults files.old) (F.faults files.new) }
     ensures files_rose { F.faults files.old < F.faults files.new
         → (result ≡ ToolStatus.FileFault) ⊎ (result ≡ ToolStatus.SinkFault) }
-    // So is the sink's, which wins; and want of memory leaves nothing.
+    // A failure of the sink is returned exactly if its count rose, and it takes precedence. If memory runs out, nothing is written.
     ensures sink_fault { result ≡ ToolStatus.SinkFault → Rose (S.faults sink.old) (S.faults sink.new) }
     ensures sink_rose { S.faults sink.old < S.faults sink.new → result ≡ ToolStatus.SinkFault }
     ensures memory { result ≡ ToolStatus.Memory → S.text sink.new ≡ S.text sink.old }
-    // Whatever the events of an MP file, what processors have done with what is to come are the jobs one after another, and where none is busy, what they have done is.
+    // At any moment of an MP file's events, what the processors have done followed by what is still to come is the jobs one after another. If no processor is
+    // busy, all of it is done.
     ensures any_moment { CompletesInOrder }
     ensures idle { IdlesInOrder }
-    // Whatever volume `text` tells, `volume` makes it again of its text: with its form, length, name and files, each at its place; or refuses the text where it cannot be built.
+    // The text that `text` prints of a volume, `volume` makes into a volume with the same form, length, name and files, each at its place. It refuses the text
+    // only if that volume cannot be built.
     ensures again { TextsMakeVolumesAgain }
 {
     jobs_in_order();
@@ -189,7 +194,8 @@ pub fn tools_main<F: Files, S: Sink>(
     run_words(alloc, words, files, sink)
 }
 
-/// Does what the words of a command line ask for, as `tools_main`, and hands the text on to an output in pieces of 64 KiB. The output is given back; where memory was wanting for the pieces there is none, and nothing was done.
+/// Does the same as `tools_main`, and hands the text on to an output in pieces of 64 KiB. The output is returned. None if memory ran out for the pieces;
+/// nothing was then done.
 pub fn tools_and_print<F: Files, W: Write + Drop>(
     alloc: Global,
     words: &[String],
@@ -200,7 +206,7 @@ pub fn tools_and_print<F: Files, W: Write + Drop>(
     ensures left { IfSome result.0 (λ output. HasLeft (HasPut (F.told files.old) (words_of words.now)
         (record { before = F.faults files.old; now = F.faults files.new; missed = F.missed files.new }) (W.contents to))
         (W.contents output) result.1) }
-    // It is the outcome of the words, where neither files nor output fail and there is memory.
+    // It is the outcome of the words, if neither files nor output fail and there is memory.
     ensures exactly { IfSome result.0 (λ output. AnswersExactly (F.told files.old) (words_of words.now) (W.contents to)
         (W.contents output) result.1) }
     ensures none { IfNone result.0 ((result.1 ≡ ToolStatus.Memory) × (F.faults files.new ≡ F.faults files.old)) }

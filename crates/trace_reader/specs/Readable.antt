@@ -1,4 +1,5 @@
--- The lines that a trace is read as (own): the numbers fit their types, a logged text is what a script may log, bytes that a `peek` shows are as many as it may read, a file name is in one line, and a service shows what its action does.
+-- The lines that a trace may have (own): numbers fit their types, a logged text is one that a script may log, a `peek` shows no more bytes than it may read, a
+-- file name is in one line, and a service shows what its action does.
 use Rattle.std.specs.Prelude.{◌≡◌, ◌<◌, ◌≤◌, ◌^◌, ◌++◌, ℕ, Bool, true, false, List, Option, Some, None, ⊤, flat_map, length, nat_le, ◌&&◌}
 use Rattle.std.specs.List.{list_all}
 use Rattle.hex.specs.Hex.{IsBytes}
@@ -62,7 +63,7 @@ shows_number C.Pages = true
 shows_number C.BootMode = true
 shows_number _ = false
 
--- what an action shows behind its status: nothing where it is refused
+-- what an action shows after its status: nothing if it is refused
 abbrev pub IsExtra : CallName → Word → Extra → Type 0
 IsExtra name status E.Nothing = status ≡ Success → shows_nothing name ≡ true
 IsExtra name status (E.Number n) = (status ≡ Success) × (shows_number name ≡ true) × (n < 2 ^ 64)

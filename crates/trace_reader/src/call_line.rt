@@ -47,21 +47,21 @@ fn shows_number(name: CallName) -> bool
     )
 }
 
-// Whether an action may show nothing behind a status.
+// Whether an action may show nothing after a status.
 fn may_show_nothing(name: CallName, status: Word) -> bool
     ensures { Decides result (status ≡ Success → shows_nothing name ≡ true) }
 {
     status != Word::Success || shows_nothing(name)
 }
 
-// Whether an action may show a number behind a status.
+// Whether an action may show a number after a status.
 fn may_show_number(name: CallName, status: Word) -> bool
     ensures { Decides result ((status ≡ Success) × (shows_number name ≡ true)) }
 {
     status == Word::Success && shows_number(name)
 }
 
-// Whether an action may show bytes behind a status.
+// Whether an action may show bytes after a status.
 fn may_show_bytes(name: CallName, status: Word) -> bool
     ensures { Decides result ((status ≡ Success) × (name ≡ Peek)) }
 {

@@ -9,7 +9,7 @@ use boot_model::ExpressionWord;
 use boot_trace::marks::{ABSENT, AFTER, BEFORE, DASH, MALFORMED_AT, SOR, TREE};
 use line_words::printed::behind;
 
-// What a field shows behind a front.
+// What a field shows after a front.
 fn read_behind<F: Field>(word: &[u8], front: &[u8]) -> Option<F>
     ensures { Finds (λ value. F.fits value × (word.now ≡ front.now ++ F.shows value)) result }
 {

@@ -1,6 +1,6 @@
 //! The reader of a trace: the lines whose texts the bytes are, or the first line of no form.
 //!
-//! Tried in `boot_trials`: `traces`.
+//! Tested in `boot_trials`: `traces`.
 #![tactic(auto)]
 
 mod audit_line;

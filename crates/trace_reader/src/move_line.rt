@@ -8,7 +8,7 @@ use crate::number::Hexadecimal;
 use boot_model::Line;
 use boot_trace::keywords::{CORE_INSTALL, MIGRATE};
 
-// The line of the move, or of the PPI that is installed behind it.
+// The line of the move, or of the PPI that is installed after it.
 #[tactic(auto, unfolding(boot_model::specs::Text::keyword))]
 pub(crate) fn move_line(line: &[u8]) -> Option<Line>
     ensures read { IfSome result (IsLineOf line.now) }

@@ -23,7 +23,7 @@ impl Field for Guid {
     }
 }
 
-// Whether nothing stands in a place.
+// Whether nothing is in a place.
 pub(crate) fn is_dash(word: &[u8]) -> bool
     ensures { Decides result (word.now ≡ dash) }
 {

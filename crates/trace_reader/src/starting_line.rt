@@ -7,7 +7,7 @@ use crate::fixed_word::Fixed;
 use boot_model::Line;
 use boot_trace::keywords::{DXE_START, DXE_VOLUME, PEI_START, REPORT};
 
-/// The line of a volume that is reported or discovered, or of a start, whose bytes without the line feed these are. None where they are of no such line.
+/// Reads the line of a reported or discovered volume, or of a start, from its bytes without the line feed. None if it is not one of these lines.
 #[tactic(auto, unfolding(boot_model::specs::Text::keyword))]
 pub fn start_line(line: &[u8]) -> Option<Line>
     ensures read { IfSome result (IsLineOf line.now) }

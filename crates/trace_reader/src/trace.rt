@@ -10,7 +10,7 @@ use line_words::printed::first_line;
 use pi_base::{OutOfMemory, Seq};
 use std::alloc::Global;
 
-/// Reads the text of a trace, of fewer than 2^32 - 1 bytes: the readable lines whose texts it is, or the first line that is none's.
+/// Reads the text of a trace, of fewer than 2^32 - 1 bytes: the readable lines that have this text, or the first line that is not one.
 pub fn read_trace(alloc: Global, text: &[u8]) -> Result<Seq<Line>, TraceFault>
     requires { length text.now < 2 ^ 32 - 1 }
     ensures lines { IfOk result (IsTrace text.now) }

@@ -28,7 +28,7 @@ pub(crate) const fn guid(last: u8) -> Guid {
     Guid([0, 0, 0, 0, 0, 0, 0, 0, 0, 0, 0, 0, 0, 0, 0, last])
 }
 
-/// The first bytes, all where there are fewer.
+/// The first bytes, all if there are fewer.
 pub(crate) fn front(bytes: &[u8], len: usize) -> &[u8] {
     match bytes.get(..len) {
         Some(front) => front,
@@ -36,7 +36,7 @@ pub(crate) fn front(bytes: &[u8], len: usize) -> &[u8] {
     }
 }
 
-/// The text of a volume: its head, a part so many times, and what stands behind.
+/// The text of a volume: its head, a part so many times, and what is after.
 pub(crate) type Text = (&'static str, &'static str, usize, &'static str);
 
 fn put_text(whole: &mut Seq<u8>, text: &Text) -> Result<(), OutOfMemory> {

@@ -52,7 +52,7 @@ fn section(body: Vec<u8>) -> NewSection {
     }
 }
 
-// So many bytes, each the same. Where memory runs out they are missing, and the test fails for it; so it is with what follows.
+// So many bytes, each the same. If memory runs out they are missing, and the test fails for it; so it is with what follows.
 fn filled(alloc: Global, len: usize, byte: u8) -> Vec<u8> {
     let mut body = Vec::new(alloc);
     let _ = body.resize(len, byte);
@@ -157,7 +157,7 @@ fn three_files(alloc: Global) -> Result<Seq<u8>, BuildFault> {
     build_volume(alloc, &files, 200)
 }
 
-/// What stands in the volume of three files.
+/// What is in the volume of three files.
 static PLACES: [(usize, &[u8]); 4] = [
     (
         96,
@@ -248,13 +248,13 @@ fn as_many_files_are_built_as_are_listed(rt: HostRuntime) {
     let faults = [
         fault_of_many(alloc, MOST_FILES, 393_288),
         fault_of_many(alloc, MOST_FILES, 393_287),
-        // One more, also where there is no room.
+        // One more, also if there is no room.
         fault_of_many(alloc, MOST_FILES + 1, 72),
     ];
     assert!(rt; faults == [None, Some(full), Some(BuildFault::TooMany)]);
 }
 
-/// The length of the one section's body, what stands in a volume of FFS3, and where the erased bytes begin.
+/// The length of the one section's body, what is in a volume of FFS3, and where the erased bytes begin.
 static SIZES: [(usize, usize, &[u8], usize); 3] = [
     // A file of 0xfffffe bytes.
     (
@@ -263,7 +263,7 @@ static SIZES: [(usize, usize, &[u8], usize); 3] = [
         &[0, 0xfe, 0xff, 0xff, 0xf8, 0xe6, 0xff, 0xff, 0x19],
         0x100_0046,
     ),
-    // One of a byte more is large in FFS3: Size is 0, and ExtendedSize stands at 96.
+    // One of a byte more is large in FFS3: Size is 0, and ExtendedSize is at 96.
     (
         0xff_ffe3,
         91,

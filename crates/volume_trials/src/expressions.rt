@@ -77,7 +77,7 @@ fn is_read_as(alloc: Global, phase: Phase, words: &str, opcodes: &str) -> bool {
     }
 }
 
-// Whether the words of a line are read as its opcodes, in its phase. Behind the last line nothing is left.
+// Whether the words of a line are read as its opcodes, in its phase. After the last line nothing is left.
 fn is_read_so(alloc: Global, line: &str) -> bool {
     let Some((phase, line)) = line.split_once(' ') else {
         return line.is_empty();
@@ -132,7 +132,7 @@ static REFUSED: [(bool, &str, ExpressionFault); 21] = [
     (true, "AFTER 1 AND 2", ExpressionFault::Extra),
 ];
 
-// Why words are no expression. None where they are one.
+// Why words are no expression. None if they are one.
 fn fault_of(alloc: Global, phase: Phase, words: &str) -> Option<ExpressionFault> {
     match spelled_out(alloc, words.as_bytes()) {
         Ok(text) => read_expression(alloc, phase, text.as_slice()).err(),
@@ -148,7 +148,7 @@ fn the_first_word_with_which_no_expression_goes_on_is_told(rt: HostRuntime) {
     }
 }
 
-/// Words in front of TRUE so many times, and why they are no expression; none where they are one.
+/// Words before TRUE so many times, and why they are no expression; none if they are one.
 static DEEP: [(Text, Option<ExpressionFault>); 4] = [
     (("", "(", 100_000, "TRUE"), Some(ExpressionFault::Bracket)),
     (

@@ -1,7 +1,8 @@
-// Expressions and what GenDepex of EDK2 2022.11 (`BaseTools/Source/Python/AutoGen/GenDepex.py`) makes of them. A digit stands for a GUID in both; the opcodes are `&` AND,
-// `|` OR, `!` NOT, `T` TRUE, `F` FALSE, `S` SOR, `<` BEFORE, `>` AFTER and `.` END. Keywords stand in several cases, which GenDepex was given in upper case.
+// Expressions and what GenDepex of EDK2 2022.11 (`BaseTools/Source/Python/AutoGen/GenDepex.py`) makes of them. A digit stands for a GUID in both; the opcodes
+// are `&` AND, `|` OR, `!` NOT, `T` TRUE, `F` FALSE, `S` SOR, `<` BEFORE, `>` AFTER and `.` END. Keywords are in several cases, which GenDepex was given in
+// upper case.
 
-/// A line an expression: the phase of its module, its words, and behind a colon its opcodes.
+/// A line an expression: the phase of its module, its words, and after a colon its opcodes.
 pub static SPELLINGS: &str = "\
 pei 2 AND 3: 23&.\n\
 dxe (4) OR 1 END: 41|.\n\

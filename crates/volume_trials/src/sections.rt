@@ -11,7 +11,7 @@ const EXTENDED_RAW: [u8; 23] = [
     0x02, 0x00, 0x11, 0x01, 0x61, 0x13, 0x00,
 ];
 
-/// Two sections, and three bytes behind them.
+/// Two sections, and three bytes after them.
 const TWO: [u8; 15] = [
     5, 0, 0, 0x10, 0xaa, 1, 2, 3, 4, 0, 0, 0x19, 0xff, 0xff, 0xff,
 ];
@@ -60,7 +60,7 @@ static STREAMS: [(&[u8], Result<&[Row], SecFault>); 13] = [
     (&[0xff, 0xff, 0xff, 0x10, 8, 0, 0, 0], Ok(&[(PE32, 8, 0)])),
     // The second section begins at the next multiple of four; three bytes may be left at the end.
     (&TWO, Ok(&[(PE32, 4, 1), (RAW, 12, 0)])),
-    // The rounded place may lie behind the end.
+    // The rounded place may lie after the end.
     (&FIRST, Ok(&[(PE32, 4, 1)])),
     // A size below its header's length.
     (
@@ -92,7 +92,7 @@ static STREAMS: [(&[u8], Result<&[Row], SecFault>); 13] = [
             cause: SecCause::Size,
         }),
     ),
-    // Sections that are not opened, behind a sound one; a wrong size comes before the type.
+    // Sections that are not opened, after a sound one; a wrong size comes before the type.
     (
         &[4, 0, 0, 0x19, 4, 0, 0, 1],
         Err(SecFault {

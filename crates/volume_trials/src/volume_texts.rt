@@ -114,7 +114,7 @@ const NAMED_FRONT: [u8; 169] = [
     2, 162, 162, 162, 162, 0, 0, 0, 64, 128, 0, 0, 0, 0, 0, 0, 2, 6, 5, 3, 8,
 ];
 
-/// A volume with a longer header, and a name at a place of its own with room behind it.
+/// A volume with a longer header, and a name at a place of its own with room after it.
 const PLACED_TEXT: &str = "volume 256 ffs2 header 0x50\n\
 name B5A1C0DE-93f0-4a5d-8d11-6e2f40715c33 at 88 size 22\n\
 file raw 00000001-0000-4000-8000-000000000001\n\
@@ -522,7 +522,7 @@ static MISTAKES: [(&str, u64, Cause); 74] = [
     ("volume 4096\nbody 00\n", 2, Cause::NoFile), // a body before the first file
 ];
 
-// Whether bytes begin with a front, have a length, and are 0xff behind the front.
+// Whether bytes begin with a front, have a length, and are 0xff after the front.
 fn is_filled(bytes: &[u8], len: usize, front: &[u8]) -> bool {
     bytes.len() == len
         && front.len() <= len

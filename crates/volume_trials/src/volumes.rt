@@ -1,4 +1,4 @@
-// The files that stand in a volume, and the first fault of its header and of its files.
+// The files that are in a volume, and the first fault of its header and of its files.
 use crate::board::{ONE_PEIM, Text, front, guid, made};
 use fv_volume::file_type::{PEIM, RAW};
 use fv_volume::{FfsFile, MOST_FILES, VolCause, VolFault, one_reading, places, read_volume};
@@ -50,7 +50,7 @@ fn put(bytes: &mut [u8; LEN], at: usize, text: &[u8]) {
     }
 }
 
-// The one-PEIM volume with bytes changed: each place, and its byte behind it.
+// The one-PEIM volume with bytes changed: each place, and its byte after it.
 fn changed(changes: &[u8]) -> [u8; LEN] {
     let mut bytes = [0xff; LEN];
     put(&mut bytes, 0, &ONE_PEIM);
@@ -218,7 +218,7 @@ static EXTENDED: [u8; 48] = [
 
 #[test]
 fn files_stand_behind_the_extended_header(rt: HostRuntime) {
-    // The pad file stands at 72, and the search begins behind the extended header.
+    // The pad file is at 72, and the search begins after the extended header.
     let mut bytes = changed(&[50, 0x71, 52, 96]);
     put(&mut bytes, 72, &EXTENDED);
     put(&mut bytes, 120, &ONE_PEIM[72..]);
@@ -253,10 +253,10 @@ fn a_file_that_is_not_large_may_stand_under_ffs3(rt: HostRuntime) {
 static LARGE: [(u64, u8, u64, Result<u64, VolCause>); 8] = [
     // Its Size says nothing.
     (51, 0xbc, 4096, Ok(19)),
-    // It ends with the volume, and a byte behind it.
+    // It ends with the volume, and a byte after it.
     (51, 0xbc, 123, Ok(19)),
     (51, 0xbc, 122, Err(VolCause::FileSize)),
-    // Its header ends with the volume, and a byte behind it.
+    // Its header ends with the volume, and a byte after it.
     (32, 0xcf, 104, Ok(0)),
     (32, 0xcf, 103, Err(VolCause::FileSize)),
     // A size below the header, and the top of the field.
@@ -281,7 +281,7 @@ fn large_files_are_listed(rt: HostRuntime) {
     }
 }
 
-/// The most raw files, with 24 erased bytes behind them.
+/// The most raw files, with 24 erased bytes after them.
 static MOST: Text = (
     "volume 393312\n",
     "file raw 00000000-0000-0000-0000-000000000000\n",
@@ -297,7 +297,7 @@ fn with_one_more(rt: &impl Abort, alloc: Global, most: &[u8]) -> Seq<u8> {
     bytes
 }
 
-// How many files are listed, none where the bytes are refused.
+// How many files are listed, none if the bytes are refused.
 fn count_of(alloc: Global, bytes: &[u8]) -> usize {
     match read_volume(alloc, bytes) {
         Ok(volume) => volume.files.len(),

@@ -20,7 +20,7 @@ pub record IsNew (is_open : Bool) (s : Standing) : Type 0 where
   pub again : s.again ≡ false
   pub «open» : s.«open» ≡ is_open
 
--- these parts came, and the others stand as before
+-- these parts were added, and the standing of the others is unchanged
 pub record HaveCome (phase : Phase) (catalog : Catalog) (parts : List ℕ) (old new : Places) : Type 0 where
   pub order : order_of new ≡ order_of old ++ parts
   pub new_ones : (number : ℕ) → has_number parts number ≡ true → IsNew (opens phase (part_at phase catalog number)) (standing_of new number)

@@ -1,4 +1,5 @@
--- The index stands for the machine of its phase: its order is that of the known volumes, its parts stand as the machine's lists say, and of each GUID that has a slot it knows whether it is installed.
+-- The index stands for the machine of its phase: its order is that of the known volumes, the standing of its parts is what the machine's lists say, and for
+-- each GUID with a slot it knows whether the GUID is installed.
 use Rattle.std.specs.Prelude.{◌≡◌, ℕ, true, false, not, ◌&&◌, Some}
 use Rattle.pi_base.specs.{declared.guid.Guid.Guid, declared.phase.Phase.TheVariants.Pei, declared.phase.Phase.TheVariants.Dxe}
 use Rattle.pi_base.specs.GuidMap.{value_of}

@@ -1,4 +1,4 @@
--- What the index of a phase's waiting parts stands for: the parts by place, how each stands, and which of the GUIDs that they ask for are installed.
+-- What the index of a phase's waiting parts stands for: the parts by place, the standing of each, and which of the GUIDs that they ask for are installed.
 use Rattle.std.specs.Prelude.{◌≡◌, ℕ, ◌<◌, Bool, true, ◌&&◌, ◌||◌, List, [], length, filter, Option, Some, unwrap_or, slice_get, if◌then◌else◌}
 use Rattle.pi_base.specs.{declared.guid.Guid.Guid, declared.phase.Phase.Phase, declared.phase.Phase.TheVariants.Dxe, GuidMap.value_of}
 use Rattle.wait_index.specs.{PlaceFlags.flag, PlaceFlags.count, declared.installed.Installed.Installed, declared.standing.Standing.Standing}
@@ -26,15 +26,15 @@ is_open_in index number = (standing_of index.places number).«open»
 abbrev pub again_in : WaitIndex → ℕ → Bool
 again_in index number = (standing_of index.places number).again
 
--- whether a GUID is installed, where an expression asks for it
+-- whether a GUID is installed, if an expression asks for it
 abbrev pub has_in : WaitIndex → Guid → Bool
 has_in index guid = is_there index.installed guid
 
--- how many expressions have to be evaluated
+-- how many expressions must be evaluated
 abbrev pub owed : WaitIndex → ℕ
 owed index = count index.places.stale
 
--- whether that of the part at a place has to be
+-- whether that of the part at a place must be
 abbrev pub is_owed : WaitIndex → ℕ → Bool
 is_owed index place = flag index.places.stale place
 
@@ -53,13 +53,13 @@ pub record AreWatched (phase : Phase) (catalog : Catalog) (installed : Installed
   pub pushed : (guid : Guid) (number : ℕ) → part_pushes phase catalog guid number ≡ true → (slot : ℕ) × (value_of installed.slots guid ≡ Some slot)
   pub protocols : phase ≡ Dxe → EachPair (λ guid slot. value_of installed.slots guid ≡ Some slot) ARCHITECTURAL installed.protocols
 
--- the index stands for these: its parts are those of the catalogue, and what it knows of their expressions is what they say, unless they have to be evaluated
+-- the index stands for these: its parts are those of the catalogue, and what it knows of their expressions is what they say, unless they must be evaluated
 pub record IsIndex (catalog : Catalog) (index : WaitIndex) : Type 0 where
   pub watched : AreWatched index.phase catalog index.installed index.watchers
   pub judged : AreJudged (verdict_of index.phase catalog (is_there index.installed)) index.places
   pub as_many : length index.places.standings ≡ length catalog.modules
 
--- whether a part may start: again, or where it waits, is open, and its rank or its expression lets it
+-- whether a part may start: for the second time, or because it waits, is open, and its rank or its expression allows it
 abbrev pub is_eligible_in : Catalog → WaitIndex → ℕ → Bool
 is_eligible_in catalog index number =
     again_in index number || (waits_in index number && is_open_in index number && holds_by index.phase (has_in index) (part_at index.phase catalog number))
@@ -74,7 +74,7 @@ pub record IsSame (old new : WaitIndex) : Type 0 where
   pub installed : new.installed ≡ old.installed
   pub kept : IsKept old.places new.places
 
--- the part at a place stands otherwise, and all else is as before
+-- the standing of the part at a place changes, and all else stays
 pub record Changes (change : Standing → Standing) (place : ℕ) (old new : WaitIndex) : Type 0 where
   pub phase : new.phase ≡ old.phase
   pub installed : new.installed ≡ old.installed
@@ -92,6 +92,6 @@ pub record IsSet (catalog : Catalog) (guid : Guid) (there : Bool) (old new : Wai
 abbrev pub IsKnown : Guid → Bool → WaitIndex → Type 0
 IsKnown guid there index = (slot : ℕ) → value_of index.installed.slots guid ≡ Some slot → has_in index guid ≡ there
 
--- what verdicts come to
+-- each part's verdict gives the truth of its expression, whether all architectural protocols are installed or not
 abbrev pub Tells : WaitIndex → Bool → Type 0
 Tells index all = (part : Option Part) → lets all (verdict_in index.phase (has_in index) part) ≡ holds_by index.phase (has_in index) part

@@ -1,4 +1,4 @@
--- The parts of the known volumes by place: how each stands, and the sets of places that follow from it.
+-- The parts of the known volumes by place: the standing of each, and the sets of places that follow from it.
 use Rattle.std.specs.Prelude.{◌≡◌, ℕ, ◌≤◌, Bool, true, false, ◌&&◌, ◌||◌, List, length, Some, None, unwrap_or, slice_get}
 use Rattle.wait_index.specs.{PlaceFlags.flag, declared.verdict.Verdict.Verdict, declared.verdict.Verdict.TheVariants.No}
 use Rattle.mod_catalog.specs.declared.limits.TheConstants.{MOST_MODULES}
@@ -16,7 +16,7 @@ unknown = record { place = None; waits = false; «open» = false; again = false;
 abbrev pub standing_of : Places → ℕ → Standing
 standing_of places number = unwrap_or (slice_get places.standings number) unknown
 
--- each part has its one place, and the sets of places say how the parts stand; behind the last part no place is in a set
+-- each part has its one place, and the sets of places agree with the standings; after the last part no place is in a set
 pub record IsInOrder (places : Places) : Type 0 where
   pub placed : (place number : ℕ) → slice_get (order_of places) place ≡ Some number → (standing_of places number).place ≡ Some place
   pub known : (number place : ℕ) → (standing_of places number).place ≡ Some place → slice_get (order_of places) place ≡ Some number
@@ -37,12 +37,12 @@ pub record IsKept (old new : Places) : Type 0 where
   pub order : order_of new ≡ order_of old
   pub alike : (number : ℕ) → AreAlike (standing_of old number) (standing_of new number)
 
--- where a part waits and its place is not stale, its verdict is the one that is due
+-- if a part waits and its place is not stale, its verdict is the one that is due
 abbrev pub AreJudged : (ℕ → Verdict) → Places → Type 0
 AreJudged judge places = (place number : ℕ) → slice_get (order_of places) place ≡ Some number → (standing_of places number).waits ≡ true → flag places.stale place ≡ false
     → (standing_of places number).verdict ≡ judge number
 
--- whether a part may start: again, or where it waits, is open, and its verdict lets it
+-- whether a part may start: for the second time, or because it waits, is open, and its verdict allows it
 abbrev pub is_due : Bool → (ℕ → Verdict) → Places → ℕ → Bool
 is_due all judge places number =
     (standing_of places number).again || ((standing_of places number).waits && (standing_of places number).«open» && lets all (judge number))

@@ -14,7 +14,7 @@ abbrev pub verdict_by : Bool → Verdict
 verdict_by true = Yes
 verdict_by false = No
 
--- without an expression a PEIM may start, and a driver where all architectural protocols are installed
+-- without an expression a PEIM may start, and a driver may once all architectural protocols are installed
 abbrev pub absent_verdict : Phase → Verdict
 absent_verdict Pei = Yes
 absent_verdict Dxe = WithAll
@@ -36,7 +36,7 @@ verdict_in phase has (Some part) = part_verdict phase has part
 abbrev pub verdict_of : Phase → Catalog → (Guid → Bool) → ℕ → Verdict
 verdict_of phase catalog has number = verdict_in phase has (part_at phase catalog number)
 
--- what a verdict comes to, where all architectural protocols are installed or not
+-- whether a verdict allows a start, if all architectural protocols are installed or not
 abbrev pub lets : Bool → Verdict → Bool
 lets all No = false
 lets all Yes = true

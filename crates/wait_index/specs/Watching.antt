@@ -41,7 +41,7 @@ abbrev pub modules_push : Phase → Guid → List Module → Bool
 modules_push phase guid [] = false
 modules_push phase guid (m ∷ ms) = code_pushes guid (module_code phase m) || modules_push phase guid ms
 
--- each slot is that of one GUID, and nobody watches yet
+-- each slot is that of one GUID, and no module watches yet
 pub record IsNumbering (watch : Watch) : Type 0 where
   pub below : (guid : Guid) (slot : ℕ) → value_of watch.slots guid ≡ Some slot → slot < length watch.watchers
   pub apart : (guid other : Guid) (slot : ℕ) → value_of watch.slots guid ≡ Some slot → value_of watch.slots other ≡ Some slot → same_guid guid other ≡ true
@@ -64,12 +64,12 @@ ends_with list number = is_one (slice_get list (length list - 1)) number
 abbrev pub noted : List ℕ → ℕ → List ℕ
 noted list number = if ends_with list number then list else list ++ number ∷ []
 
--- a list of watchers behind the opcodes of one of them
+-- a list of watchers after the opcodes of one of them
 abbrev pub noted_by : Guid → ℕ → List ℕ → List Opcode → List ℕ
 noted_by guid number list [] = list
 noted_by guid number list (opcode ∷ code) = noted_by guid number (if opcode_pushes guid opcode then noted list number else list) code
 
--- and behind modules, of which the first has this number
+-- and after modules, of which the first has this number
 abbrev pub noted_from : Phase → Guid → ℕ → List ℕ → List Module → List ℕ
 noted_from phase guid number list [] = list
 noted_from phase guid number list (m ∷ ms) = noted_from phase guid (number + 1) (noted_by guid number list (module_code phase m)) ms

@@ -9,7 +9,7 @@ use crate::standing::Standing;
 use crate::verdict::Verdict;
 
 impl Places {
-    /// One part more, behind the others: it waits, and its expression has to be evaluated.
+    /// One part more, after the others: it waits, and its expression must be evaluated.
     pub(crate) fn add(&mut self, number: u32, is_open: bool)
         requires in_order { IsInOrder self.old }
         requires is_new { has_number (order_of self.old) number ≡ false }

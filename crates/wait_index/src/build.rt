@@ -1,4 +1,4 @@
-// The index of a catalogue is made. Behind this nothing takes memory.
+// The index of a catalogue is made. After this nothing takes memory.
 ghost use Rattle.std.specs.Prelude.{◌≡◌, ◌≤◌, [], false, length, replicate, IfOk, OnOk};
 ghost use Rattle.pi_base.specs.{declared.guid.Guid.Guid, Lists.EachPair, GuidMap.value_of};
 ghost use Rattle.boot_model.specs.declared.known_guid.TheConstants.{ARCHITECTURAL};
@@ -79,7 +79,7 @@ fn watched(
 }
 
 impl WaitIndex {
-    /// The index of a catalogue's parts of a phase, where no volume is known and nothing is installed.
+    /// The index of a catalogue's parts of a phase. No volume is known in it yet, and no GUID is installed.
     pub fn build(alloc: Global, catalog: &Catalog, phase: Phase) -> Result<WaitIndex, OutOfMemory>
         requires { IsWellFormed catalog.now }
         ensures index { IfOk result (IsIndex catalog.now) }

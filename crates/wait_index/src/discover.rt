@@ -32,7 +32,7 @@ fn opens(phase: Phase, catalog: &Catalog, number: u32) -> bool
 }
 
 impl WaitIndex {
-    /// These parts come, behind the others: those of a volume, in the order in which the phase reads them. Nothing is evaluated yet.
+    /// Adds these parts after the others: those of a volume, in the order in which the phase reads them. Nothing is evaluated yet.
     pub fn discover(&mut self, catalog: &Catalog, parts: &[u32])
         requires index { IsIndex catalog.now self.old }
         requires catalog { IsWellFormed catalog.now }

@@ -7,7 +7,7 @@ use crate::search::flag;
 use depex_code::GuidSet;
 use pi_base::{Guid, GuidMap, Seq};
 
-/// Each GUID that an expression pushes has a slot, which says whether it is installed.
+/// The GUIDs that expressions push. Each has a slot, which says whether the GUID is installed.
 #[derive(Drop)]
 pub struct Installed {
     pub(crate) slots: GuidMap<usize>,

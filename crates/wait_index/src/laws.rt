@@ -1,4 +1,4 @@
-// Laws that dispatchers stand on.
+// Laws on which the dispatchers rely.
 ghost use Rattle.std.specs.Prelude.{◌≡◌, Bool, true, find};
 ghost use Rattle.pi_base.specs.declared.guid.Guid.{Guid};
 ghost use Rattle.depex_code.specs.Tree.{DepexTree, truth};
@@ -9,7 +9,7 @@ ghost use Rattle.boot_model.specs.DxeChoice.{first_eligible};
 ghost use Rattle.wait_index.specs.{declared.index.WaitIndex.WaitIndex as Index, Dispatch.StandsForPei, Dispatch.StandsForDxe};
 ghost use Rattle.wait_index.specs.Index.{IsIndex, order_in, is_eligible_in, asked};
 
-/// Whether a tree holds depends on the GUIDs alone that it pushes.
+/// Whether a tree holds depends only on the GUIDs that it pushes.
 pub fn truth_asks_what_is_pushed()
     ensures { (has other : Guid → Bool) (node : DepexTree) → ((guid : Guid) → tree_pushes guid node ≡ true → has guid ≡ other guid)
         → truth has node ≡ truth other node }
@@ -33,7 +33,7 @@ pub fn asked_are_those_of_the_bound_in_pei()
         → asked catalog index guid ≡ pei_asked catalog m guid }
 {}
 
-/// In DXE too.
+/// In DXE the parts that wait and push a GUID are those that the bound on evaluations counts.
 pub fn asked_are_those_of_the_bound_in_dxe()
     ensures { (catalog : Catalog) (m : DxeMachine) (index : Index) → StandsForDxe catalog m index → (guid : Guid)
         → asked catalog index guid ≡ dxe_asked catalog m guid }

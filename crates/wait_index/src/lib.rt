@@ -1,8 +1,8 @@
-//! Which parts wait, by the GUIDs that they wait for: the parts of the volumes that are known, each with its place, and the first of them that may start.
-//! An expression is evaluated when its part comes, and again only where one of its GUIDs came or went. The places are kept in sets (`PlaceSet`): the first
-//! place of a set from a cursor on is found block by block, so that 64 places of which none is in the set cost one look.
+//! Which parts wait, by the GUIDs that they wait for: the parts of the volumes that are known, each with its place, and the first of them that may start. An
+//! expression is evaluated when its part comes, and again only when one of its GUIDs came or went. The places are kept in sets (`PlaceSet`): the first place of
+//! a set from a cursor on is found block by block, so that 64 places of which none is in the set cost one look.
 //!
-//! Tried in `choice_trials`: `place_sets`, `drivers`.
+//! Tested in `choice_trials`: `place_sets`, `drivers`.
 #![tactic(auto)]
 
 mod add;

@@ -7,11 +7,11 @@ use pi_base::{OutOfMemory, Seq};
 use std::alloc::Global;
 use std::marker::Model;
 
-/// A set of places, which contracts see as a flag for each. It takes memory in `new` alone.
+/// A set of places. A contract sees it as one flag for each place. Only `new` allocates memory.
 #[derive(Drop)]
 pub struct PlaceSet {
     flags: Seq<bool>,
-    // A flag for each block of places: the block may have some of the set where it is set, and has none where it is not.
+    // A flag for each block of places. A set flag means that the block may have places of the set; a clear one means that it has none.
     blocks: Seq<bool>,
 }
 
@@ -63,14 +63,14 @@ impl PlaceSet {
         Ok(PlaceSet { flags, blocks })
     }
 
-    /// Whether a place is in the set. No place from 4,096 on is.
+    /// Whether a place is in the set. Places from 4,096 on never are.
     pub fn contains(&self, place: usize) -> bool
         ensures { result ≡ flag self.now place }
     {
         flag(self.flags.as_slice(), place)
     }
 
-    /// Puts a place into the set.
+    /// Adds a place to the set.
     pub fn insert(&mut self, place: usize)
         requires { place < MOST_PLACES }
         ensures here { flag self.new place ≡ true }
@@ -81,7 +81,7 @@ impl PlaceSet {
         self.blocks.set(place / BLOCK, true);
     }
 
-    /// Takes a place out of the set.
+    /// Removes a place from the set.
     pub fn remove(&mut self, place: usize)
         requires { place < MOST_PLACES }
         ensures here { flag self.new place ≡ false }
@@ -93,7 +93,7 @@ impl PlaceSet {
         unmark(self.flags.as_slice(), &mut self.blocks, place / BLOCK);
     }
 
-    /// Puts a place into the set or takes it out, as `is_in` says.
+    /// Adds a place to the set or removes it, as `is_in` says.
     pub fn put(&mut self, place: usize, is_in: bool)
         requires { place < MOST_PLACES }
         ensures here { flag self.new place ≡ is_in }
@@ -106,7 +106,7 @@ impl PlaceSet {
         }
     }
 
-    /// The first place of the set from `from` on.
+    /// The first place of the set from `from` on. None if there is none.
     pub fn first_from(&self, from: usize) -> Option<usize>
         ensures first { IsFirst (flag self.now) from result }
         ensures empty { from ≡ 0 → IfNone result (count self.now ≡ 0) }
@@ -114,7 +114,7 @@ impl PlaceSet {
         self.first_of_two(self, false, from)
     }
 
-    /// The first place from `from` on that is in this set, or in `other` where both are asked.
+    /// The first place from `from` on that is in this set, or in `other` if both are asked.
     pub fn first_of_two(&self, other: &PlaceSet, both: bool, from: usize) -> Option<usize>
         ensures { IsFirst (either both self.now other.now) from result }
     {

@@ -11,7 +11,7 @@ use mod_catalog::MOST_MODULES;
 use pi_base::{OutOfMemory, Seq};
 use std::alloc::Global;
 
-/// The parts of the known volumes in their order, and how the part of each module stands.
+/// The parts of the known volumes in their order, and the standing of each module's part.
 #[derive(Drop)]
 pub(crate) struct Places {
     pub(crate) order: ArrayVec<u32, MOST_MODULES>,
@@ -19,9 +19,9 @@ pub(crate) struct Places {
     pub(crate) standings: Seq<Standing>,
     /// Places of which the part may start.
     pub(crate) ready: PlaceSet,
-    /// Places of which the part may start where all architectural protocols are installed.
+    /// Places of parts that may start once all architectural protocols are installed.
     pub(crate) later: PlaceSet,
-    /// Places of which the expression has to be evaluated.
+    /// Places of which the expression must be evaluated.
     pub(crate) stale: PlaceSet,
 }
 
@@ -73,7 +73,7 @@ impl Places {
         })
     }
 
-    /// How the part of a module stands.
+    /// The standing of a module's part.
     pub(crate) fn standing(&self, number: u32) -> Standing
         ensures { result ≡ standing_of self.now number }
     {
@@ -91,7 +91,7 @@ impl Places {
         self.order.as_slice()[place]
     }
 
-    /// Has the part at a place stand so.
+    /// Sets the standing of the part at a place.
     pub(crate) fn stand(&mut self, place: usize, number: u32, standing: Standing)
         requires in_order { IsInOrder self.old }
         requires here { slice_get (order_of self.old) place ≡ Some number }

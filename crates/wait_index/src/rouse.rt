@@ -6,7 +6,7 @@ use crate::places::Places;
 use pi_base::Seq;
 
 impl Places {
-    /// The expression of a module is stale, where its part has a place and waits.
+    /// Marks the expression of a module as stale, if its part has a place and waits.
     pub(crate) fn rouse(&mut self, number: u32)
         requires { IsInOrder self.old }
         ensures in_order { IsInOrder self.new }
@@ -21,7 +21,7 @@ impl Places {
         }
     }
 
-    /// The expressions of these modules are stale, where their parts have places and wait.
+    /// Marks the expressions of these modules as stale, if their parts have places and wait.
     pub(crate) fn rouse_all(&mut self, numbers: &[u32])
         requires { IsInOrder self.old }
         ensures in_order { IsInOrder self.new }
@@ -32,7 +32,7 @@ impl Places {
         }
     }
 
-    /// The expressions of the modules that watch a slot are stale, where their parts have places and wait.
+    /// Marks the expressions of the modules that watch a slot as stale, if their parts have places and wait.
     pub(crate) fn rouse_watchers(&mut self, watchers: &[Seq<u32>], slot: usize)
         requires { IsInOrder self.old }
         ensures in_order { IsInOrder self.new }

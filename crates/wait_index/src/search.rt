@@ -21,14 +21,14 @@ pub(crate) fn flag(flags: &[bool], at: usize) -> bool
     }
 }
 
-// Whether a place is in the set, or in the other where both are asked.
+// Whether a place is in the set, or in the other if both are asked.
 pub(crate) fn in_either(flags: &[bool], more: &[bool], both: bool, at: usize) -> bool
     ensures { result ≡ either both flags.now more.now at }
 {
     flag(flags, at) || both && flag(more, at)
 }
 
-// The first place from one on that is in the set, or in the other where both are asked. A block that is not marked is passed over.
+// The first place from one on that is in the set, or in the other if both are asked. A block that is not marked is passed over.
 pub(crate) fn first_in(
     flags: &[bool],
     blocks: &[bool],

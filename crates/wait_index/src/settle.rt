@@ -1,4 +1,4 @@
-// Expressions are evaluated where they may say something new.
+// Expressions are evaluated if their value may have changed.
 ghost use Rattle.std.specs.Prelude.{◌≡◌, ◌≤◌, ◌+◌, length};
 ghost use Rattle.wait_index.specs.{PlaceFlags.count, Installed.is_there, Verdict.verdict_of};
 ghost use Rattle.wait_index.specs.Places.{IsInOrder, IsKept, AreJudged};

@@ -1,13 +1,13 @@
-// How the part of a module stands.
+// The standing of a module's part.
 ghost use Rattle.std.specs.Prelude.{◌≡◌};
 ghost use Rattle.wait_index.specs.Standing.{is_ready, is_later};
 
 use crate::verdict::Verdict;
 
-/// How the part of a module stands.
+/// The standing of a module's part: its place, and what decides whether it may start.
 #[derive(Clone, Copy)]
 pub(crate) struct Standing {
-    /// Its place, where its volume is known.
+    /// Its place, if its volume is known.
     pub(crate) place: Option<u32>,
     /// It has not started.
     pub(crate) waits: bool,
@@ -30,7 +30,7 @@ impl Standing {
         }
     }
 
-    /// Whether it may start where all architectural protocols are installed.
+    /// Whether it may start once all architectural protocols are installed.
     pub(crate) fn is_later(&self) -> bool
         ensures { result ≡ is_later self.now }
     {

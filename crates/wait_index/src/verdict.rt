@@ -11,7 +11,7 @@ use phase_parts::{depex_holds, part_of};
 use pi_base::Phase;
 use std::sync::ledger::Ledger;
 
-/// Whether a part may start: no, yes, or where all architectural protocols are installed.
+/// Whether a part may start: no, yes, or once all architectural protocols are installed.
 #[derive(Clone, Copy)]
 pub enum Verdict {
     No,
@@ -19,7 +19,7 @@ pub enum Verdict {
     WithAll,
 }
 
-// What an expression says. Without one a PEIM may start, and a driver where all architectural protocols are installed.
+// The verdict of an expression. Without one a PEIM may start, and a driver may once all architectural protocols are installed.
 fn expression_verdict<L: Ledger>(
     phase: Phase,
     expr: &PartExpr,

@@ -57,7 +57,7 @@ impl Watch {
         }
     }
 
-    /// The slot of a GUID, a new one where it has none.
+    /// The slot of a GUID, or a new one if it has none.
     pub(crate) fn slot_for(&mut self, alloc: Global, guid: &Guid) -> Result<usize, OutOfMemory>
         requires { IsNumbering self.old }
         ensures numbering { OnOk result (IsNumbering self.new) }

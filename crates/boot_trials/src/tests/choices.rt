@@ -27,7 +27,7 @@ const ROTATION_TEXT: Text<'static> = Text {
     ..NOTHING
 };
 
-// The list names a file that is not there, the second PEIM twice, and has bytes of no whole GUID behind.
+// The list names a file that is not there, the second PEIM twice, and has bytes of no whole GUID after.
 const A_PRIORI: Text<'static> = Text {
     head: b"volume 4096
 file freeform pei-apriori
@@ -109,7 +109,7 @@ const HANDOFF_TEXT: Text<'static> = Text {
 
 /// Which PEIM starts next, and the hand-off: each boot, its text and its status.
 pub(super) static CHOICES: [(Case<'static>, Text<'static>, Status); 6] = [
-    // The first PEIM waits for a PPI that the second installs; the search goes on with the third, and then from the front.
+    // The first PEIM waits for a PPI that the second installs; the search continues with the third, and then from the front.
     (
         Case {
             images: &[Image {
@@ -121,7 +121,7 @@ pub(super) static CHOICES: [(Case<'static>, Text<'static>, Status); 6] = [
         ROTATION_TEXT,
         Status::NoHandoff,
     ),
-    // The second PEIM stands in the a priori list, and starts before the first.
+    // The second PEIM is in the a priori list, and starts before the first.
     (
         Case {
             images: &[Image {
@@ -145,7 +145,7 @@ pub(super) static CHOICES: [(Case<'static>, Text<'static>, Status); 6] = [
         EXPRESSIONS_BOOT_TEXT,
         Status::NoHandoff,
     ),
-    // A PEIM that registers for shadow starts a second time behind the move.
+    // A PEIM that registers for shadow starts a second time after the move.
     (
         Case {
             images: &[Image {

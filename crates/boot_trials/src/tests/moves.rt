@@ -1,4 +1,4 @@
-// What lies where behind the move: volumes, what is printed of their boots, and the status.
+// What lies where after the move: volumes, what is printed of their boots, and the status.
 use super::text::{NOTHING, Text};
 use super::{Case, Image, PAGES, SMALLEST, VOLUME};
 use boot_core::Status;
@@ -106,7 +106,7 @@ const QUEUE_OVER_THE_MOVE_TEXT: Text<'static> = Text {
     ..NOTHING
 };
 
-// A page before and behind the move, the boot mode, and a HOB of the CPU.
+// A page before and after the move, the boot mode, and a HOB of the CPU.
 const PAGES_MODE_CPU: Text<'static> = Text {
     head: b"volume 4096
 file peim 00000000-0000-0000-0000-00000000000a
@@ -170,7 +170,7 @@ const EARLY_PAGES_TEXT: Text<'static> = Text {
     ..NOTHING
 };
 
-/// What lies where behind the move: each boot, its text and its status.
+/// What lies where after the move: each boot, its text and its status.
 pub(super) static MOVES: [(Case<'static>, Text<'static>, Status); 5] = [
     // One descriptor is installed twice; the move shifts it once, and what a script peeks is where it lies now.
     (
@@ -208,7 +208,7 @@ pub(super) static MOVES: [(Case<'static>, Text<'static>, Status); 5] = [
         QUEUE_OVER_THE_MOVE_TEXT,
         Status::NoHandoff,
     ),
-    // Pages behind the move, the boot mode, and a HOB of the CPU.
+    // Pages after the move, the boot mode, and a HOB of the CPU.
     (
         Case {
             images: &[Image {

@@ -14,7 +14,7 @@ use std::alloc::Global;
 use std::process::Abort;
 use std::test::*;
 
-// PPI 21 is there behind the first PEIM, PPI 22 never. Protocol 31 is driver 5's; 32, 33 and 34 are nobody's.
+// PPI 21 is there after the first PEIM, PPI 22 never. Protocol 31 is driver 5's; 32, 33 and 34 are no module's.
 static WHY: Case<'static> = Case {
     plan: b"temp 0x80000000 0x10000\nram 0x40000000 0x100000\nvolume 0xfff00000 boot.fv\n",
     images: &[Image {
@@ -111,9 +111,9 @@ start 4 dxe true
 needed 4 00000000-0000-0000-0000-000000000031 5
 ";
 
-// A NOT would need a protocol to go; a driver with SOR lacks nothing but its request; one without an expression waits for all architectural protocols;
-// one of two is fewer than two of three. Behind the move the HOB list has the hand-off HOB with 56 bytes, three descriptors with 48, three nodes with 40,
-// the FV HOB with 24 and the end HOB with 8.
+// A NOT would need a protocol to go; a driver with SOR lacks nothing but its request; one without an expression waits for all architectural protocols; one of
+// two is fewer than two of three. After the move the HOB list has the hand-off HOB with 56 bytes, three descriptors with 48, three nodes with 40, the FV HOB
+// with 24 and the end HOB with 8.
 static WAITS: &[u8] = b"waits 2 pei false
 lacks 2 00000000-0000-0000-0000-000000000022 -
 would 2 00000000-0000-0000-0000-000000000022
@@ -214,7 +214,7 @@ fn explained(rt: &impl Abort, alloc: Global, plan: &Plan, most: Option<u64>) -> 
     }
 }
 
-// The number of the module before whose start a boot is left; none where it comes to its end with these starts.
+// The number of the module before whose start a boot is left; none if it comes to its end with these starts.
 fn left_at(
     rt: &impl Abort,
     alloc: Global,

@@ -36,7 +36,7 @@ impl Model for Handles {
         × IsIndex h.holders h.interfaces.items };
 }
 
-/// Puts an interface at a place, and its handle among those that have the protocol. Where memory is wanting both stay as they were.
+/// Puts an interface at a place, and its handle among those that have the protocol. If memory runs out, both stay as they were.
 fn add(
     interfaces: &mut Vec<Interface>,
     holders: &mut GuidLists,
@@ -65,7 +65,7 @@ fn add(
 }
 
 impl Handles {
-    /// No handles. It takes no memory.
+    /// No handles. It allocates nothing.
     pub fn new(alloc: Global) -> Handles
         ensures { result ≡ no_handles }
     {
@@ -76,7 +76,7 @@ impl Handles {
         }
     }
 
-    /// How many handles were made. Their numbers begin at 1, and none is used again.
+    /// How many handles were made. Their numbers begin at 1, and none is used twice.
     pub fn made(&self) -> u32
         ensures { result ≡ self.now.made }
     {
@@ -97,14 +97,15 @@ impl Handles {
         self.interfaces.as_slice()
     }
 
-    /// The interface at a place, in order of handle, and on a handle in order of install.
+    /// The interface at a place, from 0, in order of handle, and on a handle in order of install. None past the last.
     pub fn nth(&self, place: u32) -> Option<Interface>
         ensures { result ≡ slice_get self.now.interfaces place }
     {
         self.interfaces.get(place as usize).copied()
     }
 
-    /// Installs an interface of a protocol, on a new handle or on one that is live and has none of it; the answer is the handle (PI 1.8, volume 2, `InstallProtocolInterface()`).
+    /// Installs an interface of a protocol, on a new handle or on a live one without this protocol, and returns the handle (PI 1.8, volume 2,
+    /// `InstallProtocolInterface()`).
     pub fn install(&mut self, on: Option<u32>, guid: Guid, value: u64) -> Result<u32, HandleFault>
         requires { on ≡ None → self.old.made < 2 ^ 32 - 1 }
         ensures row { IsRow (install_interface self.old on guid value) self.old result self.new }
@@ -152,7 +153,7 @@ impl Handles {
         Ok(handle)
     }
 
-    /// Gives the interface of a protocol with a value another one, in its place (PI 1.8, volume 2, `ReinstallProtocolInterface()`).
+    /// Replaces the interface of a protocol with a value by another one, at its place (PI 1.8, volume 2, `ReinstallProtocolInterface()`).
     pub fn reinstall(&mut self, on: u32, guid: Guid, old: u64, new: u64) -> Result<(), HandleFault>
         ensures row { IsRow (reinstall_interface self.old on guid old new) self.old result self.new }
         ensures memory { TakesNoMemory result }
@@ -162,7 +163,7 @@ impl Handles {
         Ok(())
     }
 
-    /// Takes the interface of a protocol with a value off a handle (PI 1.8, volume 2, `UninstallProtocolInterface()`).
+    /// Removes the interface of a protocol with a value from a handle (PI 1.8, volume 2, `UninstallProtocolInterface()`).
     pub fn uninstall(&mut self, on: u32, guid: Guid, value: u64) -> Result<(), HandleFault>
         ensures row { IsRow (uninstall_interface self.old on guid value) self.old result self.new }
         ensures memory { TakesNoMemory result }
@@ -173,7 +174,7 @@ impl Handles {
         Ok(())
     }
 
-    /// The lowest live handle that has a protocol, and the value of its interface (PI 1.8, volume 2, `LocateHandle()`).
+    /// The lowest live handle that has a protocol, and the value of its interface. None if no handle has it (PI 1.8, volume 2, `LocateHandle()`).
     pub fn locate(&self, guid: &Guid) -> Option<(u32, u64)>
         ensures { result ≡ locate_handle self.now guid.now }
     {

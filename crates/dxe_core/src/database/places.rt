@@ -1,4 +1,4 @@
-// Where interfaces stand in a list that is in order of handle.
+// The places of interfaces in a list that is in order of handle.
 ghost use Rattle.std.specs.Prelude.{◌≡◌, ◌≤◌, ◌<◌, IfSome, IfOk, length};
 ghost use Rattle.pi_base.specs.Lists.{Ordered};
 ghost use Rattle.store_model.specs.HandleFacts.{IsNotBehind, AreOfOthers};
@@ -16,7 +16,7 @@ pub(crate) struct Stretch {
     pub(crate) end: usize,
 }
 
-/// Where the interfaces of a handle stand.
+/// The places of a handle's interfaces.
 pub(crate) fn stretch_of(interfaces: &[Interface], handle: u32) -> Stretch
     requires { Ordered IsNotBehind interfaces.now }
     ensures handle { result.handle ≡ handle }

@@ -10,7 +10,7 @@ pub const FIXED: u8 = 0x04;
 /// `FFS_ATTRIB_DATA_ALIGNMENT`, three bits, and `FFS_ATTRIB_DATA_ALIGNMENT_2`.
 pub const DATA_ALIGNMENT: u8 = 0x3a;
 
-/// At a multiple of what the bytes behind a file's header are to stand, counted from the volume's start.
+/// The alignment of the bytes after a file's header, counted from the volume's start.
 #[derive(Clone, Copy)]
 pub enum Alignment {
     /// Anywhere.
@@ -53,7 +53,7 @@ pub const ALIGNMENTS: [Alignment; 16] = [
 ];
 
 impl Alignment {
-    /// Its bits in Attributes.
+    /// Its bits in the Attributes byte.
     pub fn bits(self) -> u8
         ensures { result ≡ alignment_bits self }
     {
@@ -77,7 +77,7 @@ impl Alignment {
         }
     }
 
-    /// Its number of bytes.
+    /// The alignment in bytes.
     pub fn len(self) -> u64
         ensures { result ≡ alignment_len self }
     {
@@ -111,7 +111,7 @@ impl Alignment {
             .find(|alignment| alignment.bits() == bits)
     }
 
-    /// The alignment of a number of bytes.
+    /// The alignment to a number of bytes. None if no alignment has this number.
     pub fn of_len(len: u64) -> Option<Alignment>
         ensures { result ≡ alignment_of len }
     {
@@ -127,12 +127,12 @@ impl Alignment {
 pub struct FileAttributes {
     /// Whether the file may not be moved.
     pub fixed: bool,
-    /// The alignment of its bytes behind the header. Where the file stands is not changed by it.
+    /// The alignment of its bytes after the header. It is only recorded: it does not move the file.
     pub alignment: Alignment,
 }
 
 impl FileAttributes {
-    /// Those of a file that may stand anywhere.
+    /// Attributes without an alignment.
     pub fn new() -> FileAttributes
         ensures { result ≡ plain_attributes }
     {
@@ -142,7 +142,7 @@ impl FileAttributes {
         }
     }
 
-    /// Those in an Attributes byte.
+    /// The attributes in an Attributes byte.
     pub fn of_byte(byte: u8) -> FileAttributes
         ensures { result ≡ attributes_in byte }
     {
@@ -155,7 +155,7 @@ impl FileAttributes {
         }
     }
 
-    /// The Attributes byte of a file that is large or not, and has no file checksum.
+    /// The Attributes byte. `large` says whether the file has a large header. The file has no file checksum.
     pub fn byte(self, large: bool) -> u8
         ensures { result ≡ attributes_byte self large }
     {

@@ -5,17 +5,17 @@ ghost use Rattle.fv_volume.specs.declared.build.fault.BuildFault.TheVariants.{Me
 use pi_base::OutOfMemory;
 use thiserror::Error;
 
-/// What stands against a volume of these files.
+/// Why a volume cannot be built of these files.
 #[derive(Clone, Copy, Debug, PartialEq, Eq, Error)]
 pub enum BuildFault {
     /// More files than `crate::MOST_FILES`.
     #[error("TooMany")]
     TooMany,
-    /// A section or a file is longer than its size fields can tell.
+    /// A section or a file is too long for its size fields.
     #[error("Size")]
     Size,
-    /// The files need more bytes than the volume has, both with the header: `need` up to the last file's end.
-    /// A need of 2^64 bytes or more stands as 2^64 - 1.
+    /// The volume is too short for the files. `need` counts from the volume's start to the last file's end, `have` is the volume's length. A need of 2^64 bytes
+    /// or more is given as 2^64 - 1.
     #[error("NoRoom")]
     NoRoom { need: u64, have: u64 },
     /// Want of memory.

@@ -13,7 +13,7 @@ use crate::build::size::{body_len, file_size, is_large};
 use crate::build::volume_header::ERASED;
 use pi_base::{OutOfMemory, Seq};
 
-// Adds what stands behind a file's header.
+// Adds what is after a file's header.
 fn put_body(out: &mut Seq<u8>, file_system: FileSystem, body: &Body) -> Result<(), OutOfMemory>
     requires { has_long_section file_system body.now ≡ false }
     ensures { OnOk result (out.new ≡ out.old ++ bytes_in file_system body.now) }
@@ -42,7 +42,7 @@ fn put_file(out: &mut Seq<u8>, file_system: FileSystem, file: &NewFile) -> Resul
     put_body(out, file_system, &file.body)
 }
 
-/// Adds the files of a volume behind what stands in front of them, the erased bytes between them too.
+/// Adds the files of a volume after what is before them, the erased bytes between them too.
 pub(crate) fn put_files(
     out: &mut Seq<u8>,
     file_system: FileSystem,

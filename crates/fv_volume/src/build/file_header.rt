@@ -18,13 +18,13 @@ pub(crate) struct FileHead {
     pub kind: u8,
     /// The attributes that the file's writer chose.
     pub attributes: FileAttributes,
-    /// Whether the file is large: its size then stands in ExtendedSize, and Size is 0.
+    /// Whether the file is large: its size then is in ExtendedSize, and Size is 0.
     pub large: bool,
     /// The file's size, its header in it.
     pub size: u64,
 }
 
-// The eight bytes behind the name.
+// The eight bytes after the name.
 fn short_fields(head: &FileHead, header_checksum: u8, file_checksum: u8, state: u8) -> [u8; 8]
     requires { OnFalse head.now.large (head.now.size < 2 ^ 24) }
     ensures { result ≡ short_fields head.now header_checksum file_checksum state }

@@ -7,7 +7,7 @@ use pi_base::{OutOfMemory, Seq};
 /// How many bytes are appended at once.
 const CHUNK: usize = 64;
 
-/// How many bytes there are from a place to the next multiple of an alignment.
+/// How many bytes there are from an offset to the next multiple of an alignment.
 pub fn gap(alignment: usize, at: usize) -> usize
     requires { 0 < alignment }
     ensures { result ≡ gap alignment at }

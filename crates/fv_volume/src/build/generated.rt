@@ -28,7 +28,7 @@ pub(crate) const NAMES: u8 = 1;
 /// The first field of the modules' PPIs.
 pub(crate) const PPIS: u8 = 2;
 
-/// Where the first module says that permanent memory begins.
+/// The address at which the first module's permanent memory begins.
 pub(crate) const MEMORY_BASE: u64 = 0x4000_0000;
 
 /// How much of it there is.
@@ -66,7 +66,7 @@ fn add_install(
     actions.push(Action::Install { list })
 }
 
-// Adds the actions of the first module that say where permanent memory is.
+// Adds the actions of the first module that report permanent memory.
 fn add_memory(actions: &mut Seq<Action>, first: bool) -> Result<(), OutOfMemory>
     ensures { OnOk result (actions.new ≡ actions.old ++ memory_said first) }
 {
@@ -122,14 +122,14 @@ fn script(alloc: Global, first: bool, last: bool, i: u32) -> Result<Seq<u8>, Out
     };
     let written = write_script(alloc, &script);
     drop(script);
-    // It is far below the longest script, so memory alone can be wanting.
+    // The script is far below the longest one, so only memory can run out.
     match written {
         Ok(text) => Ok(text),
         Err(_) => Err(OutOfMemory),
     }
 }
 
-// An expression that holds where a PPI is installed.
+// An expression that is true once a PPI is installed.
 fn expression(alloc: Global, ppi: &Guid) -> Result<Seq<u8>, OutOfMemory>
     ensures { IfOk result (λ text. text ≡ waits_for ppi.now) }
 {
@@ -193,9 +193,9 @@ fn add_modules(alloc: Global, files: &mut Seq<NewFile>, n: u32) -> Result<(), Ou
 
 /// An FFS2 volume of `VOLUME_LEN` bytes with n modules, in order of place from n - 1 down to 0 (own).
 ///
-/// Module i is a PEIM named `00000001-0000-0000-0000-` and i in twelve hexadecimal digits, and its PPI is `00000002-0000-0000-0000-`
-/// and i. It waits for the PPI of module (i - 1) / 2, and module 0 for none. Its script installs its PPI with the value i; module 0
-/// then says where permanent memory is, and module n - 1 installs `EFI_DXE_IPL_PPI`.
+/// Module i is a PEIM named `00000001-0000-0000-0000-` and i in twelve hexadecimal digits, and its PPI is `00000002-0000-0000-0000-` and i. It waits for the
+/// PPI of module (i - 1) / 2; module 0 waits for nothing. Its script installs its PPI with the value i; module 0 then reports permanent memory, and module n -
+/// 1 installs `EFI_DXE_IPL_PPI`.
 pub fn generate(alloc: Global, n: u32) -> Result<Seq<u8>, BuildFault>
     requires some { 1 ≤ n }
     requires most { n ≤ MOST_MODULES }

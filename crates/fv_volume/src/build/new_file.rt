@@ -11,11 +11,11 @@ pub struct NewFile {
     pub kind: u8,
     /// The attributes that its writer chose.
     pub attributes: FileAttributes,
-    /// What stands behind its header.
+    /// What is after its header.
     pub body: Body,
 }
 
-/// What stands behind the header of a file.
+/// What follows the header of a file.
 #[derive(Drop)]
 pub enum Body {
     /// Sections, in order.
@@ -29,6 +29,6 @@ pub enum Body {
 pub struct NewSection {
     /// The Type byte, one of `crate::sections::section_type` or any other.
     pub kind: u8,
-    /// The bytes behind the header.
+    /// The bytes after the header.
     pub body: Seq<u8>,
 }

@@ -1,4 +1,4 @@
-//! Sizes, told before a byte is written. One of 2^64 or more stands as 2^64 - 1.
+//! Sizes, known before a byte is written. A size of 2^64 or more is given as 2^64 - 1.
 ghost use Rattle.std.specs.Prelude.{◌≡◌, ◌-◌, ◌^◌, length, min, All};
 ghost use Rattle.std.specs.List.{list_any};
 ghost use Rattle.fv_volume.specs.Sections.{is_extended, section_size, body_bytes, is_section_too_long};
@@ -18,7 +18,7 @@ pub(crate) fn is_extended(file_system: FileSystem, body_len: usize) -> bool
     file_system == FileSystem::Ffs3 && body_len > MOST_SIZE - section_header::HEADER_LEN
 }
 
-/// The size of a section with so many bytes of body.
+/// The size in bytes of a section with a body of so many bytes, with its header.
 pub fn section_size(file_system: FileSystem, body_len: usize) -> usize
     ensures { result ≡ min (section_size file_system body_len) (2 ^ 64 - 1) }
 {
@@ -30,7 +30,7 @@ pub fn section_size(file_system: FileSystem, body_len: usize) -> usize
     body_len.saturating_add(header_len)
 }
 
-// Whether no size field can tell a section's size.
+// Whether a section is too long for its size fields.
 fn is_section_too_long(file_system: FileSystem, section: &NewSection) -> bool
     ensures { result ≡ is_section_too_long file_system section.now }
 {
@@ -54,7 +54,7 @@ fn sections_len(file_system: FileSystem, sections: &[NewSection]) -> usize
     end
 }
 
-/// The bytes behind a file's header.
+/// The bytes after a file's header.
 pub(crate) fn body_len(file_system: FileSystem, body: &Body) -> usize
     ensures { result ≡ min (length (bytes_in file_system body.now)) (2 ^ 64 - 1) }
 {
@@ -71,7 +71,7 @@ pub(crate) fn is_large(file_system: FileSystem, body_len: usize) -> bool
     file_system == FileSystem::Ffs3 && body_len > MOST_SIZE - file_header::HEADER_LEN
 }
 
-/// The size of a file with so many bytes of body.
+/// The size in bytes of a file with a body of so many bytes, with its header.
 pub fn file_size(file_system: FileSystem, body_len: usize) -> usize
     ensures { result ≡ min (file_size file_system body_len) (2 ^ 64 - 1) }
 {
@@ -83,7 +83,7 @@ pub fn file_size(file_system: FileSystem, body_len: usize) -> usize
     body_len.saturating_add(header_len)
 }
 
-// Whether no size field can tell the size of one of the sections.
+// Whether one of the sections is too long for its size fields.
 fn is_one_too_long(file_system: FileSystem, sections: &[NewSection]) -> bool
     ensures { result ≡ list_any (is_section_too_long file_system) sections.now }
 {
@@ -92,7 +92,7 @@ fn is_one_too_long(file_system: FileSystem, sections: &[NewSection]) -> bool
         .any(|section| is_section_too_long(file_system, section))
 }
 
-// Whether no size field can tell the size of one of the sections of a body.
+// Whether a section of a body is too long for its size fields.
 fn has_long_section(file_system: FileSystem, body: &Body) -> bool
     ensures { result ≡ has_long_section file_system body.now }
 {
@@ -102,7 +102,7 @@ fn has_long_section(file_system: FileSystem, body: &Body) -> bool
     }
 }
 
-// Whether no size field can tell the size of one of a file's sections, or the file's.
+// Whether a section of a file, or the file, is too long for its size fields.
 fn is_file_too_long(file_system: FileSystem, file: &NewFile) -> bool
     ensures { result ≡ is_file_too_long file_system file.now }
 {
@@ -111,7 +111,7 @@ fn is_file_too_long(file_system: FileSystem, file: &NewFile) -> bool
             && body_len(file_system, &file.body) > MOST_SIZE - file_header::HEADER_LEN)
 }
 
-/// Whether no size field can tell the size of one of the sections or files.
+/// Whether one of the sections or files is too long for its size fields.
 pub(crate) fn is_too_long(file_system: FileSystem, files: &[NewFile]) -> bool
     ensures { result ≡ list_any (is_file_too_long file_system) files.now }
 {
@@ -134,7 +134,7 @@ pub(crate) fn have_whole_names(files: &[NewFile])
     }
 }
 
-/// The bytes of a volume up to the end of its last file, where so many stand in front of the files.
+/// The bytes of a volume up to the end of its last file, if the files begin at `from`.
 pub(crate) fn need(file_system: FileSystem, from: usize, files: &[NewFile]) -> usize
     ensures { result ≡ min (need file_system from files.now) (2 ^ 64 - 1) }
 {

@@ -19,7 +19,7 @@ use std::alloc::Global;
 /// The longest volume that is built (own).
 pub const MOST_LEN: u64 = 64 * 1024 * 1024;
 
-// What stands first against files behind so many bytes of a volume of this length.
+// The first reason why files cannot be laid after so many bytes of a volume of this length.
 fn check(
     file_system: FileSystem,
     from: usize,
@@ -43,7 +43,7 @@ fn check(
     Ok(())
 }
 
-// A volume against which nothing stands, written from front to back.
+// Writes a volume that can be built, from front to back.
 fn write(
     alloc: Global,
     form: &VolumeForm,
@@ -91,9 +91,9 @@ fn is_whole(name: Option<VolumeName>)
 
 /// A volume of this form and of `len` bytes with these files, in order, and with this name if there is one.
 ///
-/// Behind its header, or where it has a name behind its extended header, each file stands at the next multiple of 8, with a fixed checksum of its body and
-/// State 0xF8, and in it each section at the next multiple of 4 of the body, with zeros between. All other bytes are 0xFF. In FFS3 a section or a file that
-/// is longer than its Size field can tell is an extended section or a large file.
+/// Each file is at the next multiple of 8 after the header, or after the extended header if there is a name. It has a fixed checksum of its body and State
+/// 0xF8. Each section is at the next multiple of 4 of the body, with zeros between. All other bytes are 0xFF. In FFS3 a section or a file that is too long for
+/// its Size field becomes an extended section or a large file.
 pub fn build(
     alloc: Global,
     form: &VolumeForm,
@@ -134,8 +134,7 @@ pub fn build_as(
     build(alloc, form, None, files, len)
 }
 
-/// An FFS2 volume of `len` bytes with these files, in order, as `build` lays it out, with the usual header, that tells of no attributes but its erase
-/// polarity.
+/// An FFS2 volume of `len` bytes with these files, in order, as `build` lays it out. It has the usual header, with no attributes but its erase polarity.
 pub fn build_volume(alloc: Global, files: &[NewFile], len: u64) -> Result<Seq<u8>, BuildFault>
     requires most { len ≤ MOST_LEN }
     ensures sound { OnOk result (volume_fault (plain Ffs2) None files.now len ≡ None) }

@@ -11,28 +11,28 @@ use crate::volume_header::{
 };
 use pi_base::{GUID_LEN, OutOfMemory, Seq, checksum16, put_u16, put_u32, put_u64};
 
-/// HeaderLength where no other is chosen: the header with a block map of one entry and the entry that ends it (own).
+/// HeaderLength if no other is chosen: the header with a block map of one entry and the entry that ends it (own).
 pub const HEADER_LEN: usize = 72;
 
-// How many numbers 16 bits can tell.
+// How many numbers 16 bits can hold.
 const NUMBERS_OF_16_BITS: u64 = 0x1_0000;
 
-/// What stands where nothing was written: the volume is erased to ones (own).
+/// The value of a byte that was not written: the volume is erased to ones (own).
 pub(crate) const ERASED: u8 = 0xff;
 
-/// How a volume is made, whatever its files.
+/// How a volume is made, apart from its files.
 #[derive(Clone, Copy)]
 pub struct VolumeForm {
     /// The file system.
     pub file_system: FileSystem,
     /// Attributes, `EFI_FVB_ATTRIBUTES_2`. The erase polarity is set in any case.
     pub attributes: u32,
-    /// HeaderLength. Behind the one entry of the block map stand zeros up to there.
+    /// HeaderLength. Zeros fill the header after the one entry of its block map.
     pub header_len: u16,
 }
 
 impl VolumeForm {
-    /// A volume of this file system with a header of `HEADER_LEN` bytes that tells of no attributes but its erase polarity.
+    /// A volume of this file system with a header of `HEADER_LEN` bytes, with no attributes but its erase polarity.
     pub fn new(file_system: FileSystem) -> VolumeForm
         ensures { result ≡ plain file_system }
     {
@@ -44,19 +44,19 @@ impl VolumeForm {
     }
 }
 
-/// Whether a header may have so many bytes: an even number of 16 bits, and no less than a reader takes.
+/// Whether a header may have so many bytes: an even number that fits 16 bits, and at least what a reader requires.
 pub fn is_header_length(len: u64) -> bool
     ensures { result ≡ is_header_length len }
 {
     LEAST_HEADER_LEN as u64 <= len && len % 2 == 0 && len < NUMBERS_OF_16_BITS
 }
 
-/// What a volume's header says, but for its checksum.
+/// What a volume's header says, without its checksum.
 #[derive(Clone, Copy)]
 pub struct VolumeHead {
     /// The file system and the attributes.
     pub form: VolumeForm,
-    /// ExtHeaderOffset, 0 where there is no extended header.
+    /// ExtHeaderOffset, 0 if there is no extended header.
     pub ext_header_at: u16,
     /// FvLength.
     pub len: u64,

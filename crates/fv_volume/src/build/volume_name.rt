@@ -1,4 +1,4 @@
-//! The name of a volume, in an extended header in front of its files. PI 1.8, volume 3, `EFI_FIRMWARE_VOLUME_EXT_HEADER`.
+//! The name of a volume, in an extended header before its files. PI 1.8, volume 3, `EFI_FIRMWARE_VOLUME_EXT_HEADER`.
 ghost use Rattle.std.specs.Prelude.{◌≡◌, ◌≤◌, ◌++◌, OnOk, true};
 ghost use Rattle.fv_volume.specs.Front.{usual_name, ext_at, extended_bytes, name_part, front_len, first_place, is_placed};
 
@@ -7,13 +7,13 @@ use crate::build::fill::{fill, gap};
 use crate::build::volume_header::{ERASED, VolumeForm};
 use pi_base::{Guid, OutOfMemory, Seq, put_u32};
 
-/// Where an extended header stands where no other place is chosen (own).
+/// The usual offset of an extended header (own).
 pub const EXT_AT: u16 = 96;
 
 /// The bytes of an extended header without entries: FvName and ExtHeaderSize.
 pub const EXT_HEADER_LEN: u32 = 20;
 
-/// A volume's name, and where it stands.
+/// A volume's name, and the offset of its extended header.
 #[derive(Clone, Copy)]
 pub struct VolumeName {
     /// FvName.
@@ -25,7 +25,7 @@ pub struct VolumeName {
 }
 
 impl VolumeName {
-    /// This name at the usual place.
+    /// This name, with its extended header at the usual offset.
     pub fn new(guid: Guid) -> VolumeName
         ensures { result ≡ usual_name guid }
     {
@@ -37,7 +37,7 @@ impl VolumeName {
     }
 }
 
-/// Whether a name may stand where it says: behind the header, and with all of its fields.
+/// Whether the extended header is after the header, and its size holds all of its fields.
 pub fn is_placed(form: &VolumeForm, name: Option<VolumeName>) -> bool
     ensures { result ≡ is_placed form.now.header_len name }
 {
@@ -47,7 +47,7 @@ pub fn is_placed(form: &VolumeForm, name: Option<VolumeName>) -> bool
     }
 }
 
-/// ExtHeaderOffset, 0 where there is no name.
+/// ExtHeaderOffset, 0 if there is no name.
 pub(crate) fn ext_at(name: Option<VolumeName>) -> u16
     ensures { result ≡ ext_at name }
 {
@@ -57,7 +57,7 @@ pub(crate) fn ext_at(name: Option<VolumeName>) -> u16
     }
 }
 
-/// The bytes in front of the files: up to the end of the extended header, or of the header where there is no name.
+/// The bytes before the files: up to the end of the extended header, or of the header if there is no name.
 pub(crate) fn front_len(form: &VolumeForm, name: Option<VolumeName>) -> usize
     ensures { result ≡ front_len form.now name }
 {
@@ -67,7 +67,7 @@ pub(crate) fn front_len(form: &VolumeForm, name: Option<VolumeName>) -> usize
     }
 }
 
-/// Where the first file of a volume with a name or without stands.
+/// The offset of the first file of a volume, with a name or without.
 pub fn first_place(form: &VolumeForm, name: Option<VolumeName>) -> usize
     ensures { result ≡ first_place form.now name }
 {
@@ -87,7 +87,7 @@ fn put_extended(out: &mut Seq<u8>, name: &VolumeName) -> Result<(), OutOfMemory>
     fill(out, (name.size - EXT_HEADER_LEN) as usize, ERASED)
 }
 
-/// Adds what stands between the header and the end of the extended header, or nothing where there is no name.
+/// Adds what is between the header and the end of the extended header, or nothing if there is no name.
 pub(crate) fn put_name(
     out: &mut Seq<u8>,
     form: &VolumeForm,

@@ -4,7 +4,7 @@ ghost use Rattle.fv_volume.specs.declared.sections.fault.SecCause.TheVariants.{M
 
 use pi_base::OutOfMemory;
 
-/// What is wrong with a stream of sections. The numbers are own.
+/// What is wrong with a stream of sections. The project chose the numbers.
 #[derive(Clone, Copy, Debug, PartialEq, Eq)]
 pub enum SecCause {
     /// The header or the section passes the stream's end, or the size is below the header's length.
@@ -19,7 +19,7 @@ pub enum SecCause {
     Memory = 24,
 }
 
-/// What is wrong, and where: `at` is an offset in the stream, 0 for want of memory.
+/// What is wrong, and where: `at` is an offset in the stream, or 0 if memory ran out.
 #[derive(Clone, Copy, Debug, PartialEq, Eq)]
 pub struct SecFault {
     pub at: u64,

@@ -7,7 +7,7 @@
 pub struct Section {
     /// The Type byte.
     pub kind: u8,
-    /// The offset of the first byte behind the header, counted from the stream's start.
+    /// The offset of the first byte after the header, counted from the stream's start.
     pub body_at: u64,
     /// The bytes from there to the section's end: its size less its header.
     pub body_len: u64,

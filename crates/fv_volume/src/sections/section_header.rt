@@ -37,7 +37,7 @@ pub(crate) struct SectionHeader {
     pub size: usize,
 }
 
-// The header at a place; none where it passes the stream's end.
+// The section header at an offset. None if it passes the stream's end.
 fn header_at(bytes: &[u8], at: usize) -> Option<SectionHeader>
     requires { at + HEADER_LEN ≤ length bytes.now }
     ensures { result ≡ header_at bytes.now at }

@@ -15,7 +15,7 @@ pub const MOST_SECTIONS: usize = 256;
 /// Sections begin at multiples of this, counted from the stream's start.
 pub const ALIGNMENT: usize = 4;
 
-// A place rounded up to where a section may begin.
+// An offset rounded up to where a section may begin.
 fn aligned(at: usize) -> usize
     requires { at + ALIGNMENT ≤ usize.MAX }
     ensures { result ≡ aligned at }
@@ -34,9 +34,9 @@ fn met_at(bytes: &[u8], count: usize, at: usize) -> Result<Section, SecCause>
     section_at(bytes, at)
 }
 
-/// The sections that stand in the bytes, in order.
+/// The sections that are in the bytes, in order.
 ///
-/// PI 1.8, volume 3, firmware file sections; that fewer than four bytes may be left at the end is own.
+/// PI 1.8, volume 3, firmware file sections; the project allows fewer than four bytes to be left at the end.
 pub fn read_sections(alloc: Global, bytes: &[u8]) -> Result<Seq<Section>, SecFault>
     ensures found { IfOk result (AreSections bytes.now) }
     ensures refused { IfErr result (λ fault. fault.cause ≢ SecCause.Memory → IsFirstFault bytes.now fault) }

@@ -5,7 +5,7 @@ ghost use Rattle.line_words.specs.PrintedWords.{Finds, IsGuid};
 
 use pi_base::Guid;
 
-/// The GUID whose usual text, in lower case, a word is. None where the word is no GUID's.
+/// The GUID that a word prints in lower case. None if the word is not the print of a GUID.
 pub fn guid_of(word: &[u8]) -> Option<Guid>
     ensures { Finds (λ guid. IsGuid guid × (word.now ≡ guid_text guid)) result }
 {

@@ -24,7 +24,7 @@ fn value_of(text: &[u8], base: u32) -> Option<u64>
     }
 }
 
-/// The number below 2^64 whose shortest decimal text a word is. None where the word is no such number's.
+/// The number below 2^64 that a word prints in decimal, without leading zeros. None if the word is not such a print.
 pub fn decimal_of(word: &[u8]) -> Option<u64>
     ensures { Finds (λ n. (n < 2 ^ 64) × (word.now ≡ decimal n)) result }
 {
@@ -37,7 +37,7 @@ pub fn decimal_of(word: &[u8]) -> Option<u64>
     if text == word { Some(number) } else { None }
 }
 
-/// The number below 2^64 whose shortest hexadecimal text a word is, in lower case with `0x` before it. None where the word is no such number's.
+/// The number below 2^64 that a word prints in lower-case hexadecimal, with `0x` before it and without leading zeros. None if the word is not such a print.
 pub fn hexadecimal_of(word: &[u8]) -> Option<u64>
     ensures { Finds (λ n. (n < 2 ^ 64) × (word.now ≡ hexadecimal n)) result }
 {

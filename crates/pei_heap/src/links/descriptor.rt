@@ -13,11 +13,11 @@ use store_laws::heap::{descriptors_read, image_facts};
 use store_laws::{bodies_are_inside, states_fit};
 use store_model::{Desc, DescKind};
 
-/// What a descriptor says.
+/// The contents of a descriptor.
 #[derive(Clone, Copy)]
 pub struct DescRead {
     pub kind: DescKind,
-    /// Its GUID, which stands behind it or in a volume.
+    /// Its GUID, which is after it or in a volume.
     pub guid: Guid,
     /// A PPI's value, or a notification's entry.
     pub number: u64,
@@ -59,7 +59,7 @@ fn read_guid(heap: &Heap, memory: &PhysMem, address: u64) -> Guid
     }
 }
 
-/// The kind of a descriptor, by its offset.
+/// The kind of the descriptor at an offset.
 pub fn kind_of(heap: &Heap, memory: &PhysMem, d: Desc) -> DescKind
     requires { (s : StoreState) × IsHeapOf heap.now memory.now s × IsDesc s d }
     ensures { (s : StoreState) → IsHeapOf heap.now memory.now s → IsDesc s d → result ≡ kind_at s d.offset }
@@ -71,7 +71,7 @@ pub fn kind_of(heap: &Heap, memory: &PhysMem, d: Desc) -> DescKind
     kind_by(word_in(&heap.bytes(memory), d.offset as usize))
 }
 
-/// The GUID of a descriptor, by its offset.
+/// The GUID of the descriptor at an offset.
 pub fn guid_of(heap: &Heap, memory: &PhysMem, d: Desc) -> Guid
     requires { (s : StoreState) × IsHeapOf heap.now memory.now s × IsDesc s d }
     ensures { (s : StoreState) → IsHeapOf heap.now memory.now s → IsDesc s d → result ≡ guid_at s d.offset }
@@ -96,7 +96,7 @@ pub fn number_of(heap: &Heap, memory: &PhysMem, d: Desc) -> u64
     word_in(&heap.bytes(memory), d.offset as usize + NUMBER_AT)
 }
 
-/// What a descriptor says, by its offset.
+/// Reads the descriptor at an offset.
 pub fn read_descriptor(heap: &Heap, memory: &PhysMem, d: Desc) -> DescRead
     requires { (s : StoreState) × IsHeapOf heap.now memory.now s × IsDesc s d }
     ensures { (s : StoreState) → IsHeapOf heap.now memory.now s → IsDesc s d → IsReadAt s d.offset result }

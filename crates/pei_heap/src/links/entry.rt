@@ -6,7 +6,7 @@ ghost use Rattle.pei_heap.specs.NewEntry.{second_of};
 use pi_base::put_u64;
 use store_model::EntryList;
 
-/// What an entry that is made names, by offsets from the heap's base.
+/// The descriptor and the module of a new entry. Offsets count from the heap's base.
 #[derive(Clone, Copy)]
 pub struct NewEntry {
     /// Its descriptor; of a queued pair the dispatch notification's.

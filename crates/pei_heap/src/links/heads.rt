@@ -6,7 +6,8 @@ ghost use Rattle.pei_heap.specs.NewEntry as N;
 
 use store_model::EntryList;
 
-/// The addresses of the first and last nodes of the PPIs, the callbacks, the dispatch notifications and the queued pairs, 0 for none; and how many PPIs and callbacks there are.
+/// The addresses of the first and last nodes of the PPIs, the callbacks, the dispatch notifications and the queued pairs, or 0 for an empty list; and how many
+/// PPIs and callbacks there are.
 #[derive(Clone, Copy)]
 pub struct Heads {
     pub ppi: u64,
@@ -21,7 +22,7 @@ pub struct Heads {
     pub notes: u32,
 }
 
-// The first node of a list with one more behind the last.
+// The first node of a list with one more after the last.
 fn first_of(head: u64, address: u64) -> u64
     ensures { result ≡ N.first_of head address }
 {

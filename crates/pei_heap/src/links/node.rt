@@ -8,10 +8,10 @@ use crate::word_in;
 use phys_mem::Stretch;
 use store_laws::heap::nodes_read;
 
-/// What a node says. Its places are addresses.
+/// The contents of a node. Its places are addresses.
 #[derive(Clone, Copy)]
 pub struct Node {
-    /// Where it stands.
+    /// The node's own address.
     pub at: u64,
     /// Its descriptor; of a queued pair the dispatch notification's.
     pub descriptor: u64,
@@ -21,14 +21,14 @@ pub struct Node {
     pub by: u32,
 }
 
-// The offsets of a node's fields behind the first, which is the next node's address.
+// The offsets of a node's fields after the first, which is the next node's address.
 pub(crate) const DESCRIPTOR_AT: usize = 8;
 
 const SECOND_AT: usize = 16;
 
 const NUMBER_AT: usize = 24;
 
-// The address of the node in a place of a list, by its first node's address or 0. None past the last.
+// The address of the node at a place of a list, from 0. `head` is the first node's address, or 0. None past the last.
 pub(crate) fn nth_address(heap: &Stretch<'_>, base: u64, head: u64, place: u32) -> Option<u64>
     requires { (s : StoreState) × (list : EntryList) × IsHeaded s list heap.now base head }
     ensures { (s : StoreState) (list : EntryList) → IsHeaded s list heap.now base head
@@ -64,7 +64,7 @@ pub(crate) fn read_node(heap: &Stretch<'_>, base: u64, at: u64) -> Node
     }
 }
 
-/// The node in a place of a list, by its first node's address or 0. None past the last.
+/// The node at a place of a list, from 0. `head` is the first node's address, or 0. None past the last.
 pub fn nth_node(heap: &Stretch<'_>, base: u64, head: u64, place: u32) -> Option<Node>
     requires { (s : StoreState) × (list : EntryList) × IsHeaded s list heap.now base head }
     ensures { (s : StoreState) (list : EntryList) → IsHeaded s list heap.now base head

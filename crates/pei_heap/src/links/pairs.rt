@@ -30,7 +30,7 @@ pub(crate) fn is_of(heap: &Heap, memory: &PhysMem, guid: &Guid, note: Desc) -> b
     same_guid(guid, &guid_of(heap, memory, note))
 }
 
-// 1 for a pair, and 0 for none.
+// 1 for a pair that is due, else 0.
 fn one_if(due: bool) -> u64
     ensures { result ≡ (if due then 1 else 0) }
 {
@@ -74,7 +74,7 @@ pub fn count_pairs(heap: &Heap, memory: &PhysMem, heads: &Heads, list: &[Desc]) 
     count
 }
 
-// Queues a pair, where that is due.
+// Queues a pair, if it is due.
 fn push_if(heap: &Heap, memory: &mut PhysMem, heads: &mut Heads, due: bool, pair: NewEntry)
     requires { (s : StoreState) × IsLinked heap.now memory.old heads.old s × (due ≡ true → IsReady Pendings pair s) }
     ensures { (s : StoreState) → IsLinked heap.now memory.old heads.old s → (due ≡ true → IsReady Pendings pair s)
@@ -113,7 +113,8 @@ fn push_row(heap: &Heap, memory: &mut PhysMem, heads: &mut Heads, ppi: Desc, by:
     }
 }
 
-/// Queues them, `count` in all, in order of PPI and then of registration. Where there are none, no list is walked.
+/// Queues the pairs of these PPIs with all dispatch notifications, `count` in all, in order of PPI and then of registration. If there are none, no list is
+/// walked.
 pub fn push_pairs(
     heap: &Heap,
     memory: &mut PhysMem,
@@ -204,7 +205,8 @@ fn push_new_row(
     }
 }
 
-/// Queues them, `count` in all, in order of PPI and then of the list. Where there are none, no list is walked.
+/// Queues the pairs of all PPIs with the dispatch notifications among these, `count` in all, in order of PPI and then of the list. If there are none, no list
+/// is walked.
 pub fn push_new_pairs(
     heap: &Heap,
     memory: &mut PhysMem,
@@ -232,7 +234,7 @@ pub fn push_new_pairs(
     }
 }
 
-/// The pairs of a call are the same once its entries are made.
+/// The pairs of a call are the same before and after its entries are made.
 pub fn pairs_stay()
     ensures { PairsStay }
 {}

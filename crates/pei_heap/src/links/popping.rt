@@ -34,7 +34,7 @@ fn unlink_first(heap: &Heap, memory: &mut PhysMem, heads: &mut Heads)
     heads.pop(next);
 }
 
-/// The first queued pair leaves the queue, and its notification fires. None where the queue is empty.
+/// Removes the first queued pair, and returns what its notification receives. None if the queue is empty.
 pub fn pop(heap: &Heap, memory: &mut PhysMem, heads: &mut Heads) -> Option<Firing>
     requires { (s : StoreState) × IsLinked heap.now memory.old heads.old s }
     ensures { (s : StoreState) → IsLinked heap.now memory.old heads.old s

@@ -1,4 +1,4 @@
-// An entry is made behind the others of its list.
+// An entry is made after the others of its list.
 ghost use Rattle.std.specs.Prelude.{◌≢◌, ◌≤◌, ◌+◌, ℕ, List};
 ghost use Rattle.store_model.specs.StoreState.{StoreState};
 ghost use Rattle.store_laws.specs.{Heads.named_at, Mapped.Layout};
@@ -12,7 +12,7 @@ use store_laws::heap::{heads_moved, image_facts, nodes_linked};
 use store_laws::{bodies_are_inside, entries_are_told, states_fit, steps_keep_facts};
 use store_model::EntryList;
 
-// The node at an address, where that is not 0, names another as the next.
+// Links the node at an address to a next node. An address of 0 names no node.
 fn name_next(heap: &Heap, memory: &mut PhysMem, last: u64, node: u64)
     requires { (l : Layout) × (bytes : List ℕ) × Holds heap.now memory.old l bytes
         × (last ≢ 0 → (l.base ≤ last) × (last + 8 ≤ l.base + l.len)) }
@@ -25,7 +25,7 @@ fn name_next(heap: &Heap, memory: &mut PhysMem, last: u64, node: u64)
     }
 }
 
-/// Makes an entry behind the others of a list, and its node, for which there is room.
+/// Adds an entry at the end of a list, with a node, for which there must be room.
 pub fn push(heap: &Heap, memory: &mut PhysMem, heads: &mut Heads, list: EntryList, entry: NewEntry)
     requires { (s : StoreState) × IsLinked heap.now memory.old heads.old s × IsReady list entry s }
     ensures { (s : StoreState) → IsLinked heap.now memory.old heads.old s → IsReady list entry s

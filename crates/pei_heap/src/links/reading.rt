@@ -1,4 +1,4 @@
-// What the lists tell.
+// What can be read of the lists.
 ghost use Rattle.std.specs.Prelude.{◌≡◌, ℕ, option_map, slice_get};
 ghost use Rattle.pi_base.specs.Guids as G;
 ghost use Rattle.store_model.specs.{StoreState.StoreState, StateFacts.IsDesc, StoreCall.IsNodeIn};
@@ -82,7 +82,7 @@ pub fn nth_ppi(
     None
 }
 
-// What is told of the entry whose node stands at an address. None at 0.
+// What can be read of the entry whose node is at an address. None at 0.
 fn tell_entry(heap: &Heap, memory: &PhysMem, at: u64) -> Option<EntryTold>
     requires { (s : StoreState) × (list : OfList) × (place : ℕ) × IsHeapOf heap.now memory.now s × StandsAt s list place at }
     ensures { (s : StoreState) (list : OfList) (place : ℕ) → IsHeapOf heap.now memory.now s → StandsAt s list place at
@@ -102,7 +102,7 @@ fn tell_entry(heap: &Heap, memory: &PhysMem, at: u64) -> Option<EntryTold>
     })
 }
 
-// What is told of the queued pair whose node stands at an address. None at 0.
+// What can be read of the queued pair whose node is at an address. None at 0.
 fn tell_pair(heap: &Heap, memory: &PhysMem, at: u64) -> Option<EntryTold>
     requires { (s : StoreState) × (place : ℕ) × IsHeapOf heap.now memory.now s × (at ≡ address_from s L.Pendings place) }
     ensures { (s : StoreState) (place : ℕ) → IsHeapOf heap.now memory.now s → at ≡ address_from s L.Pendings place
@@ -130,7 +130,7 @@ fn tell_pair(heap: &Heap, memory: &PhysMem, at: u64) -> Option<EntryTold>
     })
 }
 
-/// GUID, value and maker of the PPI in a place. None past the last.
+/// The GUID, the value and the module of the PPI at a place, from 0. None past the last.
 pub fn ppi_at(heap: &Heap, memory: &PhysMem, heads: &Heads, place: u32) -> Option<(Guid, u64, u32)>
     requires { (s : StoreState) × IsLinked heap.now memory.now heads.now s }
     ensures { (s : StoreState) → IsLinked heap.now memory.now heads.now s → result ≡ R.ppi_at s place }
@@ -154,7 +154,7 @@ fn note_from(heap: &Heap, memory: &PhysMem, head: u64, place: u32) -> Option<(Gu
     }
 }
 
-/// GUID and entry of the notification in a place of its kind's list. None past the last.
+/// The GUID and the entry of the notification at a place of its kind's list, from 0. None past the last.
 pub fn note_at(
     heap: &Heap,
     memory: &PhysMem,
@@ -172,7 +172,7 @@ pub fn note_at(
     }
 }
 
-/// The PPI's GUID and the notification's entry of the queued pair in a place. None past the last.
+/// The PPI's GUID and the notification's entry of the queued pair at a place, from 0. None past the last.
 pub fn pending_at(heap: &Heap, memory: &PhysMem, heads: &Heads, place: u32) -> Option<(Guid, u32)>
     requires { (s : StoreState) × IsLinked heap.now memory.now heads.now s }
     ensures { (s : StoreState) → IsLinked heap.now memory.now heads.now s → result ≡ R.pending_at s place }
@@ -184,7 +184,7 @@ pub fn pending_at(heap: &Heap, memory: &PhysMem, heads: &Heads, place: u32) -> O
     }
 }
 
-// The address of the node behind the one at this offset, and of the first where none is given.
+// The address of the node after the one at this offset, or of the first if no node is given.
 fn node_behind(
     heap: &Heap,
     memory: &PhysMem,
@@ -202,7 +202,7 @@ fn node_behind(
     }
 }
 
-/// The entry of a list behind the one with this node, and the first where none is given. None behind the last.
+/// The entry of a list after the one with this node, or the first entry if no node is given. None after the last.
 pub fn entry_behind(
     heap: &Heap,
     memory: &PhysMem,

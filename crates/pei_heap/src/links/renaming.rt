@@ -15,14 +15,14 @@ use store_model::Desc;
 // The offset of the descriptor in a node.
 const DESCRIPTOR_AT: u64 = crate::links::node::DESCRIPTOR_AT as u64;
 
-/// A PPI that is found: its place in the list, and the offset of its node.
+/// A PPI that was found: its place in the list, and the offset of its node.
 #[derive(Clone, Copy)]
 pub struct PpiFound {
     pub place: u32,
     pub node: u64,
 }
 
-/// The first PPI that names a descriptor. None where none names it.
+/// The first PPI that names a descriptor. None if no PPI names it.
 pub fn find_ppi(heap: &Heap, memory: &PhysMem, heads: &Heads, d: Desc) -> Option<PpiFound>
     requires { (s : StoreState) × IsLinked heap.now memory.now heads.now s }
     ensures { (s : StoreState) → IsLinked heap.now memory.now heads.now s → IsFound s d result }
@@ -42,7 +42,7 @@ pub fn find_ppi(heap: &Heap, memory: &PhysMem, heads: &Heads, d: Desc) -> Option
     None
 }
 
-/// A PPI that is found names another descriptor.
+/// Makes a PPI that was found name another descriptor.
 pub fn rename(heap: &Heap, memory: &mut PhysMem, heads: &Heads, found: PpiFound, new: Desc)
     requires { (s : StoreState) × (old : OfDesc) × IsLinked heap.now memory.old heads.now s × IsFirstNamed s old found
         × IsDescOf s Ppi new }
@@ -63,7 +63,7 @@ pub fn rename(heap: &Heap, memory: &mut PhysMem, heads: &Heads, found: PpiFound,
     );
 }
 
-/// The first PPI that names a descriptor names another; its place. None where none names it.
+/// Makes the first PPI that names a descriptor name another, and returns its place. None if no PPI names it.
 pub fn replace(
     heap: &Heap,
     memory: &mut PhysMem,

@@ -23,7 +23,7 @@ pub(crate) struct Match {
     pub(crate) entry: u32,
 }
 
-/// A pair that fires: the places of the PPI and of the callback, and what that is told.
+/// A pair that fires: the places of the PPI and of the callback, and what the callback receives.
 #[derive(Clone, Copy)]
 pub(crate) struct Pair {
     pub(crate) ppi: u32,
@@ -31,7 +31,7 @@ pub(crate) struct Pair {
     pub(crate) firing: Firing,
 }
 
-// Whether no pair is left, as far as the places tell.
+// Whether no pair is left, by the places alone.
 fn has_ended(sweep: &Sweep) -> bool
     ensures { result ≡ true → W.pairs_left sweep.now ≡ [] }
 {
@@ -41,7 +41,7 @@ fn has_ended(sweep: &Sweep) -> bool
     sweep.note_to <= sweep.note_at && sweep.note_to <= sweep.note_from
 }
 
-// The first callback that has the GUID, from the one on whose node stands at an address.
+// The first callback that has the GUID, from the one on whose node is at an address.
 fn match_from(
     heap: &Heap,
     memory: &PhysMem,
@@ -125,7 +125,7 @@ fn next_pair(heap: &Heap, memory: &PhysMem, heads: &Heads, sweep: &Sweep) -> Opt
     None
 }
 
-/// The first pair of the sweep that fires now, the sweep then standing behind it. None where none is left.
+/// The next pair of the sweep that fires now. The sweep then continues after it. None if no pair is left.
 pub fn next_match(heap: &Heap, memory: &PhysMem, heads: &Heads, sweep: &mut Sweep) -> Option<Firing>
     requires { (s : StoreState) × IsLinked heap.now memory.now heads.now s × IsSweepOf s sweep.old }
     ensures { (s : StoreState) → IsLinked heap.now memory.now heads.now s → IsSweepOf s sweep.old

@@ -18,7 +18,7 @@ pub(crate) struct Met {
     pub(crate) next: u64,
 }
 
-// The entry whose node stands at an address. None at 0.
+// The entry whose node is at an address. None at 0.
 pub(crate) fn entry_from(heap: &Heap, memory: &PhysMem, at: u64) -> Option<Met>
     requires { (s : StoreState) × (list : EntryList) × (place : ℕ) × IsHeapOf heap.now memory.now s × StandsAt s list place at }
     ensures { (s : StoreState) (list : EntryList) (place : ℕ) → IsHeapOf heap.now memory.now s → StandsAt s list place at

@@ -1,4 +1,4 @@
-//! What stands against a start that an order asks for.
+//! Why a start that an order asks for is not possible.
 ghost use Rattle.std.specs.Prelude.{◌≡◌, IfOk, length, option_copied};
 ghost use Rattle.store_model.specs.{Service.Present, Service.OfEach, StoreCall.Anything};
 ghost use Rattle.recorded_boot.specs.{Named.AreNames, Against.StandsAgainst, ByOrder.starts_of};
@@ -12,7 +12,7 @@ use pi_base::{Guid, OutOfMemory, Seq};
 use std::alloc::Global;
 use store_model::PeiStore;
 
-/// What stands against a start.
+/// Why a start that an order asks for is not possible.
 #[derive(Drop)]
 pub enum Against {
     /// No module of this volume and file name has a part of the phase.
@@ -23,7 +23,7 @@ pub enum Against {
     NotEligible(Seq<Guid>),
 }
 
-// The part of the module of a start, where there is one.
+// The part of the module of a start, if there is one.
 fn part_asked<'c>(catalog: &'c Catalog, names: &Names, start: &Start) -> Option<&'c Part>
     requires { AreNames catalog.now (length catalog.now.modules) names.now.volumes.items }
     ensures { FindsPart catalog.now start.now (option_copied result) }
@@ -55,7 +55,7 @@ fn is_among(start: &Start, made: &[AskedStart]) -> bool
     false
 }
 
-/// What stands against a start behind those of these lines.
+/// Why a start after those of these lines is not possible.
 pub(crate) fn cause_against<M: PeiStore>(
     alloc: Global,
     catalog: &Catalog,

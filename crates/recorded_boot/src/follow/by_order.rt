@@ -7,7 +7,8 @@ use boot_laws::Choice;
 use mod_catalog::Catalog;
 use pi_base::Phase;
 
-/// The module that an order asks for next, and no other; behind its last line nobody is named, so that the first that may start does, unless the order says that the boot is followed no further.
+/// The choice by an order: it names the module of the order's next start, and allows no other. After the order's last line it names no module and allows each,
+/// so the first eligible one starts, unless the order ends in `stop`.
 #[derive(Clone, Copy)]
 pub struct ByOrder<'o> {
     /// The order.
@@ -18,7 +19,7 @@ pub struct ByOrder<'o> {
     pub names: &'o Names,
 }
 
-/// What an order asks for behind so many starts.
+/// What an order asks for after so many starts.
 pub(crate) fn asked_behind(order: &StartOrder, starts: u64) -> Option<AskedStart>
     ensures { result ≡ slice_get order.now.starts starts }
 {
@@ -38,7 +39,7 @@ fn is_start_of(catalog: &Catalog, phase: Phase, number: u32, start: &Start) -> b
 }
 
 impl ByOrder<'_> {
-    // The module that the order has start in a phase behind so many starts.
+    // The module that the order has start in a phase after so many starts.
     fn named(&self, phase: Phase, starts: u64) -> Option<u32>
         ensures { NamesBy self.now.catalog.now self.now.names.now.volumes.items phase self.now.order.now starts result }
     {
@@ -50,7 +51,7 @@ impl ByOrder<'_> {
         }
     }
 
-    // Whether the order lets a module start in a phase behind so many starts.
+    // Whether the order allows a module to start in a phase after so many starts.
     fn lets(&self, phase: Phase, starts: u64, number: u32) -> bool
         ensures { result ≡ lets_by self.now.catalog.now self.now.order.now phase starts number }
     {

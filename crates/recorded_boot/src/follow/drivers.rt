@@ -25,10 +25,10 @@ use std::marker::Brand;
 use std::sync::ledger::{Blank, Ledger};
 use store_model::PeiStore;
 
-/// What DXE comes to.
+/// How DXE ends along an order.
 #[derive(Drop)]
 pub(crate) struct Drivers {
-    /// The result of the boot, where DXE ended. None before the start of a driver that is not let.
+    /// The result of the boot, if DXE ended. None before the start of a driver that is not allowed.
     pub(crate) end: Option<RunEnd>,
     /// The handles, with their interfaces.
     pub(crate) handles: Handles,
@@ -133,7 +133,7 @@ fn run_queued<M: PeiStore, S: Sink>(
     reached
 }
 
-// What DXE comes to behind a run, with these handles. A driver that was not let has left the queue, and counts among the starts.
+// How DXE ends after a run, with these handles. A driver that was not allowed has left the queue, and counts as a start.
 fn left_by(reached: Reached<DxeEnd>, starts: u64, handles: Handles) -> Drivers
     requires some { IsCounted reached starts }
     ensures { result ≡ leaves reached starts handles }
@@ -152,7 +152,7 @@ fn left_by(reached: Reached<DxeEnd>, starts: u64, handles: Handles) -> Drivers
     }
 }
 
-/// The whole of DXE behind the hand-off of PEI, along an order.
+/// The whole of DXE after the hand-off of PEI, along an order.
 pub(crate) fn run_drivers<M: PeiStore + Drop, S: Sink>(
     alloc: Global,
     by: &ByOrder<'_>,

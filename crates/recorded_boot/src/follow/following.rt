@@ -21,23 +21,23 @@ use pi_base::OutOfMemory;
 use std::alloc::Global;
 use store_model::PeiStore;
 
-/// What a boot along an order comes to.
+/// How a boot along an order ends.
 #[derive(Drop)]
 pub enum Followed {
-    /// Its end with this result, behind all starts that the order asks for.
+    /// Its end with this result, after all starts that the order asks for.
     Ended(RunEnd),
-    /// The next start behind all of those, where the order stops: it is left there.
+    /// The boot was left before the start that follows those of the order, since the order stops there.
     Stopped,
     /// A line of which the start is not made.
     No {
         /// The number of the line, from 1.
         line: u32,
-        /// What stands against the start.
+        /// Why the start is not possible.
         against: Against,
     },
 }
 
-// What a boot comes to behind so many starts: it has ended so, or is left before the next one.
+// How a boot ends after so many starts, with a result or before the next start.
 fn come_to<M: PeiStore>(
     alloc: Global,
     by: &ByOrder<'_>,
@@ -57,7 +57,7 @@ fn come_to<M: PeiStore>(
             None => return Ok(Followed::Stopped),
         },
     };
-    // The starts behind which it stands were made.
+    // The starts that the boot has made.
     let made = &by.order.starts.as_slice()[..starts as usize];
     let against = cause_against(alloc, by.catalog, by.names, installed, made, &asked.start)?;
     Ok(Followed::No {
@@ -66,7 +66,7 @@ fn come_to<M: PeiStore>(
     })
 }
 
-// Puts the last lines of a boot, where it has ended.
+// Prints the last lines of a boot, if it has ended.
 fn put_last<M: PeiStore, S: Sink>(
     installed: &Installed<'_, M>,
     end: Option<RunEnd>,
@@ -84,7 +84,7 @@ fn put_last<M: PeiStore, S: Sink>(
     }
 }
 
-// The last lines of a boot where it has ended, and what it comes to.
+// Prints the last lines of a boot, if it has ended, and returns how it ended.
 fn finish<M: PeiStore, S: Sink>(
     alloc: Global,
     by: &ByOrder<'_>,
@@ -111,7 +111,7 @@ fn finish<M: PeiStore, S: Sink>(
     }
 }
 
-// DXE behind the hand-off.
+// DXE after the hand-off.
 fn follow_drivers<M: PeiStore + Drop, S: Sink>(
     alloc: Global,
     by: &ByOrder<'_>,
@@ -142,7 +142,7 @@ fn follow_drivers<M: PeiStore + Drop, S: Sink>(
     }
 }
 
-// The result of a boot that ends with PEI. None behind a hand-off.
+// The result of a boot that ends with PEI. None after a hand-off.
 fn pei_result(end: PeiEnd) -> Option<RunEnd>
     ensures { result ≡ pei_result end }
 {
@@ -188,7 +188,7 @@ fn follow_behind<M: PeiStore + Drop, S: Sink>(
     }
 }
 
-// What a boot comes to that is left in PEI.
+// How a boot ends that is left in PEI.
 fn leave_pei<M: PeiStore + Drop>(
     alloc: Global,
     by: &ByOrder<'_>,
@@ -209,7 +209,7 @@ fn leave_pei<M: PeiStore + Drop>(
     followed
 }
 
-/// A boot over a store that is as it was made, along an order: it comes to its end, to a place where the order stops, or to a line of which the start is not made.
+/// Boots a new store along an order: to its end, to the start at which the order stops, or to a line whose start is not possible.
 pub(crate) fn follow_boot<M: PeiStore + Drop, S: Sink>(
     alloc: Global,
     by: &ByOrder<'_>,

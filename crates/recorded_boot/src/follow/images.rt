@@ -21,7 +21,7 @@ use phys_mem::Rom;
 use pi_base::{OutOfMemory, Seq};
 use std::alloc::Global;
 
-/// Why a boot is not followed.
+/// Why a boot could not follow an order.
 #[derive(Clone, Copy, Debug)]
 pub enum FollowFault {
     /// The first fault of the images.
@@ -31,7 +31,7 @@ pub enum FollowFault {
         /// Its number in the catalogue.
         volume: u32,
     },
-    /// A line could not be put; the sink has counted it.
+    /// A line could not be written. The sink has counted the failure.
     Sink,
     /// Want of memory.
     Memory,
@@ -48,7 +48,7 @@ impl From<OutOfMemory> for FollowFault {
     }
 }
 
-// The first fault of the images, or want of memory.
+// The first fault of the images, or that memory ran out.
 fn fault_of(fault: ImageFault) -> FollowFault
     ensures { IsFaultTold fault result }
 {
@@ -82,7 +82,7 @@ fn follow_over<S: Sink>(
     }
 }
 
-// The same over a plan's images, by the names of their catalogue.
+// Follows an order over a plan's images, by the names of their catalogue.
 fn follow_named<S: Sink>(
     alloc: Global,
     plan: &Plan,
@@ -110,7 +110,7 @@ fn follow_named<S: Sink>(
     }
 }
 
-// The same over the catalogue of a plan's images.
+// Follows an order over the catalogue of a plan's images.
 fn follow_catalog<S: Sink>(
     alloc: Global,
     plan: &Plan,
@@ -148,8 +148,13 @@ fn follow_catalog<S: Sink>(
     }
 }
 
-/// Boots a plan and its images in the order of starts that is handed in, and puts the boot's lines into a sink as they come. Behind the last line of the order nobody is named, so that the boot goes on as the machine itself does, unless the order stops there; where no free boot starts as the order's lines do up to one of them, the boot is left before it, or comes to its end first. An order leads to one boot (`one_boot`).
-/// There are as many images as volumes of the plan, and the order has no more than 2^32 - 1 starts. The images' first fault comes first, then the first volume with two modules of one name; then nothing is put.
+/// Boots a plan and its images in the given order of starts, and prints the boot's lines as they come.
+///
+/// After the last line of the order no module is named, so the boot continues as the machine itself does, unless the order stops there. If no free boot starts
+/// as the order's lines do up to one of them, the boot is left before that start, or ends first. An order leads to one boot (`one_boot`).
+///
+/// There are as many images as volumes of the plan, and the order has at most 2^32 - 1 starts. The images' first fault comes first, then the first volume with
+/// two modules of one name; nothing is then printed.
 pub fn follow<S: Sink>(
     alloc: Global,
     plan: &Plan,

@@ -12,7 +12,7 @@ use pi_base::{Guid, OutOfMemory, Phase, Seq};
 use std::alloc::Global;
 use store_model::PeiStore;
 
-/// What is installed where a boot stands: its PPIs are in the store, its protocols on the handles.
+/// What is installed in the boot so far: its PPIs are in the store, its protocols on the handles.
 #[derive(Drop)]
 pub(crate) struct Installed<'i, M> {
     /// The store.
@@ -57,7 +57,7 @@ fn note(found: &mut Seq<Guid>, guid: &Guid) -> Result<(), OutOfMemory>
     found.push(*guid)
 }
 
-// Notes the GUID that an opcode pushes, where it is not installed.
+// Notes the GUID that an opcode pushes, if it is not installed.
 fn note_pushed<M: PeiStore>(
     found: &mut Seq<Guid>,
     installed: &Installed<'_, M>,
@@ -109,7 +109,7 @@ fn lacking_in<M: PeiStore>(
     Ok(found)
 }
 
-/// The GUIDs that an expression pushes and that are not installed for modules of a phase, once each, in the order in which it first mentions them.
+/// The GUIDs that an expression pushes and that are not installed in a phase, each once, in the order of first mention.
 pub(crate) fn lacking<M: PeiStore>(
     alloc: Global,
     installed: &Installed<'_, M>,

@@ -1,7 +1,8 @@
 // A boot in an order of starts is one.
 ghost use Rattle.recorded_boot.specs.OneBoot.{OneAnswer, OneBoot};
 
-/// Whatever a boot in an order came to: each other answer is the same, with the same text, want of memory and a sink that fails aside. So is that of a plan and its images.
+/// However a boot along an order ends, each other answer for the same order is the same, with the same text, unless memory runs out or the sink fails. This
+/// holds for a plan and its images too.
 pub fn one_boot()
     ensures boot { OneBoot }
     ensures answer { OneAnswer }

@@ -10,7 +10,7 @@ fn is_guid(name: Guid)
     ensures { IsGuid name }
 {}
 
-/// The file name of each module of a catalogue is sixteen bytes: a start line that names it can be read.
+/// The file name of each module of a catalogue has sixteen bytes, so a start line with it can be read.
 pub fn names_are_guids(catalog: &Catalog)
     ensures { AreGuids catalog.now }
 {

@@ -2,7 +2,7 @@
 ghost use Rattle.std.specs.Prelude.{◌≡◌};
 ghost use Rattle.recorded_boot.specs.LineText.{keyword_text, keyword_named};
 
-/// What a line begins with.
+/// The word with which a line begins.
 #[derive(Clone, Copy)]
 pub enum Keyword {
     /// A start in PEI.

@@ -8,7 +8,7 @@ use crate::order::word::{guid_of, next_word, volume_of};
 use line_words::is_plain;
 use pi_base::{Guid, Phase};
 
-/// A module's start. PI 1.8, volume 1, "PEI Dispatcher", and volume 2, "DXE Dispatcher".
+/// The start of a module in a phase. PI 1.8, volume 1, "PEI Dispatcher", and volume 2, "DXE Dispatcher".
 #[derive(Clone, Copy)]
 pub struct Start {
     /// The phase in which the module starts.
@@ -19,7 +19,7 @@ pub struct Start {
     pub name: Guid,
 }
 
-/// A start that is asked for.
+/// A start that an order asks for, and the number of its line.
 #[derive(Clone, Copy)]
 pub struct AskedStart {
     /// The number of its line, from 1.
@@ -37,7 +37,7 @@ pub enum Asked {
     Stop(u32),
 }
 
-// The start that the words behind a keyword spell.
+// The start that the words after a keyword spell.
 fn start_by(number: u32, phase: Phase, operands: &[u8]) -> Option<Asked>
     requires { slice_index operands.now 0 ≢ 32 }
     ensures { result ≡ start_by number phase (words operands.now) }

@@ -13,7 +13,7 @@ use std::alloc::Global;
 pub struct StartOrder {
     /// The starts, the first one first.
     pub starts: Seq<AskedStart>,
-    /// The number, from 1, of the last line, where it says that the boot is followed no further.
+    /// The number, from 1, of the last line, if that is `stop`.
     pub stop: Option<u32>,
 }
 
@@ -35,7 +35,9 @@ fn take_line(order: &mut StartOrder, number: u32, line: &[u8]) -> Result<(), Ord
     Ok(())
 }
 
-/// Reads the text of an order, of fewer than 2^32 - 1 bytes. Lines that are empty or begin with `#` are passed over. Each other one is `pei V GUID` or `dxe V GUID`, with the volume's number below 2^32, decimal or hexadecimal, and the file's name in either letter case, or `stop`, behind which no other follows.
+/// Reads the text of an order, of fewer than 2^32 - 1 bytes. Lines that are empty or begin with `#` are skipped. Each other line is `pei V GUID` or `dxe V
+/// GUID`, or `stop`, after which no other line follows. V is the volume's number below 2^32, decimal or hexadecimal, and GUID the file's name in either letter
+/// case.
 pub fn read_order(alloc: Global, text: &[u8]) -> Result<StartOrder, OrderFault>
     requires { length text.now < 2 ^ 32 - 1 }
     ensures order { IfOk result (IsOrder text.now) }

@@ -8,7 +8,7 @@ use mod_catalog::{Catalog, Module};
 use pi_base::{Guid, GuidMap, OutOfMemory};
 use std::alloc::Global;
 
-/// The modules of a catalogue, by volume and file name, where no volume has two modules of one name.
+/// The modules of a catalogue, by volume and file name, if no volume has two modules of one name.
 #[derive(Drop)]
 pub struct Names {
     // A map for each volume, by its number.
@@ -93,7 +93,7 @@ fn kept(maps: &[GuidMap<u32>], volume: u32, name: &Guid) -> Option<u32>
 }
 
 impl Names {
-    /// The names of all modules; or the first volume of which two modules have one name.
+    /// Collects the names of all modules, or returns the first volume with two modules of one name.
     pub fn build(alloc: Global, catalog: &Catalog) -> Result<Names, NamesFault>
         requires { IsWellFormed catalog.now }
         ensures names { IfOk result (λ names. AreNames catalog.now (length catalog.now.modules) names.volumes.items) }
@@ -112,7 +112,7 @@ impl Names {
         }
     }
 
-    /// The module with this file name in this volume. None where there is none.
+    /// The module with this file name in this volume. None if there is no such module.
     pub fn number_of(&self, volume: u32, name: &Guid) -> Option<u32>
         ensures { (catalog : OfCatalog) → AreNames catalog (length catalog.modules) self.now.volumes.items
             → (number : ℕ) → (result ≡ Some number) ↔ IsNamed catalog volume name.now number }

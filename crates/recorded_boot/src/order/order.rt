@@ -1,4 +1,4 @@
-//! The order of the starts of which lines tell.
+//! The order of the starts among printed lines.
 ghost use Rattle.std.specs.Prelude.{◌≡◌, ◌++◌, ◌<◌, ◌-◌, ◌^◌, IfOk, OnOk, length};
 ghost use Rattle.recorded_boot.specs.Order.{asked_in};
 ghost use Rattle.recorded_boot.specs.Order as O;
@@ -9,7 +9,7 @@ use boot_model::Line;
 use pi_base::{OutOfMemory, Seq};
 use std::alloc::Global;
 
-// Notes the start of which the line with this number tells.
+// Notes the start that a line is, with the line's number.
 fn note(starts: &mut Seq<AskedStart>, number: u32, line: &Line) -> Result<(), OutOfMemory>
     ensures { OnOk result (starts.new ≡ starts.old ++ asked_in (number, line.now)) }
 {
@@ -22,7 +22,7 @@ fn note(starts: &mut Seq<AskedStart>, number: u32, line: &Line) -> Result<(), Ou
     }
 }
 
-/// The order of the starts of which lines tell, each with the number of its line, from 1. It does not stop behind the last of them.
+/// The order of the starts among these lines, each with the number of its line, from 1. It does not stop after the last of them.
 pub fn order_of(alloc: Global, lines: &[Line]) -> Result<StartOrder, OutOfMemory>
     requires { length lines.now < 2 ^ 32 - 1 }
     ensures { IfOk result (λ order. order ≡ O.order_of lines.now) }

@@ -1,4 +1,4 @@
-//! The line that tells of a start.
+//! The lines that are starts.
 ghost use Rattle.std.specs.Prelude.{◌≡◌};
 ghost use Rattle.recorded_boot.specs.Starts as S;
 
@@ -6,7 +6,7 @@ use crate::order::Start;
 use boot_model::Line;
 use pi_base::Phase;
 
-/// The start of which a line tells. None where it tells of none.
+/// The start that a line prints. None if it is not a start line.
 pub fn start_of(line: &Line) -> Option<Start>
     ensures { result ≡ S.start_of line.now }
 {

@@ -2,29 +2,29 @@
 ghost use Rattle.recorded_boot.specs.{Counted.DxeStartsCount, Counted.PeiStartsCount, OneStep.OneDxeStep, OneStep.OnePeiStep};
 ghost use Rattle.recorded_boot.specs.{Order.OrderIsOfStarts, Leading.DxeStartsLead, Leading.PeiStartsLead};
 
-/// From a machine of PEI the starts of a boot tell which of the free steps it takes.
+/// From a machine of PEI, the starts of a boot determine which of the free steps it takes.
 pub fn one_pei_step()
     ensures { OnePeiStep }
 {}
 
-/// From a machine of DXE the starts of a boot tell which of the free steps it takes.
+/// From a machine of DXE, the starts of a boot determine which of the free steps it takes.
 pub fn one_dxe_step()
     ensures { OneDxeStep }
 {}
 
-/// The free boots that start what was started up to a machine are those that go on from it.
+/// The free boots that start what was started up to a machine are those that continue from it.
 pub fn starts_lead()
     ensures pei { PeiStartsLead }
     ensures dxe { DxeStartsLead }
 {}
 
-/// The starts of which the lines of a free boot tell are as many as its machines have counted.
+/// The lines of a free boot show as many starts as its machines have counted.
 pub fn starts_count()
     ensures pei { PeiStartsCount }
     ensures dxe { DxeStartsCount }
 {}
 
-/// The order of the starts of lines asks for the starts of which the lines tell, and for no other.
+/// The order of the starts among lines asks for exactly those starts.
 pub fn order_is_of_starts()
     ensures { OrderIsOfStarts }
 {}

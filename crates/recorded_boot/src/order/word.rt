@@ -8,7 +8,7 @@ use pi_base::Guid;
 // Every number of a volume is below this one.
 const VOLUMES_END: u64 = 1 << 32;
 
-// The first word of what is left of a line, and what is left behind it.
+// The first word of what is left of a line, and what is left after it.
 pub(crate) fn next_word(line: &[u8]) -> Option<(&[u8], &[u8])>
     requires { slice_index line.now 0 ≢ 32 }
     ensures { Cuts line.now result }

@@ -1,4 +1,4 @@
-//! The choice that a text has: the module that starts next is the one of which the text's next line says so, and each is let.
+//! The choice by a text: it names the module whose start is the text's next line, and allows each.
 ghost use Rattle.recorded_boot.specs.Starting.{NamesNext};
 
 use crate::order::Names;
@@ -7,7 +7,7 @@ use crate::trace::text_start::next_start;
 use boot_laws::Choice;
 use pi_base::Phase;
 
-/// The module whose start is the next line of the text that the boot is held against.
+/// The module whose start is the next line of the text with which the boot is compared.
 #[derive(Clone, Copy)]
 pub struct ByText<'n> {
     /// The names of the modules.

@@ -24,7 +24,7 @@ pub(crate) fn before(bytes: &[u8], at: usize) -> &[u8]
     front
 }
 
-// Whether this byte stands at a place.
+// Whether this byte is at a place.
 fn has_byte(bytes: &[u8], at: usize, byte: u8) -> bool
     ensures { IsTrue result ↔ (slice_get bytes.now at ≡ Some byte) }
 {
@@ -34,7 +34,7 @@ fn has_byte(bytes: &[u8], at: usize, byte: u8) -> bool
     }
 }
 
-/// The place of the first byte of a piece that does not stand in the bytes. None where they begin with the piece.
+/// The index of the first byte in which a piece differs from the bytes. None if the bytes begin with the piece.
 pub(crate) fn first_other(bytes: &[u8], piece: &[u8]) -> Option<usize>
     ensures { MatchOption result (IsPrefix piece.now bytes.now) (IsOtherAt bytes.now piece.now) }
 {
@@ -49,7 +49,7 @@ pub(crate) fn first_other(bytes: &[u8], piece: &[u8]) -> Option<usize>
     None
 }
 
-/// The bytes before the first line feed. None where there is none.
+/// The bytes before the first line feed. None if there is no line feed.
 pub(crate) fn first_line(bytes: &[u8]) -> Option<&[u8]>
     ensures { MatchOption result (Lacks bytes.now) (λ line. BeginsWithLine bytes.now line.now) }
 {

@@ -21,7 +21,7 @@ use pi_base::{OutOfMemory, Seq};
 use std::alloc::Global;
 use store_model::PeiStore;
 
-/// Why a text is not checked.
+/// Why a text could not be checked.
 #[derive(Clone, Copy, Debug)]
 pub enum CheckFault {
     /// The first fault of the images.
@@ -46,7 +46,7 @@ impl From<OutOfMemory> for CheckFault {
     }
 }
 
-// The first fault of the images, or want of memory.
+// The first fault of the images, or that memory ran out.
 fn fault_of(fault: ImageFault) -> CheckFault
     ensures { IsFaultTold fault result }
 {
@@ -126,8 +126,9 @@ fn check_catalog(
     Ok(verdict_over(alloc, plan, catalog, &names, roms, text)?)
 }
 
-/// Whether a text is the trace of a boot of a plan and its images in which the dispatchers chose freely: any eligible PEIM in the place of the first, and any eligible driver with its group.
-/// There are as many images as volumes of the plan, and the text has at most 64 MiB. The images' first fault comes first, then the first volume with two modules of one name.
+/// Checks whether a text is the trace of a boot of a plan and its images in which the dispatchers chose freely: any eligible PEIM in the place of the first,
+/// and any eligible driver with its group. There are as many images as volumes of the plan, and the text has at most 64 MiB. The images' first fault comes
+/// first, then the first volume with two modules of one name.
 pub fn check(
     alloc: Global,
     plan: &Plan,

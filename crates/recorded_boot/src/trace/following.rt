@@ -19,7 +19,7 @@ use mod_catalog::Catalog;
 use std::alloc::Global;
 use store_model::PeiStore;
 
-// What following a boot comes to, by how the boot ended or why it was given up.
+// The verdict on the text, by how the boot ended or why it was abandoned.
 fn followed<M: PeiStore + Drop>(booted: Result<Booted<M>, Halt>) -> Result<(), Parted>
     ensures { IsFollowed booted result }
 {

@@ -5,10 +5,10 @@ ghost use Rattle.recorded_boot.specs.declared.trace.parted.Parted.TheVariants.{O
 use boot_io::{Halt, SinkFault};
 use pi_base::OutOfMemory;
 
-/// Why a boot is followed no further.
+/// Why a boot was not followed to its end.
 #[derive(Clone, Copy)]
 pub enum Parted {
-    /// The text is no boot's that goes on as what was met.
+    /// The text is no boot's that continues as what was met.
     Off,
     /// Want of memory.
     Memory,

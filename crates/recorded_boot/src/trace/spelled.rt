@@ -6,7 +6,8 @@ ghost use Rattle.std.proofs.Props.{props};
 use crate::trace::bytes::{before, behind, count_feeds, first_line, first_other};
 use boot_io::{Sink, SinkFault};
 
-/// A text that a boot is held against, as a sink: a piece that is put is compared with the text at the place that was met. The first byte that does not stand there is kept, and no more is met from then on.
+/// A sink that compares a boot's output with a text: each piece must be the next one of the text. The first byte that differs is kept, and nothing more is
+/// matched after it.
 #[derive(Drop)]
 pub struct Spelled<'a> {
     text: &'a [u8],
@@ -21,7 +22,7 @@ pub struct Spelled<'a> {
 impl<'a> Spelled<'a> {
     ghost use Rattle.recorded_boot.specs.Spelled.{whole, met, left, IsRight};
 
-    /// A text of which nothing was met yet.
+    /// A text of which nothing is matched yet.
     pub fn new(text: &'a [u8]) -> Spelled<'a>
         ensures whole { whole result ≡ text.now }
         ensures met { met result ≡ [] }
@@ -35,14 +36,14 @@ impl<'a> Spelled<'a> {
         }
     }
 
-    /// The beginning of the text that was met.
+    /// The beginning of the text that was matched.
     pub fn met(&self) -> &[u8]
         ensures { result.now ≡ met self.now }
     {
         before(self.text, self.at)
     }
 
-    /// The next line of the text, without its line feed. None where no line feed follows, or what was put is not the text.
+    /// The next line of the text, without its line feed. None if no line feed follows, or the output already differs from the text.
     pub fn next_line(&self) -> Option<&[u8]>
         ensures { IsRight self.now → MatchOption result (Lacks (left self.now)) (λ line. BeginsWithLine (left self.now) line.now) }
     {
@@ -52,14 +53,14 @@ impl<'a> Spelled<'a> {
         }
     }
 
-    /// Whether all of the text was met, and nothing else was put.
+    /// Whether all of the text was matched, and nothing else was written.
     pub fn is_at_end(&self) -> bool
         ensures { IsTrue result ↔ (IsRight self.now × (met self.now ≡ whole self.now)) }
     {
         self.wrong.is_none() && self.at == self.text.len()
     }
 
-    /// The number of the line at which the text stands: 1, and one more for each line feed that was met.
+    /// The number of the text's line that is compared next: 1, plus one for each matched line feed.
     pub fn line(&self) -> u32
         requires few { length (whole self.now) < 2 ^ 32 - 1 }
         ensures { result ≡ 1 + feeds_in (met self.now) }

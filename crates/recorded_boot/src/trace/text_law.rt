@@ -1,7 +1,7 @@
-// Laws of a text, on which those stand who hold a boot against it.
+// Laws of a text that is compared with a boot's output.
 ghost use Rattle.recorded_boot.specs.Putting.{PutsGoOn, PutsPart};
 
-/// What was put without a failure stands in the text behind what was met; and where a piece failed, the text and what was put part at what was met.
+/// What was written without a failure is in the text after what was matched. If a piece failed, the text and the output differ after what was matched.
 pub fn text_tells()
     ensures goes { PutsGoOn }
     ensures parts { PutsPart }

@@ -1,4 +1,4 @@
-// The start with which a text goes on.
+// The start with which a text continues.
 ghost use Rattle.std.specs.Prelude.{◌≡◌, ℕ, Some};
 ghost use Rattle.boot_io.specs.Faults.{IsPrefix};
 ghost use Rattle.boot_model.specs.{declared.licence.Licence.Licence, Text.line_text};
@@ -12,7 +12,7 @@ use boot_model::Line;
 use pi_base::{Guid, Phase};
 use trace_reader::{one_reading, start_line};
 
-// The volume and the file name of the module that starts in a phase by this line. None where none does.
+// The volume and the file name of the module that starts in a phase by this line. None if it is not such a line.
 fn module_start(line: &Line, phase: Phase) -> Option<(u32, Guid)>
     ensures { (volume : ℕ) (name : OfGuid) (licence : Licence) → line.now ≡ phase_start phase volume name licence
         → result ≡ Some (volume, name) }
@@ -23,7 +23,7 @@ fn module_start(line: &Line, phase: Phase) -> Option<(u32, Guid)>
     }
 }
 
-// The same of the bytes of a line.
+// The volume and the file name of the module that starts in a phase by the bytes of a line. None if they are not such a line.
 fn start_in(line: &[u8], phase: Phase) -> Option<(u32, Guid)>
     ensures { (volume : ℕ) (name : OfGuid) (licence : Licence) → IsLineOf line.now (phase_start phase volume name licence)
         → result ≡ Some (volume, name) }
@@ -35,7 +35,7 @@ fn start_in(line: &[u8], phase: Phase) -> Option<(u32, Guid)>
     }
 }
 
-/// The volume and the file name of the module whose start in a phase is the next line of a text. Of a text that goes on otherwise the contract says nothing.
+/// The volume and the file name of the module whose start in a phase is the next line of a text. Of a text that continues otherwise the contract says nothing.
 pub fn next_start(text: &Spelled<'_>, phase: Phase) -> Option<(u32, Guid)>
     ensures { IsRight text.now → (volume : ℕ) (name : OfGuid) (licence : Licence) → IsReadable (phase_start phase volume name licence)
         → IsPrefix (line_text (phase_start phase volume name licence)) (left text.now) → result ≡ Some (volume, name) }

@@ -8,7 +8,7 @@ ghost use Rattle.recorded_boot.specs.{FollowingText.Follows, FollowingText.IsSho
 use crate::trace::{Parted, Spelled};
 use pi_base::OutOfMemory;
 
-/// What the check of a text answers.
+/// The answer of the check of a text.
 #[derive(Clone, Copy)]
 pub enum Verdict {
     /// The text is the whole text of some free boot.

@@ -1,9 +1,9 @@
-//! What a state answers is what its image tells.
+//! What a state says can be read from its image.
 ghost use Rattle.store_laws.specs.Accessors.{CallbackIsTold, DispatchIsTold, HasIsTold, ImagesTellAll, ListsAreTold, NthIsTold, PendingIsTold, PpiIsTold};
 
 use pi_base::little_endian;
 
-/// What a state answers is what the bytes of its image tell, where its numbers fit.
+/// What a state says is what the bytes of its image say, if its numbers fit.
 pub fn lists_told()
     ensures lists { ListsAreTold }
     ensures ppi { PpiIsTold }

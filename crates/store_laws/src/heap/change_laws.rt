@@ -1,7 +1,7 @@
 //! What the other services change.
 ghost use Rattle.store_laws.specs.Changes.{BootModesAreWritten, PairsArePopped, PoolsAreWritten, PpisAreRenamed};
 
-/// What the other services change is one text at a place.
+/// Each of the other services changes one run of bytes at one place.
 pub fn bodies_changed()
     ensures popped { PairsArePopped }
     ensures renamed { PpisAreRenamed }

@@ -2,7 +2,7 @@
 ghost use Rattle.store_laws.specs.Facts.{ImagesFill};
 ghost use Rattle.store_laws.specs.Spelling.{BodiesAreRead, BodiesAreWritten, HobsAreAppended};
 
-/// A body is read where its HOB stands, a body that changes changes its bytes alone, and a HOB that is added stands behind the others.
+/// A body is read at its HOB's place. A changed body changes its own bytes alone, and a new HOB follows the others.
 pub fn bodies_spelled()
     ensures read { BodiesAreRead }
     ensures written { BodiesAreWritten }

@@ -4,7 +4,7 @@ ghost use Rattle.store_laws.specs.Linking.{CallbacksAreLinked, DispatchesAreLink
 
 use pi_base::little_endian;
 
-/// An entry that takes a new node is linked behind the others of its list.
+/// An entry that takes a new node is linked after the others of its list.
 pub fn nodes_linked()
     ensures ppi { PpisAreLinked }
     ensures callback { CallbacksAreLinked }

@@ -1,7 +1,7 @@
 //! The heap in memory.
 ghost use Rattle.store_laws.specs.{Descriptors.VolumesAreApart, Mapped.FirstMemories, Mapped.HeapsAreRead, Peeking.MemoryIsRead};
 
-/// What memory reads where its heap is known.
+/// What memory reads if its heap is known.
 pub fn memory_read()
     ensures first { FirstMemories }
     ensures heap { HeapsAreRead }

@@ -17,7 +17,7 @@ pub fn handoff_read()
     little_endian();
 }
 
-/// What is read from the nodes of a list, and that the nodes that are linked are those of the list.
+/// What is read from the nodes of a list, and that the linked nodes are those of the list.
 pub fn nodes_read()
     ensures next { NextIsRead }
     ensures descriptor { DescriptorIsRead }

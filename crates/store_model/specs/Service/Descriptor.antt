@@ -1,5 +1,5 @@
--- Descriptors: a descriptor of a PPI or a notification is made in a pool. Its GUID stands behind it or in a volume.
--- What stands at a place that is no descriptor's is never asked for.
+-- Descriptors: a descriptor of a PPI or a notification is made in a pool. Its GUID is after it or in a volume. What is at a place that is no descriptor's is
+-- never asked for.
 -- PI 1.8, volume 1, `EFI_PEI_PPI_DESCRIPTOR` and `EFI_PEI_NOTIFY_DESCRIPTOR`.
 use Rattle.std.specs.Prelude.{ℕ, ◌+◌, Bool, true, false, ◌==◌, ◌||◌, List, [], ◌++◌, map, Option, Some, None, option_map, unwrap_or, Ok, Err}
 use Rattle.std.specs.List.{list_any}
@@ -11,12 +11,12 @@ use Rattle.store_model.specs.declared.store_handle.GuidFrom.TheVariants.{Inline,
 use Rattle.store_model.specs.{declared.store_handle.StoreFault.TheVariants.Bad, MemoryReading.rom_bytes, Service.Service, Service.in_room}
 use Rattle.store_model.specs.StoreState.{Entry, DescriptorBody, Body, Bytes, Descriptor, Node, Allocation, StoreState, next_body, header_len, body_at, appended, pool_of, descriptor_len}
 
--- the GUID, and its address where it stands in a volume; none where an address has no 16 bytes in one volume
+-- the GUID, and its address if it is in a volume; nothing if no single volume has 16 bytes at the address
 abbrev pub guid_from : StoreState → GuidFrom → Option (Guid × Option ℕ)
 guid_from s (Inline guid) = Some (guid, None)
 guid_from s (At address) = option_map (λ bytes. (record { 0 = bytes }, Some address)) (rom_bytes s.board.roms address 16)
 
--- the same with a GUID that was found, or none
+-- the descriptor's call with the GUID that was found, if one was
 abbrev pub desc_of : StoreState → DescKind → ℕ → Option (Guid × Option ℕ) → Service Desc
 desc_of s kind number None = Err Bad
 desc_of s kind number (Some (guid, stands)) =
@@ -37,7 +37,7 @@ descriptor_of (Bytes bytes) = None
 descriptor_of Node = None
 descriptor_of (Allocation a) = None
 
--- and that a body is, where there is one
+-- and that a body is, if there is one
 abbrev pub descriptor_in : Option Body → Option DescriptorBody
 descriptor_in None = None
 descriptor_in (Some body) = descriptor_of body
@@ -62,7 +62,7 @@ is_callback Dispatch = false
 abbrev pub kind_at : StoreState → ℕ → DescKind
 kind_at s place = unwrap_or (option_map (λ d. d.kind) (descriptor_at s place)) Dispatch
 
--- what is said where no descriptor stands
+-- the GUID that is given if there is no descriptor
 abbrev pub no_guid : Guid
 no_guid = record { 0 = [] }
 
@@ -70,7 +70,7 @@ no_guid = record { 0 = [] }
 abbrev pub guid_at : StoreState → ℕ → Guid
 guid_at s place = unwrap_or (option_map (λ d. d.guid) (descriptor_at s place)) no_guid
 
--- the value of the PPI, or the entry of the notification, whose descriptor stands at a place
+-- the value of the PPI, or the entry of the notification, whose descriptor is at a place
 abbrev pub number_at : StoreState → ℕ → ℕ
 number_at s place = unwrap_or (option_map (λ d. d.number) (descriptor_at s place)) 0
 

@@ -1,4 +1,4 @@
--- A HOB is made, behind the others. PI 1.8, volume 1, `CreateHob()`.
+-- A HOB is made, after the others. PI 1.8, volume 1, `CreateHob()`.
 use Rattle.std.specs.Prelude.{ℕ, ◌+◌, Ok}
 use Rattle.hob_codec.specs.HobValue.{HobValue, kind_of}
 use Rattle.hob_codec.specs.HobBytes.{length_of, fields_of, joined}

@@ -51,11 +51,11 @@ install_sweep s list = record {
   note_at = 0;
 }
 
--- the state with these PPIs, and with their pairs behind those that are queued
+-- the state with these PPIs, and with their pairs after those that are queued
 abbrev pub installed : StoreState → List Desc → ℕ → StoreState
 installed s list by = fold (with_pending by) (fold (with_ppi by) s list) (install_pairs s list)
 
--- `InstallPpi()`: Bad where one of these is no PPI's descriptor, then Full, where the nodes of the PPIs and of the pairs have no room
+-- `InstallPpi()`: Bad if one of these is not a PPI's descriptor, then Full if the nodes of the PPIs and of the pairs have no room
 abbrev pub install : StoreState → List Desc → ℕ → Service Sweep
 install s list by =
     unless_bad (not (list_all (λ d. is_ppi (kind_at s d.offset)) list))
@@ -67,7 +67,7 @@ renamed [] old new = []
 renamed (entry ∷ entries) old new =
     if entry.descriptor == old then record entry { descriptor = new } ∷ entries else entry ∷ renamed entries old new
 
--- how many PPIs stand before it
+-- how many PPIs are before it
 abbrev pub place_of : List Entry → ℕ → ℕ
 place_of [] old = 0
 place_of (entry ∷ entries) old = if entry.descriptor == old then 0 else 1 + place_of entries old
@@ -94,7 +94,7 @@ reinstalled s old new by = fold (with_pending by) (record s { ppis = renamed s.p
 abbrev pub is_installed : StoreState → Desc → Bool
 is_installed s d = list_any (λ place. place == d.offset) (descriptors s.ppis)
 
--- `ReInstallPpi()`: Bad where the new one is no PPI's descriptor, Missing where no PPI names the old one, then Full
+-- `ReInstallPpi()`: Bad if the new one is not a PPI's descriptor, Missing if no PPI names the old one, then Full
 abbrev pub reinstall : StoreState → Desc → Desc → ℕ → Service Sweep
 reinstall s old new by =
     unless_bad (not (is_ppi (kind_at s new.offset)))
@@ -106,7 +106,7 @@ abbrev pub both_or_full : Service Sweep → Service Sweep
 both_or_full (Ok done) = Ok done
 both_or_full (Err fault) = Err Full
 
--- the second part of the core's call, behind the descriptor
+-- the second part of the core's call, after the descriptor
 abbrev pub core_of : Service Desc → Service Sweep
 core_of (Err fault) = Err Full
 core_of (Ok (d, made)) = both_or_full (install made (d ∷ []) CORE)

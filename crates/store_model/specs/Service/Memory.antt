@@ -32,7 +32,7 @@ abbrev pub allocation_hob : ℕ → ℕ → ℕ → HobEntry
 allocation_hob memory_type len below =
     record { kind = ALLOCATION; body = Allocation (record { memory_type = memory_type; len = len; below = below }) }
 
--- so many bytes of pages are taken, and the HOB that tells of them stands behind the others
+-- so many bytes of pages are taken, and a HOB for them follows the others
 abbrev pub with_pages : StoreState → ℕ → ℕ → StoreState
 with_pages s memory_type len = record (appended s (allocation_hob memory_type len (s.taken + len))) { taken = s.taken + len }
 

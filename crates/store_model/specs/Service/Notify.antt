@@ -45,11 +45,11 @@ notify_sweep s list = record {
   note_at = length s.callbacks;
 }
 
--- the state with these notifications, and with their pairs behind those that are queued
+-- the state with these notifications, and with their pairs after those that are queued
 abbrev pub notified : StoreState → List Desc → ℕ → StoreState
 notified s list by = fold (with_pending by) (fold (with_note by) s list) (notify_pairs s list)
 
--- `NotifyPpi()`: Bad where one of these is a PPI's descriptor, then Full, where the nodes of the notifications and of the pairs have no room
+-- `NotifyPpi()`: Bad if one of these is a PPI's descriptor, then Full if the nodes of the notifications and of the pairs have no room
 abbrev pub notify : StoreState → List Desc → ℕ → Service Sweep
 notify s list by =
     unless_bad (list_any (λ d. is_ppi (kind_at s d.offset)) list)

@@ -23,7 +23,7 @@ written at bytes (Descriptor d) = Descriptor d
 written at bytes Node = Node
 written at bytes (Allocation a) = Allocation a
 
--- the state with the bytes at an offset of a pool; none where they pass its size
+-- the state with the bytes written at an offset of a pool; nothing if they pass its size
 abbrev pub store : StoreState → Pool → ℕ → List ℕ → Option StoreState
 store s to at bytes =
     if nat_lt to.size (at + length bytes) then None

@@ -8,7 +8,7 @@ use Rattle.store_model.specs.StoreState.{StoreState, Pending, Body, Bytes, with_
 abbrev pub zeroed : Body → Body
 zeroed body = Bytes (replicate node_len 0)
 
--- the first of these pairs, and the state without it; none where there is none
+-- the first of these pairs, and the state without it; nothing if there is no pair
 abbrev pub popped : StoreState → List Pending → Option (Firing × StoreState)
 popped s [] = None
 popped s (first ∷ rest) =

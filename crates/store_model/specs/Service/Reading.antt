@@ -1,4 +1,4 @@
--- What a store tells of its lists and of its HOBs, without a change. Places count from 0.
+-- What can be read of a store's lists and of its HOBs, without a change. Places count from 0.
 -- PI 1.8, volume 1, `LocatePpi()`; the other readings are own.
 use Rattle.std.specs.Prelude.{ℕ, ◌+◌, Bool, ◌==◌, ◌&&◌, if◌then◌else◌, not, List, [], ◌∷◌, map, Option, Some, None, option_map, filter, slice_get, is_some}
 use Rattle.pi_base.specs.{declared.guid.Guid.Guid, Field.little_number, Guids.same_guid}
@@ -41,33 +41,33 @@ pending_at s place = option_map (λ pending. (guid_at s pending.ppi, number_at s
 abbrev pub descriptor : StoreState → Desc → Guid × ℕ
 descriptor s d = (guid_at s d.offset, number_at s d.offset)
 
--- what is told of an entry
+-- what can be read of an entry
 abbrev pub entry_told : StoreState → Entry → EntryTold
 entry_told s entry = record { node = entry.node; guid = guid_at s entry.descriptor; number = number_at s entry.descriptor; by = entry.by }
 
--- what is told of a queued pair: the PPI's GUID and the notification's entry
+-- what can be read of a queued pair: the PPI's GUID and the notification's entry
 abbrev pub pending_told : StoreState → Pending → EntryTold
 pending_told s pending =
     record { node = pending.node; guid = guid_at s pending.ppi; number = number_at s pending.descriptor; by = pending.by }
 
--- what is told of all entries of a list, in order
+-- what can be read of all entries of a list, in order
 abbrev pub told_of : StoreState → EntryList → List EntryTold
 told_of s Ppis = map (entry_told s) s.ppis
 told_of s Callbacks = map (entry_told s) s.callbacks
 told_of s Dispatches = map (entry_told s) s.dispatches
 told_of s Pendings = map (pending_told s) s.pendings
 
--- those behind the one with a node
+-- those after the one with a node
 abbrev pub behind_node : ℕ → List EntryTold → List EntryTold
 behind_node node [] = []
 behind_node node (told ∷ rest) = if told.node == node then rest else behind_node node rest
 
--- those that are left behind a node, and all where none is given
+-- the entries after a node, or all if no node is given
 abbrev pub told_behind : Option ℕ → List EntryTold → List EntryTold
 told_behind None told = told
 told_behind (Some node) told = behind_node node told
 
--- the entry behind the one with a node, and the first where none is given
+-- the entry after the one with a node, or the first if no node is given
 abbrev pub entry_behind : StoreState → EntryList → Option ℕ → Option EntryTold
 entry_behind s list node = slice_get (told_behind node (told_of s list)) 0
 
@@ -75,7 +75,7 @@ entry_behind s list node = slice_get (told_behind node (told_of s list)) 0
 abbrev pub memory_due : StoreState → Bool
 memory_due s = is_some s.planned && not s.moved
 
--- the HOB at an offset, where the first of these stands at `at`
+-- the HOB at an offset, if the first of these is at `at`
 abbrev pub span_from : ℕ → List HobEntry → ℕ → Option HobSpan
 span_from at [] offset = None
 span_from at (hob ∷ hobs) offset =
@@ -88,10 +88,10 @@ hob_at s offset =
     if offset == 0 then Some (record { kind = HANDOFF; length = handoff_len; next = handoff_len })
     else span_from handoff_len s.hobs offset
 
--- the bases of the volumes that FV HOBs tell of
+-- the FV HOBs, which report volumes
 abbrev pub volume_hobs : StoreState → List HobEntry
 volume_hobs s = filter (λ hob. hob.kind == VOLUME) s.hobs
 
--- those bases, in order of the HOBs
+-- the bases of these volumes, in order of the HOBs
 abbrev pub fv_bases : StoreState → List ℕ
 fv_bases s = map (λ hob. little_number 8 (body_bytes s 0 hob.body)) (volume_hobs s)
