@@ -125,65 +125,41 @@ made code.Schedule x = action.Schedule x
 made code.Process x = action.Process x
 made code.Dispatch x = action.Dispatch
 
--- the code of an action
-abbrev pub code_of_action : Action → Code
-code_of_action (action.Set r n) = code.Set
-code_of_action (action.Add r n) = code.Add
-code_of_action (action.Pool r size) = code.Pool
-code_of_action (action.Store p offset bytes) = code.Store
-code_of_action (action.Addr v x offset) = code.Addr
-code_of_action (action.Peek v n) = code.Peek
-code_of_action (action.Desc d kind guid arg) = code.Desc
-code_of_action (action.Install list) = code.Install
-code_of_action (action.Reinstall old new) = code.Reinstall
-code_of_action (action.Notify list) = code.Notify
-code_of_action (action.Locate d v guid instance) = code.Locate
-code_of_action (action.Hob kind body) = code.Hob
-code_of_action (action.Memory begin length) = code.Memory
-code_of_action (action.Pages r memory_type count) = code.Pages
-code_of_action (action.BootMode form r) = code.BootMode
-code_of_action (action.Log text) = code.Log
-code_of_action (action.SkipIf condition n) = code.SkipIf
-code_of_action (action.Ret status) = code.Ret
-code_of_action action.Shadow = code.Shadow
-code_of_action (action.DxeInstall form h guid v) = code.DxeInstall
-code_of_action (action.DxeReinstall h guid old new) = code.DxeReinstall
-code_of_action (action.DxeUninstall h guid v) = code.DxeUninstall
-code_of_action (action.DxeLocate h v guid) = code.DxeLocate
-code_of_action (action.DxeNotify guid block) = code.DxeNotify
-code_of_action (action.Schedule guid) = code.Schedule
-code_of_action (action.Process v) = code.Process
-code_of_action action.Dispatch = code.Dispatch
+-- an action as its code and its operands, in order
+abbrev pub coded : Action → (c : Code) × Value (format_of c)
+coded (action.Set r n) = (code.Set, (r, n))
+coded (action.Add r n) = (code.Add, (r, n))
+coded (action.Pool r size) = (code.Pool, (r, size))
+coded (action.Store p offset bytes) = (code.Store, (p, (offset, bytes)))
+coded (action.Addr v x offset) = (code.Addr, (v, (x, offset)))
+coded (action.Peek v n) = (code.Peek, (v, n))
+coded (action.Desc d kind guid arg) = (code.Desc, (d, (kind, guid, arg)))
+coded (action.Install list) = (code.Install, list)
+coded (action.Reinstall old new) = (code.Reinstall, (old, new))
+coded (action.Notify list) = (code.Notify, list)
+coded (action.Locate d v guid instance) = (code.Locate, (d, (v, (guid, instance))))
+coded (action.Hob kind body) = (code.Hob, (kind, body))
+coded (action.Memory begin length) = (code.Memory, (begin, length))
+coded (action.Pages r memory_type count) = (code.Pages, (r, (memory_type, count)))
+coded (action.BootMode form r) = (code.BootMode, (form, r))
+coded (action.Log text) = (code.Log, text)
+coded (action.SkipIf condition n) = (code.SkipIf, (condition, n))
+coded (action.Ret status) = (code.Ret, status)
+coded action.Shadow = (code.Shadow, tt)
+coded (action.DxeInstall form h guid v) = (code.DxeInstall, (form, (h, (guid, v))))
+coded (action.DxeReinstall h guid old new) = (code.DxeReinstall, (h, (guid, (old, new))))
+coded (action.DxeUninstall h guid v) = (code.DxeUninstall, (h, (guid, v)))
+coded (action.DxeLocate h v guid) = (code.DxeLocate, (h, (v, guid)))
+coded (action.DxeNotify guid block) = (code.DxeNotify, (guid, block))
+coded (action.Schedule guid) = (code.Schedule, guid)
+coded (action.Process v) = (code.Process, v)
+coded action.Dispatch = (code.Dispatch, tt)
 
--- its operands, in order
+abbrev pub code_of_action : Action → Code
+code_of_action a = (coded a).0
+
 abbrev pub operands : (a : Action) → Value (format_of (code_of_action a))
-operands (action.Set r n) = (r, n)
-operands (action.Add r n) = (r, n)
-operands (action.Pool r size) = (r, size)
-operands (action.Store p offset bytes) = (p, (offset, bytes))
-operands (action.Addr v x offset) = (v, (x, offset))
-operands (action.Peek v n) = (v, n)
-operands (action.Desc d kind guid arg) = (d, (kind, guid, arg))
-operands (action.Install list) = list
-operands (action.Reinstall old new) = (old, new)
-operands (action.Notify list) = list
-operands (action.Locate d v guid instance) = (d, (v, (guid, instance)))
-operands (action.Hob kind body) = (kind, body)
-operands (action.Memory begin length) = (begin, length)
-operands (action.Pages r memory_type count) = (r, (memory_type, count))
-operands (action.BootMode form r) = (form, r)
-operands (action.Log text) = text
-operands (action.SkipIf condition n) = (condition, n)
-operands (action.Ret status) = status
-operands action.Shadow = tt
-operands (action.DxeInstall form h guid v) = (form, (h, (guid, v)))
-operands (action.DxeReinstall h guid old new) = (h, (guid, (old, new)))
-operands (action.DxeUninstall h guid v) = (h, (guid, v))
-operands (action.DxeLocate h v guid) = (h, (v, guid))
-operands (action.DxeNotify guid block) = (guid, block)
-operands (action.Schedule guid) = guid
-operands (action.Process v) = v
-operands action.Dispatch = tt
+operands a = (coded a).1
 
 -- the code that a byte is
 abbrev pub code_of : ℕ → Option Code
