@@ -1,4 +1,4 @@
--- The table of actions (own): each one's code, its phases and its operands.
+-- The table of actions (own): each one's code, its phases, its name and its operands.
 use Rattle.std.specs.Prelude.{ℕ, Bool, true, false, ◌==◌, codes, find, List, Option}
 use Rattle.pi_base.specs.{declared.phase.Phase.Phase, declared.phase.Phase.TheVariants.Pei, declared.phase.Phase.TheVariants.Dxe}
 use Rattle.act_code.specs.{declared.code.Code.Code, declared.code.TheConstants.CODES, declared.action.Action.Action}
@@ -22,69 +22,44 @@ is_owned Dxe dxe = true
 pub record Row : Type 0 where
   pub number : ℕ
   pub owner : Owner
+  pub name : List ℕ
   pub format : Format
 
-abbrev row : ℕ → Owner → Format → Row
-row n o f = record { number = n; owner = o; format = f }
+abbrev row : ℕ → Owner → List ℕ → Format → Row
+row number owner name format = record { number = number; owner = owner; name = name; format = format }
 
 abbrev pub row_of : Code → Row
-row_of code.Set = row 0x01 both (Pair RegisterNumber (Little 8))
-row_of code.Add = row 0x02 both (Pair RegisterNumber (Little 8))
-row_of code.Pool = row 0x03 pei (Pair RegisterNumber (Little 4))
-row_of code.Store = row 0x04 pei (Pair RegisterNumber (Pair (Little 4) Counted))
-row_of code.Addr = row 0x06 pei (Pair RegisterNumber (Pair RegisterNumber (Little 4)))
-row_of code.Peek = row 0x07 both (Pair RegisterNumber (Within 1 64))
-row_of code.Desc = row 0x08 pei (Pair RegisterNumber Descriptor)
-row_of code.Install = row 0x09 pei Registers
-row_of code.Reinstall = row 0x0a pei (Pair RegisterNumber RegisterNumber)
-row_of code.Notify = row 0x0b pei Registers
-row_of code.Locate = row 0x0c pei (Pair RegisterNumber (Pair RegisterNumber (Pair GuidBytes (Little 2))))
-row_of code.Hob = row 0x0d pei HobBody
-row_of code.Memory = row 0x0e pei (Pair RegisterNumber RegisterNumber)
-row_of code.Pages = row 0x0f pei (Pair RegisterNumber (Pair Byte (Little 4)))
-row_of code.BootMode = row 0x10 pei (Pair (Within 0 1) RegisterNumber)
-row_of code.Log = row 0x11 both Text
-row_of code.SkipIf = row 0x12 both (Pair (Within 0 1) (Within 1 255))
-row_of code.Ret = row 0x13 both WordNumber
-row_of code.Shadow = row 0x14 pei Nothing
-row_of code.DxeInstall = row 0x20 dxe (Pair (Within 0 1) (Pair RegisterNumber (Pair GuidBytes RegisterNumber)))
-row_of code.DxeReinstall = row 0x21 dxe (Pair RegisterNumber (Pair GuidBytes (Pair RegisterNumber RegisterNumber)))
-row_of code.DxeUninstall = row 0x22 dxe (Pair RegisterNumber (Pair GuidBytes RegisterNumber))
-row_of code.DxeLocate = row 0x23 dxe (Pair RegisterNumber (Pair RegisterNumber GuidBytes))
-row_of code.DxeNotify = row 0x24 dxe (Pair GuidBytes BlockNumber)
-row_of code.Schedule = row 0x25 dxe GuidBytes
-row_of code.Process = row 0x26 dxe RegisterNumber
-row_of code.Dispatch = row 0x27 dxe Nothing
+row_of code.Set = row 0x01 both (codes "set") (Pair RegisterNumber (Little 8))
+row_of code.Add = row 0x02 both (codes "add") (Pair RegisterNumber (Little 8))
+row_of code.Pool = row 0x03 pei (codes "pool") (Pair RegisterNumber (Little 4))
+row_of code.Store = row 0x04 pei (codes "store") (Pair RegisterNumber (Pair (Little 4) Counted))
+row_of code.Addr = row 0x06 pei (codes "addr") (Pair RegisterNumber (Pair RegisterNumber (Little 4)))
+row_of code.Peek = row 0x07 both (codes "peek") (Pair RegisterNumber (Within 1 64))
+row_of code.Desc = row 0x08 pei (codes "desc") (Pair RegisterNumber Descriptor)
+row_of code.Install = row 0x09 pei (codes "install") Registers
+row_of code.Reinstall = row 0x0a pei (codes "reinstall") (Pair RegisterNumber RegisterNumber)
+row_of code.Notify = row 0x0b pei (codes "notify") Registers
+row_of code.Locate = row 0x0c pei (codes "locate") (Pair RegisterNumber (Pair RegisterNumber (Pair GuidBytes (Little 2))))
+row_of code.Hob = row 0x0d pei (codes "hob") HobBody
+row_of code.Memory = row 0x0e pei (codes "memory") (Pair RegisterNumber RegisterNumber)
+row_of code.Pages = row 0x0f pei (codes "pages") (Pair RegisterNumber (Pair Byte (Little 4)))
+row_of code.BootMode = row 0x10 pei (codes "boot_mode") (Pair (Within 0 1) RegisterNumber)
+row_of code.Log = row 0x11 both (codes "log") Text
+row_of code.SkipIf = row 0x12 both (codes "skip_if") (Pair (Within 0 1) (Within 1 255))
+row_of code.Ret = row 0x13 both (codes "ret") WordNumber
+row_of code.Shadow = row 0x14 pei (codes "shadow") Nothing
+row_of code.DxeInstall = row 0x20 dxe (codes "install") (Pair (Within 0 1) (Pair RegisterNumber (Pair GuidBytes RegisterNumber)))
+row_of code.DxeReinstall = row 0x21 dxe (codes "reinstall") (Pair RegisterNumber (Pair GuidBytes (Pair RegisterNumber RegisterNumber)))
+row_of code.DxeUninstall = row 0x22 dxe (codes "uninstall") (Pair RegisterNumber (Pair GuidBytes RegisterNumber))
+row_of code.DxeLocate = row 0x23 dxe (codes "locate") (Pair RegisterNumber (Pair RegisterNumber GuidBytes))
+row_of code.DxeNotify = row 0x24 dxe (codes "notify") (Pair GuidBytes BlockNumber)
+row_of code.Schedule = row 0x25 dxe (codes "schedule") GuidBytes
+row_of code.Process = row 0x26 dxe (codes "process") RegisterNumber
+row_of code.Dispatch = row 0x27 dxe (codes "dispatch") Nothing
 
--- the names of actions
+-- the name of an action
 unfoldable pub name_of : Code → List ℕ
-name_of code.Set = codes "set"
-name_of code.Add = codes "add"
-name_of code.Pool = codes "pool"
-name_of code.Store = codes "store"
-name_of code.Addr = codes "addr"
-name_of code.Peek = codes "peek"
-name_of code.Desc = codes "desc"
-name_of code.Install = codes "install"
-name_of code.Reinstall = codes "reinstall"
-name_of code.Notify = codes "notify"
-name_of code.Locate = codes "locate"
-name_of code.Hob = codes "hob"
-name_of code.Memory = codes "memory"
-name_of code.Pages = codes "pages"
-name_of code.BootMode = codes "boot_mode"
-name_of code.Log = codes "log"
-name_of code.SkipIf = codes "skip_if"
-name_of code.Ret = codes "ret"
-name_of code.Shadow = codes "shadow"
-name_of code.DxeInstall = codes "install"
-name_of code.DxeReinstall = codes "reinstall"
-name_of code.DxeUninstall = codes "uninstall"
-name_of code.DxeLocate = codes "locate"
-name_of code.DxeNotify = codes "notify"
-name_of code.Schedule = codes "schedule"
-name_of code.Process = codes "process"
-name_of code.Dispatch = codes "dispatch"
+name_of c = (row_of c).name
 
 abbrev pub number_of : Code → ℕ
 number_of c = (row_of c).number
@@ -125,65 +100,41 @@ made code.Schedule x = action.Schedule x
 made code.Process x = action.Process x
 made code.Dispatch x = action.Dispatch
 
--- the code of an action
-abbrev pub code_of_action : Action → Code
-code_of_action (action.Set r n) = code.Set
-code_of_action (action.Add r n) = code.Add
-code_of_action (action.Pool r size) = code.Pool
-code_of_action (action.Store p offset bytes) = code.Store
-code_of_action (action.Addr v x offset) = code.Addr
-code_of_action (action.Peek v n) = code.Peek
-code_of_action (action.Desc d kind guid arg) = code.Desc
-code_of_action (action.Install list) = code.Install
-code_of_action (action.Reinstall old new) = code.Reinstall
-code_of_action (action.Notify list) = code.Notify
-code_of_action (action.Locate d v guid instance) = code.Locate
-code_of_action (action.Hob kind body) = code.Hob
-code_of_action (action.Memory begin length) = code.Memory
-code_of_action (action.Pages r memory_type count) = code.Pages
-code_of_action (action.BootMode form r) = code.BootMode
-code_of_action (action.Log text) = code.Log
-code_of_action (action.SkipIf condition n) = code.SkipIf
-code_of_action (action.Ret status) = code.Ret
-code_of_action action.Shadow = code.Shadow
-code_of_action (action.DxeInstall form h guid v) = code.DxeInstall
-code_of_action (action.DxeReinstall h guid old new) = code.DxeReinstall
-code_of_action (action.DxeUninstall h guid v) = code.DxeUninstall
-code_of_action (action.DxeLocate h v guid) = code.DxeLocate
-code_of_action (action.DxeNotify guid block) = code.DxeNotify
-code_of_action (action.Schedule guid) = code.Schedule
-code_of_action (action.Process v) = code.Process
-code_of_action action.Dispatch = code.Dispatch
+-- an action as its code and its operands, in order
+abbrev pub coded : Action → (c : Code) × Value (format_of c)
+coded (action.Set r n) = (code.Set, (r, n))
+coded (action.Add r n) = (code.Add, (r, n))
+coded (action.Pool r size) = (code.Pool, (r, size))
+coded (action.Store p offset bytes) = (code.Store, (p, (offset, bytes)))
+coded (action.Addr v x offset) = (code.Addr, (v, (x, offset)))
+coded (action.Peek v n) = (code.Peek, (v, n))
+coded (action.Desc d kind guid arg) = (code.Desc, (d, (kind, guid, arg)))
+coded (action.Install list) = (code.Install, list)
+coded (action.Reinstall old new) = (code.Reinstall, (old, new))
+coded (action.Notify list) = (code.Notify, list)
+coded (action.Locate d v guid instance) = (code.Locate, (d, (v, (guid, instance))))
+coded (action.Hob kind body) = (code.Hob, (kind, body))
+coded (action.Memory begin length) = (code.Memory, (begin, length))
+coded (action.Pages r memory_type count) = (code.Pages, (r, (memory_type, count)))
+coded (action.BootMode form r) = (code.BootMode, (form, r))
+coded (action.Log text) = (code.Log, text)
+coded (action.SkipIf condition n) = (code.SkipIf, (condition, n))
+coded (action.Ret status) = (code.Ret, status)
+coded action.Shadow = (code.Shadow, tt)
+coded (action.DxeInstall form h guid v) = (code.DxeInstall, (form, (h, (guid, v))))
+coded (action.DxeReinstall h guid old new) = (code.DxeReinstall, (h, (guid, (old, new))))
+coded (action.DxeUninstall h guid v) = (code.DxeUninstall, (h, (guid, v)))
+coded (action.DxeLocate h v guid) = (code.DxeLocate, (h, (v, guid)))
+coded (action.DxeNotify guid block) = (code.DxeNotify, (guid, block))
+coded (action.Schedule guid) = (code.Schedule, guid)
+coded (action.Process v) = (code.Process, v)
+coded action.Dispatch = (code.Dispatch, tt)
 
--- its operands, in order
+abbrev pub code_of_action : Action → Code
+code_of_action a = (coded a).0
+
 abbrev pub operands : (a : Action) → Value (format_of (code_of_action a))
-operands (action.Set r n) = (r, n)
-operands (action.Add r n) = (r, n)
-operands (action.Pool r size) = (r, size)
-operands (action.Store p offset bytes) = (p, (offset, bytes))
-operands (action.Addr v x offset) = (v, (x, offset))
-operands (action.Peek v n) = (v, n)
-operands (action.Desc d kind guid arg) = (d, (kind, guid, arg))
-operands (action.Install list) = list
-operands (action.Reinstall old new) = (old, new)
-operands (action.Notify list) = list
-operands (action.Locate d v guid instance) = (d, (v, (guid, instance)))
-operands (action.Hob kind body) = (kind, body)
-operands (action.Memory begin length) = (begin, length)
-operands (action.Pages r memory_type count) = (r, (memory_type, count))
-operands (action.BootMode form r) = (form, r)
-operands (action.Log text) = text
-operands (action.SkipIf condition n) = (condition, n)
-operands (action.Ret status) = status
-operands action.Shadow = tt
-operands (action.DxeInstall form h guid v) = (form, (h, (guid, v)))
-operands (action.DxeReinstall h guid old new) = (h, (guid, (old, new)))
-operands (action.DxeUninstall h guid v) = (h, (guid, v))
-operands (action.DxeLocate h v guid) = (h, (v, guid))
-operands (action.DxeNotify guid block) = (guid, block)
-operands (action.Schedule guid) = guid
-operands (action.Process v) = v
-operands action.Dispatch = tt
+operands a = (coded a).1
 
 -- the code that a byte is
 abbrev pub code_of : ℕ → Option Code

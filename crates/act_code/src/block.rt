@@ -1,5 +1,5 @@
 // The blocks of a script, read action by action.
-ghost use Rattle.std.specs.Prelude.{◌≡◌, ◌≤◌, ◌-◌};
+ghost use Rattle.std.specs.Prelude.{◌≡◌, ◌≤◌, ◌-◌, [], IfOk};
 ghost use Rattle.act_code.specs.ScriptReading.{Gives, fault_at, checked_at, many, count_at, block_at};
 ghost use Rattle.act_code.specs.declared.block.Stop.TheVariants as stop;
 
@@ -73,6 +73,16 @@ fn checked(alloc: Global, header: Header, left: u16, bytes: &[u8]) -> Result<(Ac
     }
 }
 
+// No actions yet, with room for so many.
+fn room_for(alloc: Global, count: u16) -> Result<Seq<Action>, OutOfMemory>
+    ensures { IfOk result (λ actions. actions ≡ []) }
+{
+    match Vec::with_capacity(alloc, usize::from(count)) {
+        Ok(items) => Ok(Seq::from_vec(items)),
+        Err(_) => Err(OutOfMemory),
+    }
+}
+
 // So many actions.
 fn actions_of(
     alloc: Global,
@@ -83,7 +93,7 @@ fn actions_of(
     requires { header.size ≤ 65536 }
     ensures { Gives (λ x. (x.0, x.1.now)) result (many (checked_at header) count bytes.now) }
 {
-    let mut actions = Seq::new(alloc);
+    let mut actions = room_for(alloc, count)?;
     let mut rest = bytes;
     for done in 0..count {
         let (action, after) = checked(alloc, header, count - done, rest)?;

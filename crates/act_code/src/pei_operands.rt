@@ -18,6 +18,7 @@ pub fn pool<S: Source>(source: S) -> Result<(Action, S), S::Fault>
 }
 
 /// Reads `store`: the register of a pool, an offset in its body, and bytes.
+#[inline(never)]
 pub fn store<S: Source>(alloc: Global, source: S) -> Result<(Action, S), S::Fault>
     ensures { Gives S.left S.cause result (operands_by S.way Code.Store (S.left source)) }
 {
@@ -38,6 +39,7 @@ pub fn addr<S: Source>(source: S) -> Result<(Action, S), S::Fault>
 }
 
 /// Reads `desc`: a register, the kind, the GUID or the register of its address, and the value's register or a block.
+#[inline(never)]
 pub fn desc<S: Source>(source: S) -> Result<(Action, S), S::Fault>
     ensures { Gives S.left S.cause result (operands_by S.way Code.Desc (S.left source)) }
 {
@@ -47,6 +49,7 @@ pub fn desc<S: Source>(source: S) -> Result<(Action, S), S::Fault>
 }
 
 /// Reads `install`: registers of descriptors.
+#[inline(never)]
 pub fn install<S: Source>(alloc: Global, source: S) -> Result<(Action, S), S::Fault>
     ensures { Gives S.left S.cause result (operands_by S.way Code.Install (S.left source)) }
 {
@@ -64,6 +67,7 @@ pub fn reinstall<S: Source>(source: S) -> Result<(Action, S), S::Fault>
 }
 
 /// Reads `notify`: registers of descriptors.
+#[inline(never)]
 pub fn notify<S: Source>(alloc: Global, source: S) -> Result<(Action, S), S::Fault>
     ensures { Gives S.left S.cause result (operands_by S.way Code.Notify (S.left source)) }
 {
@@ -91,6 +95,7 @@ pub fn locate<S: Source>(source: S) -> Result<(Action, S), S::Fault>
 }
 
 /// Reads `hob`: a HOB's type and its body.
+#[inline(never)]
 pub fn make_hob<S: Source>(alloc: Global, source: S) -> Result<(Action, S), S::Fault>
     ensures { Gives S.left S.cause result (operands_by S.way Code.Hob (S.left source)) }
 {

@@ -5,7 +5,7 @@ use Rattle.act_code.proofs.block.actions_of.Goals as goal
 
 pub returns-in_err-action : goal.returns-in_err-action
 returns-in_err-action c =
-    let p = err_from_is_err_and c.from_residual.result c.from_residual.ensures.1 in
+    let p = err_from_is_err_and c.from_residual-in_err-action.result c.from_residual-in_err-action.ensures.1 in
     rw (p.1, p.2) (ends (checked_at c.args.header) c.in_err-action.field-0.0 c.loop-done.actions c.args.count c.loop-done.done c.loop-done.rest.now (many (checked_at c.args.header) c.args.count c.args.bytes.now) c.loop-done-test.true c.in_err-action.ensures c.loop-done.invariant)
 
 pub loop-done-preserved : goal.loop-done-preserved
