@@ -74,7 +74,11 @@ fn are_operands_indexed(operands: &[Operand<'_>], count: u8) -> bool
 pub fn is_indexed(action: &Action, count: u8) -> bool
     ensures { result ≡ is_indexed count action.now }
 {
-    are_operands_indexed(&action.operands(), count)
+    match action {
+        // The most frequent action is not taken apart.
+        Action::Set { r, .. } => are_indexed(&[*r], &[], count),
+        _ => are_operands_indexed(&action.operands(), count),
+    }
 }
 
 /// Whether an action names only blocks below a number.
