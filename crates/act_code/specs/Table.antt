@@ -1,4 +1,4 @@
--- The table of actions (own): each one's code, its phases and its operands.
+-- The table of actions (own): each one's code, its phases, its name and its operands.
 use Rattle.std.specs.Prelude.{ℕ, Bool, true, false, ◌==◌, codes, find, List, Option}
 use Rattle.pi_base.specs.{declared.phase.Phase.Phase, declared.phase.Phase.TheVariants.Pei, declared.phase.Phase.TheVariants.Dxe}
 use Rattle.act_code.specs.{declared.code.Code.Code, declared.code.TheConstants.CODES, declared.action.Action.Action}
@@ -22,69 +22,44 @@ is_owned Dxe dxe = true
 pub record Row : Type 0 where
   pub number : ℕ
   pub owner : Owner
+  pub name : List ℕ
   pub format : Format
 
-abbrev row : ℕ → Owner → Format → Row
-row n o f = record { number = n; owner = o; format = f }
+abbrev row : ℕ → Owner → List ℕ → Format → Row
+row number owner name format = record { number = number; owner = owner; name = name; format = format }
 
 abbrev pub row_of : Code → Row
-row_of code.Set = row 0x01 both (Pair RegisterNumber (Little 8))
-row_of code.Add = row 0x02 both (Pair RegisterNumber (Little 8))
-row_of code.Pool = row 0x03 pei (Pair RegisterNumber (Little 4))
-row_of code.Store = row 0x04 pei (Pair RegisterNumber (Pair (Little 4) Counted))
-row_of code.Addr = row 0x06 pei (Pair RegisterNumber (Pair RegisterNumber (Little 4)))
-row_of code.Peek = row 0x07 both (Pair RegisterNumber (Within 1 64))
-row_of code.Desc = row 0x08 pei (Pair RegisterNumber Descriptor)
-row_of code.Install = row 0x09 pei Registers
-row_of code.Reinstall = row 0x0a pei (Pair RegisterNumber RegisterNumber)
-row_of code.Notify = row 0x0b pei Registers
-row_of code.Locate = row 0x0c pei (Pair RegisterNumber (Pair RegisterNumber (Pair GuidBytes (Little 2))))
-row_of code.Hob = row 0x0d pei HobBody
-row_of code.Memory = row 0x0e pei (Pair RegisterNumber RegisterNumber)
-row_of code.Pages = row 0x0f pei (Pair RegisterNumber (Pair Byte (Little 4)))
-row_of code.BootMode = row 0x10 pei (Pair (Within 0 1) RegisterNumber)
-row_of code.Log = row 0x11 both Text
-row_of code.SkipIf = row 0x12 both (Pair (Within 0 1) (Within 1 255))
-row_of code.Ret = row 0x13 both WordNumber
-row_of code.Shadow = row 0x14 pei Nothing
-row_of code.DxeInstall = row 0x20 dxe (Pair (Within 0 1) (Pair RegisterNumber (Pair GuidBytes RegisterNumber)))
-row_of code.DxeReinstall = row 0x21 dxe (Pair RegisterNumber (Pair GuidBytes (Pair RegisterNumber RegisterNumber)))
-row_of code.DxeUninstall = row 0x22 dxe (Pair RegisterNumber (Pair GuidBytes RegisterNumber))
-row_of code.DxeLocate = row 0x23 dxe (Pair RegisterNumber (Pair RegisterNumber GuidBytes))
-row_of code.DxeNotify = row 0x24 dxe (Pair GuidBytes BlockNumber)
-row_of code.Schedule = row 0x25 dxe GuidBytes
-row_of code.Process = row 0x26 dxe RegisterNumber
-row_of code.Dispatch = row 0x27 dxe Nothing
+row_of code.Set = row 0x01 both (codes "set") (Pair RegisterNumber (Little 8))
+row_of code.Add = row 0x02 both (codes "add") (Pair RegisterNumber (Little 8))
+row_of code.Pool = row 0x03 pei (codes "pool") (Pair RegisterNumber (Little 4))
+row_of code.Store = row 0x04 pei (codes "store") (Pair RegisterNumber (Pair (Little 4) Counted))
+row_of code.Addr = row 0x06 pei (codes "addr") (Pair RegisterNumber (Pair RegisterNumber (Little 4)))
+row_of code.Peek = row 0x07 both (codes "peek") (Pair RegisterNumber (Within 1 64))
+row_of code.Desc = row 0x08 pei (codes "desc") (Pair RegisterNumber Descriptor)
+row_of code.Install = row 0x09 pei (codes "install") Registers
+row_of code.Reinstall = row 0x0a pei (codes "reinstall") (Pair RegisterNumber RegisterNumber)
+row_of code.Notify = row 0x0b pei (codes "notify") Registers
+row_of code.Locate = row 0x0c pei (codes "locate") (Pair RegisterNumber (Pair RegisterNumber (Pair GuidBytes (Little 2))))
+row_of code.Hob = row 0x0d pei (codes "hob") HobBody
+row_of code.Memory = row 0x0e pei (codes "memory") (Pair RegisterNumber RegisterNumber)
+row_of code.Pages = row 0x0f pei (codes "pages") (Pair RegisterNumber (Pair Byte (Little 4)))
+row_of code.BootMode = row 0x10 pei (codes "boot_mode") (Pair (Within 0 1) RegisterNumber)
+row_of code.Log = row 0x11 both (codes "log") Text
+row_of code.SkipIf = row 0x12 both (codes "skip_if") (Pair (Within 0 1) (Within 1 255))
+row_of code.Ret = row 0x13 both (codes "ret") WordNumber
+row_of code.Shadow = row 0x14 pei (codes "shadow") Nothing
+row_of code.DxeInstall = row 0x20 dxe (codes "install") (Pair (Within 0 1) (Pair RegisterNumber (Pair GuidBytes RegisterNumber)))
+row_of code.DxeReinstall = row 0x21 dxe (codes "reinstall") (Pair RegisterNumber (Pair GuidBytes (Pair RegisterNumber RegisterNumber)))
+row_of code.DxeUninstall = row 0x22 dxe (codes "uninstall") (Pair RegisterNumber (Pair GuidBytes RegisterNumber))
+row_of code.DxeLocate = row 0x23 dxe (codes "locate") (Pair RegisterNumber (Pair RegisterNumber GuidBytes))
+row_of code.DxeNotify = row 0x24 dxe (codes "notify") (Pair GuidBytes BlockNumber)
+row_of code.Schedule = row 0x25 dxe (codes "schedule") GuidBytes
+row_of code.Process = row 0x26 dxe (codes "process") RegisterNumber
+row_of code.Dispatch = row 0x27 dxe (codes "dispatch") Nothing
 
--- the names of actions
+-- the name of an action
 unfoldable pub name_of : Code → List ℕ
-name_of code.Set = codes "set"
-name_of code.Add = codes "add"
-name_of code.Pool = codes "pool"
-name_of code.Store = codes "store"
-name_of code.Addr = codes "addr"
-name_of code.Peek = codes "peek"
-name_of code.Desc = codes "desc"
-name_of code.Install = codes "install"
-name_of code.Reinstall = codes "reinstall"
-name_of code.Notify = codes "notify"
-name_of code.Locate = codes "locate"
-name_of code.Hob = codes "hob"
-name_of code.Memory = codes "memory"
-name_of code.Pages = codes "pages"
-name_of code.BootMode = codes "boot_mode"
-name_of code.Log = codes "log"
-name_of code.SkipIf = codes "skip_if"
-name_of code.Ret = codes "ret"
-name_of code.Shadow = codes "shadow"
-name_of code.DxeInstall = codes "install"
-name_of code.DxeReinstall = codes "reinstall"
-name_of code.DxeUninstall = codes "uninstall"
-name_of code.DxeLocate = codes "locate"
-name_of code.DxeNotify = codes "notify"
-name_of code.Schedule = codes "schedule"
-name_of code.Process = codes "process"
-name_of code.Dispatch = codes "dispatch"
+name_of c = (row_of c).name
 
 abbrev pub number_of : Code → ℕ
 number_of c = (row_of c).number
