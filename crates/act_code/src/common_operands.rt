@@ -37,7 +37,6 @@ pub fn peek<S: Source>(source: S) -> Result<(Action, S), S::Fault>
 }
 
 /// Reads `log`: a text.
-#[inline(never)]
 pub fn log<S: Source>(alloc: Global, source: S) -> Result<(Action, S), S::Fault>
     ensures { Gives S.left S.cause result (operands_by S.way Code.Log (S.left source)) }
 {

@@ -18,7 +18,6 @@ pub fn pool<S: Source>(source: S) -> Result<(Action, S), S::Fault>
 }
 
 /// Reads `store`: the register of a pool, an offset in its body, and bytes.
-#[inline(never)]
 pub fn store<S: Source>(alloc: Global, source: S) -> Result<(Action, S), S::Fault>
     ensures { Gives S.left S.cause result (operands_by S.way Code.Store (S.left source)) }
 {
@@ -39,7 +38,6 @@ pub fn addr<S: Source>(source: S) -> Result<(Action, S), S::Fault>
 }
 
 /// Reads `desc`: a register, the kind, the GUID or the register of its address, and the value's register or a block.
-#[inline(never)]
 pub fn desc<S: Source>(source: S) -> Result<(Action, S), S::Fault>
     ensures { Gives S.left S.cause result (operands_by S.way Code.Desc (S.left source)) }
 {
@@ -49,7 +47,6 @@ pub fn desc<S: Source>(source: S) -> Result<(Action, S), S::Fault>
 }
 
 /// Reads `install`: registers of descriptors.
-#[inline(never)]
 pub fn install<S: Source>(alloc: Global, source: S) -> Result<(Action, S), S::Fault>
     ensures { Gives S.left S.cause result (operands_by S.way Code.Install (S.left source)) }
 {
@@ -67,7 +64,6 @@ pub fn reinstall<S: Source>(source: S) -> Result<(Action, S), S::Fault>
 }
 
 /// Reads `notify`: registers of descriptors.
-#[inline(never)]
 pub fn notify<S: Source>(alloc: Global, source: S) -> Result<(Action, S), S::Fault>
     ensures { Gives S.left S.cause result (operands_by S.way Code.Notify (S.left source)) }
 {
@@ -95,7 +91,6 @@ pub fn locate<S: Source>(source: S) -> Result<(Action, S), S::Fault>
 }
 
 /// Reads `hob`: a HOB's type and its body.
-#[inline(never)]
 pub fn make_hob<S: Source>(alloc: Global, source: S) -> Result<(Action, S), S::Fault>
     ensures { Gives S.left S.cause result (operands_by S.way Code.Hob (S.left source)) }
 {
