@@ -3,9 +3,9 @@ ghost use Rattle.boot_io.specs.Sink.{Puts, SinkFaultsAfter};
 ghost use Rattle.boot_model.specs.Text.{line_text, text_of, refused_file_text, refused_long_text};
 
 use crate::gather::put_words;
-use crate::keywords::{REFUSED_FILE, REFUSED_LONG, keyword};
+use crate::keywords::{REFUSED_FILE, REFUSED_LONG};
 use crate::piece::Piece;
-use crate::word_list::words;
+use crate::word_list::put_form;
 use boot_io::{Sink, SinkFault};
 use boot_model::Line;
 
@@ -14,7 +14,7 @@ pub fn put<S: Sink>(sink: &mut S, line: &Line) -> Result<(), SinkFault>
     ensures text { Puts result (S.text sink.old) (S.text sink.new) (line_text line.now) }
     ensures cause { SinkFaultsAfter result (S.faults sink.old) (S.faults sink.new) }
 {
-    put_words(sink, keyword(line), words(line).as_slice())
+    put_form(sink, line)
 }
 
 /// Puts a line, which is dropped here, once for all who make one. Where the sink fails, a prefix of its text was put.

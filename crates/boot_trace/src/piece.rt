@@ -24,12 +24,6 @@ pub(crate) enum Piece<'a> {
     Expression(ExpressionWord),
 }
 
-impl Default for Piece<'_> {
-    fn default() -> Self {
-        Piece::Decimal(0)
-    }
-}
-
 // The number of a module, or the core.
 pub(crate) fn by(by: u32) -> Piece<'static>
     ensures { piece_text result ≡ by_text by }

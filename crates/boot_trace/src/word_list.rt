@@ -1,53 +1,66 @@
-//! The words of each line.
-ghost use Rattle.std.specs.Prelude.{◌≡◌, ◌≤◌, ◌∷◌, length};
+//! The words of each line, put behind its keyword.
+ghost use Rattle.std.specs.Prelude.{◌≡◌, ◌∷◌};
 ghost use Rattle.pi_base.specs.WordText.{word_text};
-ghost use Rattle.boot_model.specs.Text.{call_text, extra_words, words};
+ghost use Rattle.boot_io.specs.Sink.{Puts, SinkFaultsAfter};
+ghost use Rattle.boot_model.specs.Text.{call_text, extra_words, line_text, words};
 ghost use Rattle.boot_trace.specs.Pieces.{piece_texts};
 
 use crate::fixed_word::{FixedWord, licence_word, reason_word, run_end_word};
+use crate::gather::put_words;
+use crate::keywords::keyword;
 use crate::piece::Piece::{
     self, Byte, Bytes, Decimal, Expression, Hexadecimal, Name, Number, Text,
 };
 use crate::piece::{body, by, name, rank};
-use arrayvec::ArrayVec;
+use boot_io::{Sink, SinkFault};
 use boot_model::{CallName, Extra, Line};
 use pi_base::Word;
 
-// How many words a line has at most behind its keyword.
-const MOST_WORDS: usize = 8;
-
-// The words of a line behind its keyword.
-pub(crate) type Words<'a> = ArrayVec<Piece<'a>, MOST_WORDS>;
-
-// A list of words.
-fn list<'a>(pieces: &[Piece<'a>]) -> Words<'a>
-    requires { length pieces.now ≤ MOST_WORDS }
-    ensures { result.items ≡ pieces.now }
+// Puts a line by its words.
+fn put_pieces<S: Sink>(sink: &mut S, line: &Line, pieces: &[Piece]) -> Result<(), SinkFault>
+    requires { piece_texts pieces.now ≡ words line.now }
+    ensures text { Puts result (S.text sink.old) (S.text sink.new) (line_text line.now) }
+    ensures cause { SinkFaultsAfter result (S.faults sink.old) (S.faults sink.new) }
 {
-    let mut words = ArrayVec::new();
-    words.try_extend_from_slice(pieces).unwrap();
-    words
+    put_words(sink, keyword(line), pieces)
 }
 
-// A service, its status, and what its line shows behind it.
-fn call_words(name: CallName, status: Word, extra: &Extra) -> Words<'_>
-    ensures { piece_texts result.items ≡ call_text name ∷ word_text status ∷ extra_words extra.now }
+// Puts the line of a service, its status, and what it shows behind it.
+fn put_call<S: Sink>(
+    sink: &mut S,
+    line: &Line,
+    name: CallName,
+    status: Word,
+    extra: &Extra,
+) -> Result<(), SinkFault>
+    requires { words line.now ≡ call_text name ∷ word_text status ∷ extra_words extra.now }
+    ensures text { Puts result (S.text sink.old) (S.text sink.new) (line_text line.now) }
+    ensures cause { SinkFaultsAfter result (S.faults sink.old) (S.faults sink.new) }
 {
     let name = Text(name.word());
     let status = Text(status.text());
     match extra {
-        Extra::Nothing => return list(&[name, status]),
-        Extra::Number(number) => return list(&[name, status, Hexadecimal(*number)]),
-        Extra::Bytes(bytes) => return list(&[name, status, Bytes(bytes.as_slice())]),
+        Extra::Nothing => return put_pieces(sink, line, &[name, status]),
+        Extra::Number(number) => return put_pieces(
+            sink,
+            line,
+            &[name, status, Hexadecimal(*number)],
+        ),
+        Extra::Bytes(bytes) => return put_pieces(
+            sink,
+            line,
+            &[name, status, Bytes(bytes.as_slice())],
+        ),
     }
 }
 
-// The words of a line behind its keyword.
-pub(crate) fn words(line: &Line) -> Words<'_>
-    ensures { piece_texts result.items ≡ words line.now }
+// Puts a line, its words in the order of its form.
+pub(crate) fn put_form<S: Sink>(sink: &mut S, line: &Line) -> Result<(), SinkFault>
+    ensures text { Puts result (S.text sink.old) (S.text sink.new) (line_text line.now) }
+    ensures cause { SinkFaultsAfter result (S.faults sink.old) (S.faults sink.new) }
 {
     match line {
-        Line::PeiStop | Line::DxeStop | Line::RefusedUsage => return list(&[]),
+        Line::PeiStop | Line::DxeStop | Line::RefusedUsage => return put_pieces(sink, line, &[]),
         Line::Report { volume: count }
         | Line::DxeVolume { volume: count }
         | Line::Ppis { count }
@@ -55,7 +68,7 @@ pub(crate) fn words(line: &Line) -> Words<'_>
         | Line::Dispatches { count }
         | Line::Pendings { count }
         | Line::Hobs { count }
-        | Line::Handles { count } => return list(&[Number(*count)]),
+        | Line::Handles { count } => return put_pieces(sink, line, &[Number(*count)]),
         Line::PeiStart {
             volume,
             name,
@@ -65,7 +78,11 @@ pub(crate) fn words(line: &Line) -> Words<'_>
             volume,
             name,
             licence,
-        } => return list(&[Number(*volume), Name(*name), Text(licence_word(*licence))]),
+        } => return put_pieces(
+            sink,
+            line,
+            &[Number(*volume), Name(*name), Text(licence_word(*licence))],
+        ),
         Line::NotifyCallback {
             volume,
             name,
@@ -80,57 +97,80 @@ pub(crate) fn words(line: &Line) -> Words<'_>
             volume,
             name,
             fired,
-        } => return list(&[Number(*volume), Name(*name), Name(*fired)]),
+        } => return put_pieces(sink, line, &[Number(*volume), Name(*name), Name(*fired)]),
         Line::Waiting {
             volume,
             name,
             reason,
-        } => return list(&[Number(*volume), Name(*name), Text(reason_word(*reason))]),
+        } => return put_pieces(
+            sink,
+            line,
+            &[Number(*volume), Name(*name), Text(reason_word(*reason))],
+        ),
         Line::Call {
             name,
             status,
             extra,
-        } => return call_words(*name, *status, extra),
-        Line::Log { text } => return list(&[Text(text.as_slice())]),
-        Line::RefusedFile { name } | Line::RefusedLong { name } => return list(&[Text(
-            name.as_slice(),
-        )]),
-        Line::End { status } | Line::CoreInstall { status } => return list(&[Text(status.text())]),
-        Line::Result { outcome } => return list(&[Text(run_end_word(*outcome))]),
-        Line::Migrate { from, to } => return list(&[Hexadecimal(*from), Hexadecimal(*to)]),
-        Line::Handoff { address } => return list(&[Hexadecimal(*address)]),
+        } => return put_call(sink, line, *name, *status, extra),
+        Line::Log { text } => return put_pieces(sink, line, &[Text(text.as_slice())]),
+        Line::RefusedFile { name } | Line::RefusedLong { name } => return put_pieces(
+            sink,
+            line,
+            &[Text(name.as_slice())],
+        ),
+        Line::End { status } | Line::CoreInstall { status } => return put_pieces(
+            sink,
+            line,
+            &[Text(status.text())],
+        ),
+        Line::Result { outcome } => return put_pieces(sink, line, &[Text(run_end_word(*outcome))]),
+        Line::Migrate { from, to } => return put_pieces(
+            sink,
+            line,
+            &[Hexadecimal(*from), Hexadecimal(*to)],
+        ),
+        Line::Handoff { address } => return put_pieces(sink, line, &[Hexadecimal(*address)]),
         Line::Ppi {
             by: maker,
             guid,
             value,
-        } => return list(&[by(*maker), Name(*guid), Hexadecimal(*value)]),
+        } => return put_pieces(sink, line, &[by(*maker), Name(*guid), Hexadecimal(*value)]),
         Line::Handle {
             handle,
             guid,
             value,
-        } => return list(&[Number(*handle), Name(*guid), Hexadecimal(*value)]),
+        } => return put_pieces(
+            sink,
+            line,
+            &[Number(*handle), Name(*guid), Hexadecimal(*value)],
+        ),
         Line::Callback { guid, by, block }
         | Line::Dispatch { guid, by, block }
-        | Line::Pending { guid, by, block } => return list(&[
-            Name(*guid),
-            Number(*by),
-            Number(*block),
-        ]),
-        Line::Hob { kind, body: bytes } => return list(&[
-            Number(u32::from(*kind)),
-            body(bytes.as_slice()),
-        ]),
+        | Line::Pending { guid, by, block } => return put_pieces(
+            sink,
+            line,
+            &[Name(*guid), Number(*by), Number(*block)],
+        ),
+        Line::Hob { kind, body: bytes } => return put_pieces(
+            sink,
+            line,
+            &[Number(u32::from(*kind)), body(bytes.as_slice())],
+        ),
         Line::Volume {
             volume,
             base,
             len,
             name: volume_name,
-        } => return list(&[
-            Number(*volume),
-            Hexadecimal(*base),
-            Decimal(*len),
-            name(*volume_name),
-        ]),
+        } => return put_pieces(
+            sink,
+            line,
+            &[
+                Number(*volume),
+                Hexadecimal(*base),
+                Decimal(*len),
+                name(*volume_name),
+            ],
+        ),
         Line::Module {
             by,
             volume,
@@ -140,21 +180,28 @@ pub(crate) fn words(line: &Line) -> Words<'_>
             dxe_rank,
             pei,
             dxe,
-        } => return list(&[
-            Number(*by),
-            Number(*volume),
-            Name(*name),
-            Byte(*kind),
-            rank(*pei_rank),
-            rank(*dxe_rank),
-            Expression(*pei),
-            Expression(*dxe),
-        ]),
-        Line::RefusedPlan { line, cause } => return list(&[Number(*line), Text(cause.word())]),
-        Line::RefusedImage { volume, at, cause } => return list(&[
-            Number(*volume),
-            Decimal(*at),
-            Text(cause.word()),
-        ]),
+        } => return put_pieces(
+            sink,
+            line,
+            &[
+                Number(*by),
+                Number(*volume),
+                Name(*name),
+                Byte(*kind),
+                rank(*pei_rank),
+                rank(*dxe_rank),
+                Expression(*pei),
+                Expression(*dxe),
+            ],
+        ),
+        Line::RefusedPlan {
+            line: number,
+            cause,
+        } => return put_pieces(sink, line, &[Number(*number), Text(cause.word())]),
+        Line::RefusedImage { volume, at, cause } => return put_pieces(
+            sink,
+            line,
+            &[Number(*volume), Decimal(*at), Text(cause.word())],
+        ),
     }
 }
