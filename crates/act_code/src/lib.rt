@@ -1,4 +1,5 @@
-//! Action scripts: their bytes, read and written (own).
+//! Action scripts: the modules' code in this project, as bytes (own). `read_script` returns the script that the bytes are, or their first fault, and reads
+//! again what `write_script` writes. Begin with `action` and `reading`.
 //!
 //! Tested in `text_trials`: `scripts`.
 #![tactic(auto)]

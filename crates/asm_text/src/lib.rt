@@ -1,4 +1,5 @@
-//! Dependency expressions and action scripts as text that a person writes and reads (own).
+//! Dependency expressions and action scripts as text, both ways (own). `parse_depex` and `parse_script` return the one expression or script of a text, or its
+//! first bad line, and read again what `print_depex` and `print_script` print. Begin with `depex_text` and `script_text`.
 //!
 //! Tested in `text_trials`: `expressions_as_text`, `scripts_as_text`.
 #![tactic(auto)]

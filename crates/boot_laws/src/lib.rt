@@ -1,5 +1,5 @@
-//! Laws of the boot machine: what holds of every run, whatever the scripts do. And a choice that is handed in, with the laws of free boots: what the lines
-//! of all of them are from a machine on, and how the machine is made to choose what a boot chose.
+//! Laws of the boot machine: what holds of every run, whatever the scripts do, and of every boot in which the dispatchers choose freely. A caller may hand in
+//! its own choice of the next module, by the trait `Choice`. Begin with `pei`, `dxe` and `choice`.
 #![tactic(auto)]
 
 mod boards;

@@ -1,4 +1,5 @@
-//! What a boot is: the machine of PEI and the machine of DXE, their runs, and the printed lines.
+//! The model of a boot: the machine of PEI and the machine of DXE, their runs, and the printed lines. The crates above promise what these definitions say.
+//! Begin with `specs/PeiStep` and `specs/DxeStep`.
 #![tactic(auto)]
 
 mod driver;

@@ -1,4 +1,5 @@
-//! The text of a boot plan (own format): the memory, the volumes, the fuel and the early pages of a boot, or the first fault of the text with its line.
+//! The text of a boot plan (own format): the memory, the volumes, the fuel and the early pages of a boot. `read_plan` returns the one plan that the text
+//! spells, or its first fault with the line. Begin with `plan` and `read`.
 //!
 //! Tested in `text_trials`: `plans`.
 #![tactic(auto)]

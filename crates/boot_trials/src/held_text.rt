@@ -7,7 +7,7 @@ use std::test::*;
 
 const TEXT: &[u8] = b"ab\ncd\nef";
 
-// How many bytes of a text are met after two pieces, the length of the line that is next, the number of the line, and whether all was met.
+// How many bytes of a text are matched after two pieces, the length of the next line, the number of the line, and whether all was matched.
 fn behind(text: &[u8], first: &[u8], second: &[u8]) -> (usize, Option<usize>, u32, bool)
     requires { length text.now < 2 ^ 32 - 1 }
 {
@@ -21,7 +21,7 @@ fn behind(text: &[u8], first: &[u8], second: &[u8]) -> (usize, Option<usize>, u3
     (held.met().len(), next, held.line(), held.is_at_end())
 }
 
-/// Two pieces, and what is told after them.
+/// Two pieces, and what is known after them.
 static PIECES: [(&[u8], &[u8], (usize, Option<usize>, u32, bool)); 6] = [
     (b"", b"", (0, Some(2), 1, false)),
     (b"ab\n", b"c", (4, Some(1), 2, false)),

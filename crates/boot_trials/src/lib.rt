@@ -1,5 +1,5 @@
-//! Whole boots, tried over both stores: the store in memory, over which the program boots, and the store of plain lists; and why modules start and why
-//! others never do, over a boot whose reasons were worked out by hand; and the lines of a boot's text, read back, and held against a text.
+//! Tests of whole boots, over the store of the program and over plain lists; of explained boots, whose reasons were worked out by hand; and of printed lines
+//! that are read again or compared with a text. Begin with `tests`.
 #![tactic(auto)]
 
 mod over_lists;

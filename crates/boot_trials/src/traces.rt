@@ -10,7 +10,7 @@ use trace_reader::{TraceFault, read_trace};
 /// The texts are shorter.
 const MOST_TEXT: usize = 10_000;
 
-/// Texts, and the first line of no form; 0 if there is none.
+/// Texts, and the first bad line, or 0 if there is none.
 static TEXTS: [(&[u8], u32); 61] = [
     // No line, and a line of each form.
     (b"", 0),
@@ -114,7 +114,7 @@ fn are_printed(alloc: Global, lines: &[Line], text: &[u8]) -> bool {
     }
 }
 
-// The first line of no form; 0 where what is read of a text is printed as the same text.
+// The first bad line, or 0 if what is read of a text prints the same text.
 fn bad_line(alloc: Global, text: &[u8]) -> Option<u32> {
     if text.len() >= MOST_TEXT {
         return None;

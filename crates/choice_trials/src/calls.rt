@@ -172,7 +172,7 @@ fn reply_of(
     }
 }
 
-// The services of the catalogue's drivers, where the volumes at these bases are discovered.
+// The services of the catalogue's drivers, with the volumes at these bases discovered.
 fn services_at(alloc: Global, catalog: &Catalog, bases: &[u64]) -> Option<DxeServices>
     requires { IsWellFormed catalog.now }
     ensures { IfSome result (IsServed catalog.now) }
@@ -183,7 +183,8 @@ fn services_at(alloc: Global, catalog: &Catalog, bases: &[u64]) -> Option<DxeSer
     }
 }
 
-/// A call with its status, the number that its line shows, up to which notification it visits those of its protocol, and the registers that it writes, where they are looked at.
+/// A call with its status, the number that its line shows, the notification up to which it visits those of its protocol, and the registers that it writes, if
+/// the test looks at them.
 type Row = (Call, Word, Option<u64>, Option<u32>, Option<Writes>);
 
 /// What is left after calls: the module and the block of the first notification, whether there is a second, how many interfaces there are, whether there is a
@@ -370,7 +371,7 @@ static CASES: [Case; 6] = [
         ],
         left: (None, false, 0, false, 2),
     },
-    // The volume around one that is discovered, another, and bases of none.
+    // The volume around one that is discovered, another, and bases of no volume.
     Case {
         bases: &[NESTED_BASE],
         calls: &[(Call::Process(KNOWN), Word::Success, None, None, None)],

@@ -1,4 +1,4 @@
-// The board of all tests: catalogues, each made of the texts of a plan and of its volumes.
+// What all tests share: catalogues, each made of the texts of a plan and of its volumes.
 ghost use Rattle.boot_plan.specs.Range.{IsPlanInRange};
 ghost use Rattle.mod_catalog.specs.WellFormed.{IsWellFormed};
 
@@ -53,7 +53,7 @@ fn images_of(rt: &impl Abort, alloc: Global, volumes: &[&str]) -> Seq<Seq<u8>> {
     images
 }
 
-/// The catalogue of a plan and its volumes. The test fails if memory runs out, or where a text has a fault.
+/// The catalogue of a plan and its volumes. The test fails if memory runs out, or if a text has a fault.
 pub(crate) fn catalogue(rt: &impl Abort, alloc: Global, plan: &str, volumes: &[&str]) -> Catalog
     ensures { IsWellFormed result }
 {

@@ -34,7 +34,7 @@ file driver 00000000-0000-0000-0000-000000000000
 end
 ";
 
-/// One without an expression, two that name each other, one with a place in the a priori list and an expression that cannot be read, and one that names it.
+/// A driver without an expression, two that name each other, one in the a priori list with an expression that cannot be read, and one that names it.
 static OTHERS: &str = "volume 4096
 file freeform dxe-apriori
 guids 00000000-0000-0000-0000-000000000004

@@ -1,4 +1,4 @@
-//! Which module comes next and what a driver's calls answer, tried over catalogues of volumes that are texts.
+//! Tests of the choice of the next module, and of the answers to a driver's calls, over catalogues of volumes that are written as texts. Begin with `drivers`.
 #![tactic(auto)]
 
 #[cfg(test)]

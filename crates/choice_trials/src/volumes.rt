@@ -23,8 +23,7 @@ end
 /// A volume without files.
 static EMPTY: &str = "volume 72\nend\n";
 
-/// The base of the one that is nested the deepest, 100 bytes after that of the volume around it, and of the second one, after 512 bytes and the header of its
-/// section.
+/// The base of the deepest nested volume, 100 bytes after that of the volume around it, and of the second one, after 512 bytes and the header of its section.
 const DEEPEST: u64 = NESTED_BASE + 100;
 
 const SECOND: u64 = NESTED_BASE + 516;

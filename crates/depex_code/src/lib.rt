@@ -1,4 +1,6 @@
-//! Dependency expressions: their bytes, their trees, and whether they hold (PI 1.8, volume 1, "Dependency Expressions").
+//! Dependency expressions (DEPEX): their bytes, their trees, and whether they hold (PI 1.8, volume 1, "Dependency Expressions"). `read_depex` returns the one
+//! expression at the front of the bytes, or the offset of the first opcode that fails; `Tree::holds` gives its truth over a set of GUIDs, and counts one step.
+//! Begin with `reading`, and with `specs/Expression`.
 //!
 //! Tested in `text_trials`: `expressions`.
 #![tactic(auto)]

@@ -1,7 +1,6 @@
-//! The DXE core: a step of the boot machine at a time, with the lines that it prints (PI 1.8, volume 2, "DXE Foundation"); what an action of DXE's own does:
-//! the protocol services, the notifications, and the DXE services ("Protocol Handler Services" and "DXE Services"); and what they act on beside the handles,
-//! the drivers of the discovered volumes: in discovered order, by the names of their files, with those that name them in BEFORE and AFTER, and those that a
-//! request is waited for.
+//! The DXE core (PI 1.8, volume 2, "DXE Foundation"): the protocol services, notifications, `Schedule()` and `ProcessFirmwareVolume()`, and the discovered
+//! volumes with their drivers. `Dxe::step` and `Dxe::start` do one step of the boot machine, print its lines, and say what they changed. Begin with `dxe`,
+//! `services` and `order`.
 //!
 //! Tested in `boot_trials`: `tests`; in `choice_trials`: `calls`, `drivers`.
 #![tactic(auto)]

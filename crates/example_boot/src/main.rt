@@ -1,4 +1,5 @@
-//! An example of a program that stands on `boot_images` and on `follow`: it boots the plan in its folder with a sink of its own, which counts the lines; then in the order of starts that stands beside the plan, and prints the boot's lines, and then what stands against the first start that may not be.
+//! An example of a program over `boot_images` and `follow`. It boots the plan in its folder with its own sink, which counts the lines. Then it boots in the
+//! order of starts next to the plan, and prints the lines, and the reason why the first start that fails is not possible.
 #![tactic(auto)]
 
 use boot_core::boot_images;

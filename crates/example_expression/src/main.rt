@@ -1,4 +1,4 @@
-//! An example of a program that stands on `depex_code`: it reads the bytes of a dependency expression, and prints its text.
+//! An example of a program over `depex_code`: it reads the bytes of a dependency expression, and prints its text.
 #![tactic(auto)]
 
 use asm_text::print_depex;

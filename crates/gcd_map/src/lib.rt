@@ -1,5 +1,6 @@
-//! The memory space map of the global coherency domain: which memory there is, of which kind, and what of it is allocated. It begins as a HOB list tells, and
-//! commands change it, which are also read as text. PI 1.8, volume 2, "Global Coherency Domain Services". No attributes, owners or I/O space.
+//! The memory space map of the global coherency domain, made from a HOB list, and the commands on it (PI 1.8, volume 2, "Global Coherency Domain Services").
+//! After any commands each address has the state that the last accepted command on it gave it, and a refused command changes nothing. Begin with `map` and
+//! `hobs`; attributes, owners and I/O space are left out.
 //!
 //! Tested in `text_trials`: `map_commands`, `map_faults`, `memory_map`.
 #![tactic(auto)]

@@ -1,5 +1,6 @@
-//! Numbers by GUID: for each GUID the numbers that it has, lowest first, as the places where it is in a list. They are found by a hash and by halving; a number
-//! that comes in or goes out moves those of its GUID after it.
+//! Numbers by GUID, for instance the places of each GUID in a list. For each GUID the numbers are in ascending order, each once; a call that runs out of memory
+//! leaves them unchanged. Begin with `GuidLists` in `lists`: it finds a GUID by a hash and a number by halving, and a change moves only the later numbers of
+//! its GUID.
 //!
 //! Tested in `heap_trials`: `guid_indexes`; in `choice_trials`: `calls`.
 #![tactic(auto)]

@@ -16,7 +16,7 @@ pub record AreThere (s : StoreState) : Type 0 where
 abbrev pub HasDesc : Desc → StoreState → Type 0
 HasDesc d s = IsDesc s d
 
--- a state stands that has the four
+-- the store stands for a state that has the four
 abbrev pub IsLaid : (StoreState → Type 0) → Type 0
 IsLaid Stands = Present Stands AreThere
 

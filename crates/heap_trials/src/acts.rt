@@ -22,7 +22,7 @@ pub(crate) enum Act {
     Fill(u32),
     /// A call that names descriptors, and the fault of its answer.
     Call(Named, Option<StoreFault>),
-    /// What is told of a descriptor.
+    /// What can be read of a descriptor.
     Descriptor(Of, (Guid, u64)),
     /// The other PPI is installed, and the callback fires once for it.
     Sweep,
@@ -69,7 +69,7 @@ fn has_callbacks<S: PeiStore>(store: &S, count: u32) -> bool
     count == 0 || store.note_at(DescKind::Callback, count - 1).is_some()
 }
 
-// The next callback that fires of a sweep over what is there. None if it is over more.
+// The next callback that fires of a sweep over what is there. None if the sweep is over.
 fn next<S: PeiStore>(store: &S, sweep: &mut Sweep) -> Option<Firing>
     requires { Present (S.stands_for store.now) Anything }
 {

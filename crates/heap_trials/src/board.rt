@@ -21,7 +21,7 @@ pub(crate) const RAM: Span = Span {
     len: 0x2_0000,
 };
 
-/// Where the one volume is mapped.
+/// The base of the one mapped volume.
 pub(crate) const ROM: u64 = 0xff80_0000;
 
 /// Its bytes.

@@ -1,4 +1,4 @@
-// Calls of any store, each of which leaves a store that stands for a state, so that the next may follow.
+// Calls of any store. After each the store still stands for a state, so the next may follow.
 ghost use Rattle.std.specs.Prelude.{◌≤◌, IfOk};
 ghost use Rattle.hob_codec.specs.HobView.{hob_value};
 ghost use Rattle.store_model.specs.{Service.Present, StateFacts.IsNumberOf, StoreCall.Anything, StoreCall.IsScriptHob};
@@ -55,7 +55,7 @@ pub(crate) fn desc<S: PeiStore>(
     store.desc(kind, guid, number)
 }
 
-// Installs a PPI. False where that is refused.
+// Installs a PPI. Returns false if that is refused.
 fn installs<S: PeiStore>(store: &mut S, d: Desc) -> bool
     requires { Present (S.stands_for store.old) (HasDesc d) }
     ensures { Present (S.stands_for store.new) (HasDesc d) }
@@ -94,7 +94,7 @@ pub(crate) fn pop<S: PeiStore>(store: &mut S) -> Option<Firing>
     store.queue_pop()
 }
 
-/// Says where permanent memory is.
+/// Reports where permanent memory is.
 pub(crate) fn plan<S: PeiStore>(store: &mut S, begin: u64, len: u64) -> Result<(), StoreFault>
     requires { Present (S.stands_for store.old) Anything }
     ensures { Present (S.stands_for store.new) Anything }
@@ -139,7 +139,7 @@ pub(crate) fn set_boot_mode<S: PeiStore>(store: &mut S, mode: u32)
     store.set_boot_mode(mode);
 }
 
-// Eight bytes at an address, as a number. 0 where they are not read.
+// Eight bytes at an address, as a number. 0 if they are not read.
 fn word_at<S: PeiStore>(store: &S, at: u64) -> u64
     requires { Present (S.stands_for store.now) Anything }
 {

@@ -27,7 +27,7 @@ fn two_guids_in_turn_are_found(rt: HostRuntime) {
     drop(index);
 }
 
-// Each entry of one GUID gives its place to one of another, the first ones last.
+// The places of each entry of one GUID become those of another, the first ones last.
 fn try_another_guid(rt: &impl Abort, index: &mut GuidIndex) {
     for back in 1..=2048u32 {
         let place = 4096 - 2 * back;

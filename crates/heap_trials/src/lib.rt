@@ -1,4 +1,5 @@
-//! HOBs, and what the stores tell of the heap, its lists and the move of both, tried byte by byte.
+//! Tests of HOBs, and of what the stores answer about the heap, its lists and the move, byte by byte. Each call of a store is made over both. Begin with
+//! `store` and `refusals`.
 #![tactic(auto)]
 
 #[cfg(test)]

@@ -1,4 +1,4 @@
-// What each call reads over the scene in each store, and the calls that write a pool and the boot mode or put a PPI in the place of another.
+// What each call reads over the scene in each store, and the calls that write a pool or the boot mode, or replace a PPI.
 use crate::acts::{Act, Named};
 use crate::board::{ROM, TEMP};
 use crate::scene::{END, INSTALLED, NAME, OTHER, Of};
@@ -51,14 +51,14 @@ const OTHER_PENDING_TOLD: EntryTold = EntryTold {
     by: 9,
 };
 
-// What is answered where nothing is read: the bytes stay as they were.
+// The answer if nothing is read: the bytes stay as they were.
 const UNREAD: (bool, [u8; 4]) = (false, [0xff; 4]);
 
 // The other PPI is installed.
 const OTHER_INSTALLED: Act = Act::Call(Named::Install(Of::Other), None);
 
 static TRIALS: [Trial<'static>; 7] = [
-    // The lists are told by place.
+    // The lists are read by place.
     (
         0x4000,
         0,
@@ -77,7 +77,7 @@ static TRIALS: [Trial<'static>; 7] = [
             ],
         ),
     ),
-    // Entries are told one after the other.
+    // Entries are read one after the other.
     (
         0x4000,
         0,
@@ -141,7 +141,7 @@ static TRIALS: [Trial<'static>; 7] = [
             ],
         ),
     ),
-    // A PPI is put in the place of one that is there.
+    // A PPI is replaced.
     (
         0x4000,
         0,

@@ -1,4 +1,4 @@
-// Each refusal of each service beside the neighbour that passes: over both stores.
+// Each refusal of each service next to the neighbour that passes, over both stores.
 ghost use Rattle.std.specs.Prelude.{◌≤◌};
 ghost use Rattle.store_model.specs.{Service.Present, StoreCall.Anything};
 
@@ -12,7 +12,7 @@ use pi_base::{MEMORY_PPI, Span};
 use std::test::*;
 use store_model::{DescKind, GuidFrom, PeiStore, StoreFault};
 
-/// A call that names none.
+/// A call that names no descriptor.
 #[derive(Clone, Copy)]
 pub(crate) enum Service {
     Pool(u32),
@@ -23,7 +23,7 @@ pub(crate) enum Service {
     Pages(u32),
 }
 
-/// How far the scene has come.
+/// How far the scene is built.
 #[derive(Clone, Copy)]
 pub(crate) enum Stage {
     /// As it was laid.
@@ -85,7 +85,7 @@ static ROWS: [Row; 30] = [
     // A pool: its bytes up to a multiple of 8, and a header of 8.
     (Stage::Laid, 24, Service::Pool(9), PASSES),
     (Stage::Laid, 16, Service::Pool(9), FULL),
-    // A descriptor: 24 bytes, 16 for a GUID that is after it, and a header. A GUID elsewhere lies whole in one volume.
+    // A descriptor: 24 bytes, 16 for a GUID that is after it, and a header. A GUID elsewhere must be whole in one volume.
     (Stage::Laid, 48, Service::Desc(INLINE), PASSES),
     (Stage::Laid, 40, Service::Desc(INLINE), FULL),
     (Stage::Laid, 32, Service::Desc(GuidFrom::At(ROM)), PASSES),
@@ -149,7 +149,7 @@ fn call<S: PeiStore>(store: &mut S, call: Service) -> Option<StoreFault>
     }
 }
 
-// Brings the scene to a stage. False where it does not come there.
+// Brings the scene to a stage. Returns false if that fails.
 fn bring<S: PeiStore>(store: &mut S, stage: Stage) -> bool
     requires { Present (S.stands_for store.old) Anything }
     ensures { Present (S.stands_for store.new) Anything }
@@ -162,7 +162,7 @@ fn bring<S: PeiStore>(store: &mut S, stage: Stage) -> bool
     }
 }
 
-/// Whether a call that names none is answered so at its stage. False where the scene does not come so far.
+/// Whether a call that names no descriptor has this answer at its stage. False if the scene cannot be brought there.
 pub(crate) fn is_so<S: PeiStore>(store: &mut S, row: &Row) -> bool
     requires { Present (S.stands_for store.old) Anything }
 {

@@ -1,7 +1,7 @@
 // The scene: a PPI, a notification of each kind for its GUID, and another PPI that is not installed.
 //
-// After the hand-off HOB, which has 56 bytes, stand four descriptors of 48 bytes with their headers, and then four nodes of 40: of the two notifications, of
-// the PPI, and of the pair that is queued. The end HOB is at 56 + 192 + 160 = 408.
+// After the hand-off HOB, which has 56 bytes, there are four descriptors of 48 bytes with their headers, and then four nodes of 40: of the two notifications,
+// of the PPI, and of the pair that is queued. The end HOB is at 56 + 192 + 160 = 408.
 ghost use Rattle.std.specs.Prelude.{◌≡◌, true};
 ghost use Rattle.store_model.specs.{StoreState.StoreState, StateFacts.IsDescriptorAt, StateFacts.IsNumberOf, Service.Present};
 ghost use Rattle.store_model.specs.StoreCall.{Anything};
@@ -62,7 +62,7 @@ fn makes<M: PeiStore>(store: &mut M, kind: DescKind, number: u64, place: u64) ->
     }
 }
 
-/// Makes the four descriptors. False where one could not be made.
+/// Makes the four descriptors. Returns false if one could not be made.
 pub(crate) fn makes_all<M: PeiStore>(store: &mut M) -> bool
     requires { Present (M.stands_for store.old) Anything }
     ensures { result ≡ true → IsLaid (M.stands_for store.new) }
@@ -118,7 +118,7 @@ pub(crate) fn lay<M: PeiStore>(store: &mut M) -> bool
     dispatch && callback && installed
 }
 
-/// Takes a pool, so that so many bytes are free. False where that is not so.
+/// Takes a pool, so that so many bytes are free. Returns false if that fails.
 pub(crate) fn fill<M: PeiStore>(store: &mut M, left: u32) -> bool
     requires { Present (M.stands_for store.old) Anything }
     ensures state { Present (M.stands_for store.new) Anything }

@@ -1,4 +1,4 @@
-// The steps of a trial: calls of any store with their answers, and what it tells.
+// The steps of a trial: calls of any store with their answers, and what can be read of it.
 ghost use Rattle.std.specs.Prelude.{IfOk};
 ghost use Rattle.store_model.specs.{Service.Present, StoreCall.Anything, StoreCall.HasPool};
 
@@ -11,7 +11,7 @@ use hob_codec::Hob;
 use pi_base::Guid;
 use store_model::{Desc, DescKind, EntryList, EntryTold, Firing, PeiStore, Pool, StoreFault};
 
-/// A call with its answer, or what is told.
+/// A call with its answer, or a reading.
 pub(crate) enum Step {
     /// A pool of so many bytes.
     Pool(u32, Result<Pool, StoreFault>),
@@ -47,7 +47,7 @@ pub(crate) enum Step {
     Mode(u32),
     /// The bytes at an address.
     Bytes(u64, &'static [u8]),
-    /// An address where nothing is read.
+    /// An address at which nothing is read.
     Unread(u64),
     /// Whether four bytes are read at an address, and what the four are then.
     Four(u64, (bool, [u8; 4])),
@@ -65,7 +65,7 @@ pub(crate) enum Step {
     Nth(Guid, u16, Option<(Desc, u64)>),
 }
 
-// Whether a store tells these bytes at an address.
+// Whether a store reads these bytes at an address.
 fn tells<S: PeiStore>(store: &S, at: u64, want: &[u8]) -> bool
     requires { Present (S.stands_for store.now) Anything }
 {
@@ -77,7 +77,7 @@ fn tells<S: PeiStore>(store: &S, at: u64, want: &[u8]) -> bool
     store.peek(at, &mut bytes.as_mut_slice()[..n]) && &bytes.as_slice()[..n] == want
 }
 
-// Four bytes at an address, where they are read, and whether nothing was written where not.
+// Four bytes at an address, if they are read, and whether nothing was written if not.
 fn four_at<S: PeiStore>(store: &S, at: u64) -> (bool, [u8; 4])
     requires { Present (S.stands_for store.now) Anything }
 {
@@ -106,7 +106,7 @@ fn first_entries<S: PeiStore>(store: &S, list: EntryList) -> (Option<EntryTold>,
     }
 }
 
-// Whether what a step tells is so.
+// Whether a reading is as the step says.
 fn is_told<S: PeiStore>(store: &S, step: &Step) -> bool
     requires { Present (S.stands_for store.now) Anything }
 {
@@ -125,7 +125,7 @@ fn is_told<S: PeiStore>(store: &S, step: &Step) -> bool
     }
 }
 
-// Whether a call on the lists, the move or the boot mode is answered so, or what is told is so.
+// Whether a call on the lists, the move or the boot mode has this answer, or a reading is as the step says.
 fn is_listed<S: PeiStore>(store: &mut S, step: &Step) -> bool
     requires { Present (S.stands_for store.old) Anything }
     ensures { Present (S.stands_for store.new) Anything }
@@ -154,7 +154,7 @@ fn new_pool<S: PeiStore>(store: &mut S, size: u32) -> Result<Pool, StoreFault>
     store.pool(size)
 }
 
-// Makes a pool of nine bytes and writes two bytes into it. None if there is no pool, and otherwise whether they are written.
+// Makes a pool of nine bytes and writes two bytes into it. None if there is no pool, else whether they are written.
 fn write_two<S: PeiStore>(store: &mut S, at: u32) -> Option<bool>
     requires { Present (S.stands_for store.old) Anything }
     ensures { Present (S.stands_for store.new) Anything }

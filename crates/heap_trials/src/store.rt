@@ -15,8 +15,8 @@ const FILLED: &[u8] =
 const TWO_HOBS: &[u8] =
     b"\x06\0\x10\0\0\0\0\0\x30\x10\0\0\0\0\0\0\x04\0\x20\0\0\0\0\x000123456789abcdefxyz\0\0\0\0\0\xff\xff\x08\0\0\0\0\0";
 
-// A PPI that has moved. The descriptor: its flags, where its GUID stands, the value, and the GUID. Its node with its header, and the
-// header of the next descriptor.
+// A PPI that has moved. The descriptor: its flags, the address of its GUID, the value, and the GUID. Its node with its header, and the header of the next
+// descriptor.
 const MOVED_PPI: &[u8] =
     b"\x10\0\0\x80\0\0\0\0\x58\0\0\x40\0\0\0\0\x34\x12\0\0\0\0\0\0\0\0\0\0\0\0\0\0\0\0\0\0\0\0\0\x01\x07\0\x28\0\0\0\0\0\0\0\0\0\0\0\0\0\x40\0\0\x40\0\0\0\0\0\0\0\0\0\0\0\0\x09\0\0\0\0\0\0\0\x07\0\x30\0\0\0\0\0";
 
@@ -26,8 +26,8 @@ const UPPER: Span = Span {
     len: 0x1_0000,
 };
 
-// The list at the new base, of 144 bytes. The hand-off HOB: the end of memory, its base, what is free, and the end HOB. The page's
-// HOB: it lies at the end of the new heap. The GUID HOB with the bytes that look like an address, and the end HOB.
+// The list at the new base, of 144 bytes. The hand-off HOB: the end of memory, its base, what is free, and the end HOB. The page's HOB: it is at the end of the
+// new heap. The GUID HOB with the bytes that look like an address, and the end HOB.
 const MOVED: &[u8] =
     b"\x01\0\x38\0\0\0\0\0\x09\0\0\0\0\0\0\0\0\0\x02\x40\0\0\0\0\0\0\x01\x40\0\0\0\0\0\xf0\x01\x40\0\0\0\0\x90\0\x01\x40\0\0\0\0\x88\0\x01\x40\0\0\0\0\x02\0\x30\0\0\0\0\0\0\0\0\0\0\0\0\0\0\0\0\0\0\0\0\0\0\xf0\x01\x40\0\0\0\0\0\x10\0\0\0\0\0\0\x04\0\0\0\0\0\0\0\x04\0\x20\0\0\0\0\x000123456789abcdef\x40\0\0\x80\0\0\0\0\xff\xff\x08\0\0\0\0\0";
 
@@ -60,7 +60,7 @@ static TRIALS: [Trial<'static>; 12] = [
     (88, 0, Case::Steps(&[Step::Fit(9, true)])),
     (0x1_1000, 0, Case::Steps(&[Step::Fit(65_520, true)])),
     (0x1_1000, 0, Case::Steps(&[Step::Fit(65_521, false)])),
-    // HOBs stand one after another.
+    // HOBs follow one another.
     (
         0x4000,
         0,
@@ -115,7 +115,7 @@ static TRIALS: [Trial<'static>; 12] = [
             Step::Pop(None),
         ]),
     ),
-    // The volumes of HOBs are told.
+    // The volumes of HOBs are read.
     (
         0x4000,
         0,

@@ -37,7 +37,7 @@ fn run<S: PeiStore>(store: &mut S, case: &Case<'_>) -> bool
     }
 }
 
-// The same in a store. It is handed on whole, since each exit of an owner is dear to prove.
+// The same in a store, which is handed on whole: each exit of an owner is expensive to prove.
 fn over<S: PeiStore + Drop>(mut store: S, case: &Case<'_>) -> bool
     requires { Present (S.stands_for store) Anything }
 {

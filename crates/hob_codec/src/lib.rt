@@ -1,4 +1,5 @@
-//! Hand-off blocks as bytes: one HOB written and read, and the places of a HOB list. PI 1.8, volume 3, hand-off blocks.
+//! Hand-off blocks (HOBs) as bytes (PI 1.8, volume 3, hand-off blocks). `encode_into` writes a HOB's exact bytes, `read_at` reads them again, and `walk`
+//! returns the places of a HOB list, or its first fault. Begin with `hob` and `read`.
 //!
 //! Tested in `heap_trials`: `hobs`.
 #![tactic(auto)]

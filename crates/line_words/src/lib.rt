@@ -1,4 +1,5 @@
-//! Texts of lines (own formats): the lines, words and numbers of a text that a person writes, and in `printed` those of a text that the project prints.
+//! The lines, words and numbers of texts: those that a person writes, and in `printed` those that the project prints (own formats). Each call finds exactly the
+//! lines, words and numbers of a text; a printed word is read as the one value that prints it. Begin with `line` and `words`.
 //!
 //! Tested in `text_trials`: `plans`; in `boot_trials`: `traces`.
 #![tactic(auto)]

@@ -1,6 +1,6 @@
-//! The MP services of PI 1.8, volume 2, "MP Services Protocol", as a machine over a list of events: what each call answers, and what the jobs of the
-//! application processors leave in memory, whatever the order in which the processors get on. With the text of an MP file, which has the numbers of processors
-//! and of cells and the events, and the text of what the machine answers and leaves (own).
+//! The MP services as a machine over a list of events, with the text of such a list and of the outcome (PI 1.8, volume 2, "MP Services Protocol"; the texts are
+//! own). `run` returns the reply to each call, and what the jobs of the application processors leave in memory, in whatever order the processors proceed. Begin
+//! with `event` and `running`.
 //!
 //! Tested in `text_trials`: `processors`.
 #![tactic(auto)]

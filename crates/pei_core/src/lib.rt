@@ -1,5 +1,5 @@
-//! The PEI core over any store: a step of the boot machine at a time, with the lines that it prints (PI 1.8, volume 1, "PEI Foundation"); and what an action of
-//! PEI's own does.
+//! The PEI core over any store (PI 1.8, volume 1, "PEI Foundation"). `Pei::step` and `Pei::start` do one step of the boot machine, print its lines, and say
+//! which GUIDs and volumes changed. Begin with `pei`, `step` and `action`.
 //!
 //! Tested in `boot_trials`: `tests`.
 #![tactic(auto)]

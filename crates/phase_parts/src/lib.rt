@@ -1,6 +1,6 @@
-//! What the machines of PEI and DXE have alike: the scripts that run, whatever their calls have still to visit; the parts of a volume in order, and whether an
-//! expression holds; and the volumes that became known, each followed by the volumes nested in it, whether PEI reported or DXE discovered them (PI 1.8, volume
-//! 1, `EFI_PEI_FIRMWARE_VOLUME_INFO_PPI`; volume 2, "DXE Dispatcher").
+//! What the machines of PEI and DXE share: running scripts with registers and fuel, the parts of a volume in order, the truth of an expression, and the known
+//! volumes (PI 1.8, volume 1, `EFI_PEI_FIRMWARE_VOLUME_INFO_PPI`; volume 2, "DXE Dispatcher"). Each call does what the definitions of both phases say. Begin
+//! with `stack` and `volume_list`.
 //!
 //! Tested in `choice_trials`: `volumes`; in `boot_trials`: `tests`.
 #![tactic(auto)]

@@ -1,4 +1,5 @@
-//! Physical memory as regions of bytes: temporary RAM, RAM, and volumes that are read only. If two regions overlap, the first of them serves.
+//! Physical memory as regions of bytes: temporary RAM, RAM, and volumes that can only be read. Each call reads or writes exactly the bytes of one region, and a
+//! refused call changes nothing; if two regions overlap, the first of them counts. Begin with `memory`.
 //!
 //! Tested in `heap_trials`, below the stores.
 #![tactic(auto)]

@@ -1,4 +1,5 @@
-//! The tools beside the boot: the check of a trace with free choice, a boot in an order of starts, why modules start, the memory space map, the MP services, expressions and scripts as text, volumes from their texts, and texts of volumes.
+//! The program of the tools. It hands its words to `tools_and_print` of `tools_core`, which carries the promise, and reports to a person on standard error.
+//! Begin with `main`.
 #![tactic(auto)]
 
 mod cause_meaning;

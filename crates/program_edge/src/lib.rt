@@ -1,6 +1,8 @@
-//! The edge of a program, whichever of the two it is: the words that it was called with, who reads its standard error, and what is told there, from the files that the run read and the text that it printed: of a refused plan the word at fault, the rule that it breaks and what is allowed, and of an image what its cause means.
+//! What both programs do for a person: their words, the reader of standard error, and the reports on what was refused. For a refused plan `mistake_in` returns
+//! the word at fault and the rule that it breaks. Begin with `call` and `plan_mistake`; a report reads the files and the printed text that `KeptFiles` and
+//! `KeptText` keep.
 //!
-//! Tried by `scripts/check-words`.
+//! Tested by `scripts/check-words`.
 #![tactic(auto)]
 
 mod asked;

@@ -1,7 +1,7 @@
-//! A boot with its order of starts handed in: the order's next module starts, and after the last line the first that may; where the next module may not start
-//! the boot is left there, with what stands against it.
+//! A boot along a given order of starts. The order's next module starts; after its last line, the first eligible one does. If the next module may not start,
+//! the boot is left there, with the reason.
 //!
-//! Tried by `example_boot`.
+//! Tested by `example_boot`.
 
 mod against;
 mod by_order;

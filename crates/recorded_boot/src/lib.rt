@@ -1,4 +1,5 @@
-//! A boot held against what another one recorded: against its trace (`trace`), or along an order of starts (`order`, `follow`).
+//! A boot compared with a recorded one. `check` (`trace`) answers whether a text is the trace of a boot in which the dispatchers chose freely, and `follow`
+//! boots along an order of starts (`order`), up to the first start that is not possible. Begin with `specs/Verdict` and `specs/Following`.
 #![tactic(auto)]
 
 pub mod follow;

@@ -1,8 +1,8 @@
-//! The order of the starts of a boot (own): its text, which says which module starts first, which next and so on, each in its phase by its volume and file
-//! name, and whether the boot is followed no further after the last; which module of a catalogue a volume and a file name tell; the order of the starts of
-//! which a boot's lines tell; and that it tells all of a boot that its dispatchers were free to choose.
+//! The order of the starts of a boot (own): its text, which names each start by its phase, its volume and its file name, and says whether the boot stops after
+//! the last. `Names` finds the module of a volume and a file name, and `order_of` takes the order from printed lines. Laws say that the order determines all
+//! that the dispatchers were free to choose.
 //!
-//! Tried by `example_boot` and `scripts/check-traces`.
+//! Tested by `example_boot` and `scripts/check-traces`.
 
 mod fault;
 mod guids;

@@ -1,7 +1,7 @@
-//! Whether a text is the trace of a boot of a plan in which the dispatchers chose freely: the boot prints into the text (`Spelled`), which takes a piece at a
-//! time up to the first byte that does not are there, and where a module is chosen the text's next line says which.
+//! Whether a text is the trace of a boot of a plan in which the dispatchers chose freely. The boot prints into the text (`Spelled`), which accepts each piece
+//! up to the first byte that differs. Whenever a module is to be chosen, the text's next line names it.
 //!
-//! Tried by `scripts/check-traces`, and in `boot_trials`: `held_text`.
+//! Tested by `scripts/check-traces`, and in `boot_trials`: `held_text`.
 
 mod by_text;
 mod bytes;

@@ -1,4 +1,5 @@
-//! Laws of the stores: what the services and the move keep, where bodies stand, and what fits. Each is a function without a body.
+//! Laws of the stores, for those who prove a store or a core. They say what the services and the move keep, where bodies are and what fits, and in `heap` what
+//! each service writes of the heap's bytes and what is read from them. Begin with `laws`; each law is a function without a body.
 #![tactic(auto)]
 
 pub mod heap;

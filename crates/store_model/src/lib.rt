@@ -1,4 +1,5 @@
-//! What the services of a boot change: the store of PEI, with its HOBs, PPIs and notifications, as the trait `PeiStore` has it, and the handles of DXE.
+//! The model of a store: the HOBs, PPIs and notifications of PEI, the services over them, the move to permanent memory, and the handles of DXE. The trait
+//! `PeiStore` promises for each call what its service returns, and the state after it. Begin with `store`, and with `specs/StoreState` and `specs/Service`.
 #![tactic(auto)]
 
 mod handle_laws;

@@ -1,4 +1,5 @@
-//! The store of PEI services over plain lists: the slow, plain program beside the definitions.
+//! The store of PEI services over plain lists: slow and simple, the reference for the stores in bytes. `PlainStore` promises what the trait `PeiStore` does,
+//! for one state. Begin with `store` and `pei_store`.
 //!
 //! Tested in `heap_trials`: `store`, `readings`, `refusals`.
 #![tactic(auto)]

@@ -1,4 +1,4 @@
-// What several of the tests put together: bytes, texts with a part many times over, and a sink for what is printed.
+// What several tests share: bytes, texts with a part many times over, and a sink for printed text.
 use boot_io::MemSink;
 use pi_base::Seq;
 use std::alloc::Global;
@@ -46,7 +46,7 @@ pub(crate) fn are(found: Option<Seq<u8>>, bytes: &[u8]) -> bool {
     }
 }
 
-/// An empty sink with room for 4,096 bytes, none if memory runs out.
+/// An empty sink with room for 4,096 bytes. None if memory runs out.
 pub(crate) fn empty_sink(alloc: Global) -> Option<MemSink> {
     MemSink::new(alloc, 4096, Seq::new(alloc)).ok()
 }

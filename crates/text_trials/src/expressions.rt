@@ -1,4 +1,4 @@
-// The bytes of dependency expressions, from the specification and made by hand: what is read, where nothing is, and whether it holds.
+// The bytes of dependency expressions, from the specification and made by hand: what is read, at which offset nothing is read, and whether it holds.
 ghost use Rattle.std.specs.Prelude.{◌≡◌, ◌<◌, ◌≤◌, length};
 ghost use Rattle.depex_code.specs.Tree.{postfix};
 
@@ -39,7 +39,7 @@ fn holds_in<L: Ledger>(tree: &Tree, set: &FirstBelow, blank: Blank) -> bool
     tree.holds(set, &mut steps)
 }
 
-// Whether a tree of at most 1,023 opcodes holds where the GUIDs below a first byte are installed.
+// Whether a tree of at most 1,023 opcodes holds if the GUIDs below a first byte are installed.
 fn truth(rt: &impl Abort, tree: &Tree, below: u8) -> bool {
     assert!(rt; tree.code().len() <= MOST);
     holds_in::<Brand>(tree, &FirstBelow(below), Blank::new(1))
@@ -148,7 +148,7 @@ fn an_expression_is_read_or_refused_at_its_opcode(rt: HostRuntime) {
     }
 }
 
-// What is read where so many NOTs are between TRUE and END.
+// What is read if so many NOTs are between TRUE and END.
 fn told_of_nots(alloc: Global, count: usize) -> (u8, u32) {
     told(read_depex(alloc, &repeated(alloc, &[6], &[5], count, &[8]), Phase::Pei))
 }
@@ -163,7 +163,7 @@ const ZERO: Opcode = Opcode::Push(Guid([0; 16]));
 
 const ONE: Opcode = Opcode::Push(Guid([1; 16]));
 
-/// Postfix opcodes, and whether they hold with no GUID, with the first, and with both; none if they are of no tree.
+/// Postfix opcodes, and whether they hold with no GUID, with the first, and with both. None if they are not those of a tree.
 static TRUTHS: [(&[Opcode], Option<[bool; 3]>); 13] = [
     (&[Opcode::True], Some([true, true, true])),
     (&[Opcode::False], Some([false, false, false])),
@@ -199,7 +199,7 @@ static TRUTHS: [(&[Opcode], Option<[bool; 3]>); 13] = [
     (&[Opcode::Not, Opcode::True], None),
 ];
 
-// Where the tree of this code holds: with no GUID, with the first, and with both; none if there is no tree.
+// Whether the tree of this code holds with no GUID, with the first, and with both. None if there is no tree.
 fn truths_of(rt: &impl Abort, alloc: Global, code: &[Opcode]) -> Option<[bool; 3]> {
     match Tree::from_code(list_of(alloc, code)) {
         Some(tree) => {

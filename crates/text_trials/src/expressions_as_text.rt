@@ -69,7 +69,7 @@ static NO_EXPRESSIONS: [(&[u8], u32); 12] = [
     (b"before 03020100-0504-0706-0809-0A0B0C0D0E0F\n", 1),
 ];
 
-// Why a text is no expression's, none if it is.
+// Why a text is not that of an expression. None if it is.
 fn fault_of(alloc: Global, text: &[u8]) -> Option<TextFault> {
     parse_depex(alloc, text).err()
 }

@@ -1,11 +1,11 @@
-// HOB lists that tell of memory.
+// HOB lists that describe memory.
 use crate::hob_rows::Row::*;
 use hob_codec::kind::END;
 use hob_codec::{Handoff, Hob, encode_into, hob_len};
 use pi_base::Guid;
 use std::alloc::Global;
 
-/// A HOB after the hand-off: what a map is made of, with its type, base and length, and what is passed over.
+/// A HOB after the hand-off: one from which a map is made, with its type, base and length, or one that is ignored.
 #[derive(Clone, Copy)]
 pub(crate) enum Row {
     Cpu(u8),

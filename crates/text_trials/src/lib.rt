@@ -1,4 +1,5 @@
-//! What all other crates stand on, GUIDs, maps by GUID, real files and sinks; the texts and codes that people and files write; and what the tools of their own answer: tried row by row.
+//! Tests of the lowest crates, row by row: GUIDs and maps by GUID, real files and sinks, the texts and codes that people and files write, and the answers of
+//! the tools that have crates of their own.
 #![tactic(auto)]
 
 #[cfg(test)]

@@ -29,7 +29,7 @@ static LIST_FAULTS: [(usize, &[u8], GcdCause, u32); 9] = [
     (120, b"\xff\xff\x08\0\0\0\0\0", GcdCause::Range, 72),
 ];
 
-// The fault of so many bytes of the front, and a rest; none if they have a map.
+// The fault of a front of so many bytes, followed by a rest. None if they have a map.
 fn fault_behind(alloc: Global, front: usize, rest: &[u8]) -> Option<(GcdCause, u32)> {
     let hobs = joined(alloc, &[FRONT.get(..front)?, rest]);
     if hobs.len() > MOST_BYTES {

@@ -150,7 +150,7 @@ static CASES: [Case; 30] = [
         commands: b"free 1 2 \n",
         text: b"refused command 1\n",
     },
-    // I/O space, of which no map tells, and no commands.
+    // I/O space, which is in no map, and no commands.
     Case {
         hobs: &[
             Cpu(12),
@@ -318,7 +318,7 @@ fn put_run(sink: &mut MemSink, steps: &[(Command, Answer)], ranges: &[GcdRange])
     put_answers(sink, steps).is_ok() && put_map(sink, ranges).is_ok()
 }
 
-// Prints what commands on the map of a HOB list are answered, and the map after them, or why there is none.
+// Prints the answers to commands on the map of a HOB list, and the map after them, or why there is no map.
 fn print_run(alloc: Global, sink: &mut MemSink, hobs: &[u8], commands: &[Command]) -> bool {
     if hobs.len() > MOST_BYTES {
         return false;
@@ -332,7 +332,7 @@ fn print_run(alloc: Global, sink: &mut MemSink, hobs: &[u8], commands: &[Command
     }
 }
 
-// Prints which line is no command, where the HOB list has a map.
+// Prints which line is not a command, if the HOB list has a map.
 fn print_refusal(alloc: Global, sink: &mut MemSink, hobs: &[u8], line: u32) -> bool {
     hobs.len() <= MOST_BYTES
         && from_hobs(alloc, hobs).is_ok()

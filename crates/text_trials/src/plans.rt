@@ -9,10 +9,10 @@ use std::test::*;
 // The usual plan.
 const USUAL: &[u8] = b"temp 0x80000000 0x10000\nram 0x40000000 0x4000000\nvolume 0xfff00000 a.fv\n";
 
-/// The first bad line of a text with its cause, none if it is a plan.
+/// The first bad line of a text with its cause. None if it is a plan.
 type Fault = Option<(u32, PlanCause)>;
 
-// The fault of a text; where it is too long, one that no test expects.
+// The fault of a text. If the text is too long, it is one that no test expects.
 fn fault_of(alloc: Global, text: &[u8]) -> Fault {
     if text.len() >= MOST_TEXT {
         return Some((0, Memory));
@@ -72,7 +72,7 @@ fn a_plan_is_read(rt: HostRuntime) {
     one_reading();
 }
 
-/// Texts, and the first bad line with its cause; none if they are plans.
+/// Texts, and the first bad line with its cause. None if they are plans.
 static PLANS: [(&[u8], Fault); 34] = [
     (USUAL, None),
     (
@@ -153,7 +153,7 @@ static PLANS: [(&[u8], Fault); 34] = [
     (b"ram 0xfffffff000 0x2000", Some((1, Limit))),
 ];
 
-/// The same of lines after the usual plan.
+/// Lines after the usual plan, and the first bad line with its cause. None if it is then a plan.
 static LINES: [(&[u8], Fault); 44] = [
     (b"fuel 1", None),
     (b"fuel 1000000", None),

@@ -32,7 +32,7 @@ static CASES: [Case; 5] = [
             disable Unsupported\ndisable Success\nthis NotFound\ncell 0 0x3\nrecord 0 -\nrecord 1 -\n",
         busy: &[false, false],
     },
-    // A sum that passes 2^64, and a `put` that is to come.
+    // A sum that passes 2^64, and a `put` that is still to come.
     Case {
         file: b"mp 2 2\nthis 0 1 add=1:18446744073709551615 add=1:3 put=9\nturn 1\nturn 1\nturn 0\n",
         printed: b"this Success\ncell 0 0x0\ncell 1 0x2\nrecord 0 -\nrecord 1 -\n",
@@ -131,7 +131,7 @@ fn a_run_prints_what_was_reckoned(rt: HostRuntime) {
     each_call_is_answered();
 }
 
-// The first bad line of a text, 0 if there is none.
+// The first bad line of a text, or 0 if there is none.
 fn bad_line(alloc: Global, text: &[u8]) -> u32 {
     if text.len() >= MOST_TEXT {
         return 0;

@@ -1,4 +1,4 @@
-// The bytes of scripts, made by hand: what is cut off, and faults beside their neighbours that pass.
+// The bytes of scripts, made by hand: texts that are cut off, and faults next to their neighbours that pass.
 use act_code::{ActCause, read_script};
 use std::alloc::Global;
 use std::test::*;
@@ -11,7 +11,7 @@ fn fault_of(alloc: Global, bytes: &[u8]) -> Option<(ActCause, u32)> {
     }
 }
 
-/// Scripts and what is none, and the first fault: one thing changed in each.
+/// Scripts and bytes that are not scripts, and the first fault: one thing is changed in each.
 static FAULTS: [(&[u8], Option<(ActCause, u32)>); 33] = [
     // What is cut off: in the header, before the block, before and in its actions.
     (&[], Some((ActCause::Magic, 0))),
@@ -146,7 +146,7 @@ static FAULTS: [(&[u8], Option<(ActCause, u32)>); 33] = [
         ],
         None,
     ),
-    // A skip to the ret, one past it, and one of none.
+    // A skip to the ret, one past it, and one over no action.
     (
         &[
             0x50, 0x49, 0x41, 0x53, 1, 1, 1, 0, 3, 0, 0x12, 0, 1, 0x14, 0x13, 0,

@@ -192,7 +192,7 @@ static NO_SCRIPTS: [(&[u8], u32); 20] = [
     ),
 ];
 
-// Why a text is no script's, none if it is.
+// Why a text is not that of a script. None if it is.
 fn fault_of(alloc: Global, text: &[u8]) -> Option<TextFault> {
     parse_script(alloc, text).err()
 }
@@ -204,7 +204,7 @@ fn what_is_no_script_is_bad_at_its_line(rt: HostRuntime) {
     }
 }
 
-/// A line of 992 that are alike, whose text of 64 characters takes 66 bytes.
+/// One of 992 equal lines. Its text of 64 characters takes 66 bytes.
 const LONG: &[u8] = b"log 0123456789abcdef0123456789abcdef0123456789abcdef0123456789abcdef\n";
 
 /// The last lines of the longest script, and of one that is a byte longer.
@@ -213,7 +213,7 @@ const LAST: &[u8] = b"log 0123456789abcdef0123456789abcdef0123456789abcdef01\nre
 const LAST_LONGER: &[u8] =
     b"log 0123456789abcdef0123456789abcdef0123456789abcdef012\nret Success\n";
 
-/// Lines, a line and how many times it is after them, other lines, and why the text is no script's; none if it is.
+/// Lines, a line and how many times it follows them, other lines, and why the text is not that of a script. None if it is.
 static LIMITS: [(&[u8], &[u8], usize, &[u8], Option<TextFault>); 10] = [
     // 1,024 actions
     (
@@ -262,7 +262,7 @@ static LIMITS: [(&[u8], &[u8], usize, &[u8], Option<TextFault>); 10] = [
         b"skip_if 0 255\n",
         Some(TextFault::Bad { line: 771 }),
     ),
-    // the highest number of a block, reached by none
+    // the highest number of a block, which no script reaches
     (
         b"phase dxe\n",
         b"block\nnotify 03020100-0504-0706-0809-0a0b0c0d0e0f block 63\nret Success\n",

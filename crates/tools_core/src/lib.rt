@@ -1,6 +1,8 @@
-//! The tools beside the boot, from the words of a command line to their text: the check of a trace with free choice, a boot in an order of starts, why modules start, the memory space map, the MP services, expressions and scripts as text, volumes from their texts, and texts of volumes.
+//! The tools, from the words of a command line to their text: `check`, `follow`, `hobs`, `explain`, `gcd`, `mp`, `volume`, `text`, `asm` and `dis`.
+//! `tools_main` promises that the text and the status are exactly those that the definitions give for this command line and these file contents. Begin with
+//! `tools` and `specs/Outcome`.
 //!
-//! Tried by `scripts/check-tools`.
+//! Tested by `scripts/check-tools`.
 #![tactic(auto)]
 
 mod by_starts;

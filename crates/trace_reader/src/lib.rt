@@ -1,4 +1,4 @@
-//! The reader of a trace: the lines whose texts the bytes are, or the first line of no form.
+//! The reader of a boot's printed lines. `read_trace` returns the one list of lines that has this text, or its first bad line. Begin with `trace`.
 //!
 //! Tested in `boot_trials`: `traces`.
 #![tactic(auto)]

@@ -68,7 +68,7 @@ fn new_file(last: u8, kind: u8, sections: Vec<NewSection>) -> NewFile {
     }
 }
 
-// A file with sections of these lengths, each of bytes that tell its place.
+// A file with sections of these lengths. Each byte depends on its place.
 fn file(alloc: Global, last: u8, kind: u8, lens: &[usize]) -> NewFile {
     let mut sections = Vec::new(alloc);
     for (place, len) in lens.iter().enumerate() {
@@ -272,7 +272,7 @@ static SIZES: [(usize, usize, &[u8], usize); 3] = [
         ],
         0x100_004f,
     ),
-    // A section of a byte more than its Size field can tell is extended.
+    // A section that is a byte too long for its Size field is extended.
     (
         0xff_fffb,
         104,

@@ -11,7 +11,7 @@ use std::test::*;
 pub(crate) const ONE: &str =
     "temp 0x80000000 0x10000\nram 0x40000000 0x4000000\nvolume 0x100000 a\n";
 
-/// What stands for the fault if there is no plan for the images; no test expects it.
+/// The fault that is given if there is no plan for the images. No test expects it.
 const NO_PLAN: ImageFault = ImageFault {
     volume: 0,
     at: 0,
@@ -36,7 +36,7 @@ pub(crate) fn catalog_of(
     catalog(alloc, &plan, images)
 }
 
-/// The number of a volume, an offset in it, and what is wrong there; none if there is no fault.
+/// The number of a volume, an offset in it, and what is wrong there. None if there is no fault.
 pub(crate) type Fault = Option<(u32, u64, ImageCause)>;
 
 /// The text of a plan and those of its volumes, and their fault.

@@ -8,7 +8,7 @@ use std::alloc::Global;
 use std::process::Abort;
 use std::test::*;
 
-// The words, each digit as the GUID that it stands for.
+// The words, each digit replaced by its GUID.
 fn spelled_out(alloc: Global, words: &[u8]) -> Result<Seq<u8>, OutOfMemory> {
     let mut text = Seq::new(alloc);
     for byte in words {
@@ -23,7 +23,7 @@ fn spelled_out(alloc: Global, words: &[u8]) -> Result<Seq<u8>, OutOfMemory> {
     Ok(text)
 }
 
-// The digit that stands for a GUID.
+// The digit of a GUID.
 fn digit(guid: &Guid) -> u8 {
     if guid.0[0] < 10 {
         b'0' + guid.0[0]
@@ -92,7 +92,7 @@ fn is_read_so(alloc: Global, line: &str) -> bool {
     }
 }
 
-/// The same of other spellings of words: blanks and brackets may stand anywhere.
+/// Other spellings of the words: blanks and brackets may be anywhere.
 static OTHER_SPELLINGS: &str = "\
 pei \t 1   and\t2 : 12&.\n\
 pei ((1)AND(2))OR(3)end: 12&3|.\n\
@@ -132,7 +132,7 @@ static REFUSED: [(bool, &str, ExpressionFault); 21] = [
     (true, "AFTER 1 AND 2", ExpressionFault::Extra),
 ];
 
-// Why words are no expression. None if they are one.
+// Why words are not an expression. None if they are one.
 fn fault_of(alloc: Global, phase: Phase, words: &str) -> Option<ExpressionFault> {
     match spelled_out(alloc, words.as_bytes()) {
         Ok(text) => read_expression(alloc, phase, text.as_slice()).err(),
@@ -148,7 +148,7 @@ fn the_first_word_with_which_no_expression_goes_on_is_told(rt: HostRuntime) {
     }
 }
 
-/// Words before TRUE so many times, and why they are no expression; none if they are one.
+/// How many times words precede TRUE, and why that is not an expression. None if it is one.
 static DEEP: [(Text, Option<ExpressionFault>); 4] = [
     (("", "(", 100_000, "TRUE"), Some(ExpressionFault::Bracket)),
     (

@@ -1,6 +1,6 @@
-// Expressions and what GenDepex of EDK2 2022.11 (`BaseTools/Source/Python/AutoGen/GenDepex.py`) makes of them. A digit stands for a GUID in both; the opcodes
-// are `&` AND, `|` OR, `!` NOT, `T` TRUE, `F` FALSE, `S` SOR, `<` BEFORE, `>` AFTER and `.` END. Keywords are in several cases, which GenDepex was given in
-// upper case.
+// Expressions and what GenDepex of EDK2 2022.11 (`BaseTools/Source/Python/AutoGen/GenDepex.py`) makes of them. A digit means a GUID in both; the opcodes are
+// `&` AND, `|` OR, `!` NOT, `T` TRUE, `F` FALSE, `S` SOR, `<` BEFORE, `>` AFTER and `.` END. Keywords are in several cases, which GenDepex was given in upper
+// case.
 
 /// A line an expression: the phase of its module, its words, and after a colon its opcodes.
 pub static SPELLINGS: &str = "\

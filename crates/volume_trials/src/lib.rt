@@ -1,4 +1,5 @@
-//! Firmware volumes, their files and sections, how they are built and what is found in them, tried byte by byte; and what the text of a volume says, tried row by row: expressions as GenDepex of EDK2 spells them, the lines of actions, whole texts with their scripts, and the texts that are printed of volumes.
+//! Tests of volumes. Volumes, their files and sections, how they are built and what is found in them are tested byte by byte. The texts of volumes are tested
+//! row by row: expressions as GenDepex of EDK2 spells them, the lines of actions, whole texts with their scripts, and the texts that are printed of volumes.
 #![tactic(auto)]
 
 #[cfg(test)]

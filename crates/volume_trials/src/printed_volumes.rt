@@ -1,4 +1,4 @@
-// Volumes and their texts: what is printed of a volume that a text made, of one in which such a volume was changed, and of bytes that are none.
+// Volumes and their texts: what is printed of a volume that a text made, of one in which such a volume was changed, and of bytes that are not a volume.
 use fv_volume::{VolCause, VolFault};
 use pi_base::Seq;
 use std::alloc::Global;
@@ -67,7 +67,7 @@ static PRINTED: [(&str, &str); 15] = [
     ), // a section with an extended header that its size does not ask for, bytes left over behind a section, and neither
 ];
 
-/// The State byte of the first file of a volume without a name, where it is deleted, and where its header is invalid.
+/// The State byte of the first file of a volume without a name: the offset is used for a deleted file, and for one whose header is invalid.
 const FIRST_STATE_AT: usize = 72 + 23;
 
 const DELETED: u8 = 0xe8;
@@ -77,7 +77,7 @@ const HEADER_INVALID: u8 = 0xd8;
 /// A volume with a pad of 32 bytes at the place of its first file.
 const BEHIND_PAD: &str = "volume 256\npad 8\nfile peim 00000001-0000-4000-8000-000000000002\nend\n";
 
-/// Where that pad stands.
+/// The offset of that pad.
 const PAD_AT: usize = 72;
 
 /// A volume's text, an offset in the volume and other bytes there, and the text that is printed then. Pads are by the tables of `docs/FORMATS.md`.
@@ -193,7 +193,7 @@ fn prints(alloc: Global, text: &str, printed: &str) -> bool {
     }
 }
 
-// The printed text makes a volume that is printed alike.
+// The printed text makes a volume that prints the same text.
 #[test]
 fn volumes_are_printed_line_by_line(rt: HostRuntime) {
     for (text, printed) in &PRINTED {

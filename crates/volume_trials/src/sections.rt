@@ -48,10 +48,10 @@ const ONE_SECTION: [u8; 19] = [
 /// The first of the two sections.
 const FIRST: [u8; 5] = [5, 0, 0, 0x10, 0xaa];
 
-/// The type of a section, where its body stands and how long it is.
+/// The type of a section, the offset of its body and its length.
 type Row = (u8, u64, u64);
 
-/// Streams, and their sections, or where they go wrong and why.
+/// Streams, and their sections, or the place and the cause of their fault.
 static STREAMS: [(&[u8], Result<&[Row], SecFault>); 13] = [
     // No bytes; a whole section; an extended one, and one of the least size.
     (&[], Ok(&[])),
@@ -60,7 +60,7 @@ static STREAMS: [(&[u8], Result<&[Row], SecFault>); 13] = [
     (&[0xff, 0xff, 0xff, 0x10, 8, 0, 0, 0], Ok(&[(PE32, 8, 0)])),
     // The second section begins at the next multiple of four; three bytes may be left at the end.
     (&TWO, Ok(&[(PE32, 4, 1), (RAW, 12, 0)])),
-    // The rounded place may lie after the end.
+    // The rounded place may be past the end.
     (&FIRST, Ok(&[(PE32, 4, 1)])),
     // A size below its header's length.
     (
@@ -134,7 +134,7 @@ fn many() -> [u8; 1028] {
     bytes
 }
 
-// How many sections are read, 0 where the bytes are refused.
+// How many sections are read. 0 if the bytes are refused.
 fn count_of(alloc: Global, bytes: &[u8]) -> usize {
     match read_sections(alloc, bytes) {
         Ok(sections) => sections.len(),
@@ -149,7 +149,7 @@ fn the_most_sections_are_read(rt: HostRuntime) {
         at: 1024,
         cause: SecCause::TooMany,
     };
-    // 256 sections are read, and the next one is too many, also where it has another fault.
+    // 256 sections are read, and the next one is too many, even if it has another fault.
     assert!(rt; count_of(rt.alloc(), front(&bytes, 1024)) == 256);
     assert!(rt; is_so(rt.alloc(), &bytes, &Err(fault)));
     bytes[1024] = 0;

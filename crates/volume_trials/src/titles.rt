@@ -29,7 +29,7 @@ gives 3 pei 00000000-0000-0000-0000-00000000000d
 gives 3 pei any
 ";
 
-// The lines of a volume's catalogue, none if it has none.
+// The lines of a volume's catalogue. None if it has none.
 fn lines_of(alloc: Global, images: &[Seq<u8>]) -> Option<Seq<u8>> {
     let catalog = catalog_of(alloc, ONE, images).ok()?;
     if catalog.modules.len() > 4 {

@@ -101,7 +101,7 @@ type Row = (&'static [u8], u64, VolCause);
 /// Faults of a header, and of the file at 72.
 static FAULTS: [Row; 21] = [
     (&[50, 0xd0], 50, VolCause::HeaderSum),
-    // Each cause with a later one beside it: the first in order is told.
+    // Each cause together with a later one: the first in order is returned.
     (&[40, 0x2d, 55, 1], 40, VolCause::Signature),
     (&[55, 1, 16, 0], 55, VolCause::Revision),
     (&[16, 0, 33, 0x11], 16, VolCause::FileSystem),
@@ -175,7 +175,7 @@ static STATES: [(&[u8], bool); 12] = [
     (&[88, 0xdb, 90, 0xf0], false),
 ];
 
-// The one file, or none.
+// The one file, or no file.
 const fn peims(is_listed: bool) -> &'static [FfsFile] {
     if is_listed { &[THE_PEIM] } else { &[] }
 }
@@ -297,7 +297,7 @@ fn with_one_more(rt: &impl Abort, alloc: Global, most: &[u8]) -> Seq<u8> {
     bytes
 }
 
-// How many files are listed, none if the bytes are refused.
+// How many files are listed. None if the bytes are refused.
 fn count_of(alloc: Global, bytes: &[u8]) -> usize {
     match read_volume(alloc, bytes) {
         Ok(volume) => volume.files.len(),

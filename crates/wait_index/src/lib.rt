@@ -1,6 +1,6 @@
-//! Which parts wait, by the GUIDs that they wait for: the parts of the volumes that are known, each with its place, and the first of them that may start. An
-//! expression is evaluated when its part comes, and again only when one of its GUIDs came or went. The places are kept in sets (`PlaceSet`): the first place of
-//! a set from a cursor on is found block by block, so that 64 places of which none is in the set cost one look.
+//! The index of the parts that wait, by the GUIDs that they wait for. `next` returns the first part from a cursor on that may start; an expression is evaluated
+//! when its part is discovered, and again only after one of its GUIDs was installed or removed. Begin with `index` and `specs/Index`. A `PlaceSet` is searched
+//! block by block, so 64 places that are not in the set cost one look.
 //!
 //! Tested in `choice_trials`: `place_sets`, `drivers`.
 #![tactic(auto)]

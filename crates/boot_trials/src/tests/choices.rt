@@ -50,7 +50,7 @@ const EXPRESSIONS_BOOT_TEXT: Text<'static> = Text {
     ..NOTHING
 };
 
-// The first PEIM registers for shadow and gives memory, but not when it was registered before.
+// The first PEIM registers for shadow and reports memory, but not when it was registered before.
 const SHADOW: Text<'static> = Text {
     head: b"volume 4096
 file peim 00000000-0000-0000-0000-00000000000a
@@ -74,7 +74,7 @@ const SHADOW_TEXT: Text<'static> = Text {
     ..NOTHING
 };
 
-// A PEIM registers for shadow, and none gives memory.
+// A PEIM registers for shadow, and no module reports memory.
 const SHADOW_WITHOUT_MEMORY: Text<'static> = Text {
     head: b"volume 4096
 file peim 00000000-0000-0000-0000-00000000000a

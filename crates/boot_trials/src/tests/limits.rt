@@ -1,4 +1,4 @@
-// How much may stand, run and be taken: volumes, what is printed of their boots, and the status.
+// The limits on volumes, frames and actions: volumes, what is printed of their boots, and the status.
 use super::text::{NOTHING, Text};
 use super::{Case, Image, SMALLEST, VOLUME};
 use boot_core::Status;
@@ -105,7 +105,7 @@ const ONE_PAGE_TEXT: Text<'static> = Text {
     ..NOTHING
 };
 
-/// How much may stand, run and be taken: each boot, its text and its status.
+/// The limits on volumes, frames and actions: each boot, its text and its status.
 pub(super) static FRAMES: [(Case<'static>, Text<'static>, Status); 5] = [
     // A callback that reinstalls its own PPI, until the fuel is spent.
     (
@@ -120,7 +120,7 @@ pub(super) static FRAMES: [(Case<'static>, Text<'static>, Status); 5] = [
         FRAMES_FUEL_50_TEXT,
         Status::Spent,
     ),
-    // The same, until as many frames stand as may.
+    // The same boot, until the most frames are running.
     (
         Case {
             plan: FRAMES_FUEL_131_PLAN,
@@ -133,7 +133,7 @@ pub(super) static FRAMES: [(Case<'static>, Text<'static>, Status); 5] = [
         FRAMES_FUEL_131_TEXT,
         Status::Deep,
     ),
-    // The same with more fuel.
+    // The same boot with more fuel.
     (
         Case {
             plan: FRAMES_FUEL_1000000_PLAN,

@@ -1,9 +1,9 @@
-// What lies where after the move: volumes, what is printed of their boots, and the status.
+// The places of things after the move: volumes, what is printed of their boots, and the status.
 use super::text::{NOTHING, Text};
 use super::{Case, Image, PAGES, SMALLEST, VOLUME};
 use boot_core::Status;
 
-// One descriptor twice, and one whose GUID lies in the volume; the second PEIM peeks at what moved.
+// One descriptor twice, and one whose GUID is in the volume; the second PEIM peeks at what moved.
 const SHARED_DESCRIPTOR: Text<'static> = Text {
     head: b"volume 4096
 file peim 00000000-0000-0000-0000-00000000000a
@@ -170,9 +170,9 @@ const EARLY_PAGES_TEXT: Text<'static> = Text {
     ..NOTHING
 };
 
-/// What lies where after the move: each boot, its text and its status.
+/// The places of things after the move: each boot, its text and its status.
 pub(super) static MOVES: [(Case<'static>, Text<'static>, Status); 5] = [
-    // One descriptor is installed twice; the move shifts it once, and what a script peeks is where it lies now.
+    // One descriptor is installed twice. The move shifts it once, and a script peeks at its new place.
     (
         Case {
             images: &[Image {

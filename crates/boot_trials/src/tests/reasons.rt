@@ -98,7 +98,7 @@ start 4 dxe true
 needed 4 00000000-0000-0000-0000-000000000031 5
 ";
 
-// The same where the fourth PEIM comes before the second: it asks for nothing that the second gives.
+// The same boot with the fourth PEIM before the second: it asks for nothing that the second gives.
 static OTHER_STARTS: &[u8] = b"start 0 pei absent
 start 3 pei true
 needed 3 00000000-0000-0000-0000-000000000021 0
@@ -111,9 +111,9 @@ start 4 dxe true
 needed 4 00000000-0000-0000-0000-000000000031 5
 ";
 
-// A NOT would need a protocol to go; a driver with SOR lacks nothing but its request; one without an expression waits for all architectural protocols; one of
-// two is fewer than two of three. After the move the HOB list has the hand-off HOB with 56 bytes, three descriptors with 48, three nodes with 40, the FV HOB
-// with 24 and the end HOB with 8.
+// A NOT would need a protocol to be removed; a driver with SOR is missing nothing but its request; one without an expression waits for all architectural
+// protocols; one of two is fewer than two of three.
+// After the move the HOB list has the hand-off HOB with 56 bytes, three descriptors with 48, three nodes with 40, the FV HOB with 24 and the end HOB with 8.
 static WAITS: &[u8] = b"waits 2 pei false
 lacks 2 00000000-0000-0000-0000-000000000022 -
 would 2 00000000-0000-0000-0000-000000000022
@@ -214,7 +214,7 @@ fn explained(rt: &impl Abort, alloc: Global, plan: &Plan, most: Option<u64>) -> 
     }
 }
 
-// The number of the module before whose start a boot is left; none if it comes to its end with these starts.
+// The number of the module before whose start a boot is left. None if it comes to its end with these starts.
 fn left_at(
     rt: &impl Abort,
     alloc: Global,
@@ -239,7 +239,8 @@ fn left_at(
     }
 }
 
-// With one start fewer the boot in the other order is left before the first driver, which is scheduled beside the third, and is barred all the same.
+// With one start fewer, the boot in the other order is left before the first driver. That driver is scheduled together with the third, and is not allowed
+// either.
 #[test]
 fn a_boot_tells_why_each_module_starts_or_waits_and_is_left_before_one_that_is_not_let(
     rt: HostRuntime,

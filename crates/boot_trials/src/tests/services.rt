@@ -3,7 +3,7 @@ use super::text::{HAND_OFF, NOTHING, Text};
 use super::{Case, Image, SMALLEST, VOLUME};
 use boot_core::Status;
 
-// Each handle service, also where it refuses, and a volume that is processed again.
+// Each handle service, also when it refuses, and a volume that is processed again.
 const HANDLES: Text<'static> = Text {
     head: b"volume 4096\n",
     turn: HAND_OFF,
@@ -106,7 +106,7 @@ pub(super) static SERVICES: [(Case<'static>, Text<'static>, Status); 3] = [
         FRAMES_FUEL_74_TEXT,
         Status::Spent,
     ),
-    // The same with one more action, until as many frames stand as may.
+    // The same boot with one more action, until the most frames are running.
     (
         Case {
             plan: FRAMES_FUEL_75_PLAN,

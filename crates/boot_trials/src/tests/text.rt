@@ -17,7 +17,7 @@ pub(super) const NOTHING: Text<'static> = Text {
     tail: &[],
 };
 
-/// The lines of a PEIM that gives memory, installs the DXE IPL PPI, and tells of the volume in a HOB.
+/// The lines of a PEIM that reports memory, installs the DXE IPL PPI, and reports the volume in a HOB.
 pub(super) const HAND_OFF: &[u8] = b"file peim 00000000-0000-0000-0000-00000000000f
 script pei
 block
