@@ -10,6 +10,7 @@ pub mod Highest
 pub mod Tops
 pub mod Unique
 pub mod Following
+pub mod AnyOrder
 pub mod Walking
 pub mod OneStop
 pub mod OneSpace

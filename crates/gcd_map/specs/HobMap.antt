@@ -1,11 +1,11 @@
 -- The memory space that a HOB list describes: its resources, one after another, and then its allocations. PI 1.8, volume 3, "HOB Code Definitions". Resources
 -- of other types are ignored (own).
-use Rattle.std.specs.Prelude.{◌≡◌, ℕ, ◌+◌, ◌^◌, ◌<◌, ◌≤◌, ◌==◌, ◌||◌, if◌then◌else◌, List, [], ◌∷◌, Option, Some, None, option_map, Result, Ok, Err}
+use Rattle.std.specs.Prelude.{◌≡◌, ◌≢◌, ℕ, ◌+◌, ◌^◌, ◌<◌, ◌≤◌, ◌==◌, ◌||◌, if◌then◌else◌, List, [], ◌∷◌, Option, Some, None, option_map, Result, Ok, Err}
 use Rattle.std.specs.Option.{option_or}
 use Rattle.hob_codec.specs.{declared.fault.HobFault.HobFault, declared.list.HobPlace.HobPlace, HobReading.reading, HobList.AreHobs}
 use Rattle.hob_codec.specs.HobValue.{HobValue, ResourceHob, AllocationHob, CpuHob}
 use Rattle.gcd_map.specs.{declared.state.GcdKind.GcdKind, declared.hob.HobStretch.HobStretch, declared.hob.CpuSize.CpuSize}
-use Rattle.gcd_map.specs.declared.state.GcdKind.TheVariants.{Reserved, System, Mmio}
+use Rattle.gcd_map.specs.declared.state.GcdKind.TheVariants.{NonExistent, Reserved, System, Mmio}
 use Rattle.gcd_map.specs.declared.hob.TheConstants.{SYSTEM_MEMORY, MEMORY_MAPPED_IO, FIRMWARE_DEVICE, MEMORY_MAPPED_IO_PORT, MEMORY_RESERVED}
 use Rattle.gcd_map.specs.{declared.map.TheConstants.LEAST_BITS, declared.map.TheConstants.MOST_BITS, Stretch.AllIn}
 use Rattle.gcd_map.specs.AddressSpace.{MemorySpace, state_at, with_change, add_change, allocate_change, empty_space}
@@ -72,6 +72,10 @@ AreBits bits = (LEAST_BITS ≤ bits) × (bits ≤ MOST_BITS)
 -- a resource may come: it has an address, ends in the space, and meets nothing
 abbrev pub MayCome : MemorySpace → HobStretch → Type 0
 MayCome space s = (0 < s.len) × (s.base + s.len ≤ space.limit) × AllIn (state_at space) s.base (s.base + s.len) IsAbsent
+
+-- one of a kind may come
+abbrev pub Comes : MemorySpace → HobStretch → Type 0
+Comes space s = MayCome space s × (s.kind ≢ NonExistent)
 
 abbrev pub came : MemorySpace → HobStretch → MemorySpace
 came space s = with_change space (add_change s.kind s.base s.len)

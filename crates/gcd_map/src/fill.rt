@@ -1,17 +1,20 @@
 // The resources and allocations of a HOB list, one after another.
-ghost use Rattle.std.specs.Prelude.{◌≡◌, ◌≢◌, ◌<◌, ◌^◌, MatchResult};
+ghost use Rattle.std.specs.Prelude.{◌≡◌, ◌≢◌, ◌<◌, ◌^◌, true, IfOk, MatchResult};
+ghost use Rattle.std.specs.List.Sorted.{IsPermutation};
 ghost use Rattle.pi_base.specs.Lists.{Each};
 ghost use Rattle.gcd_map.specs.{declared.fault.GcdCause.TheVariants.Memory, AddressSpace.MemorySpace, SpaceMap.Shows};
-ghost use Rattle.gcd_map.specs.HobMap.{resource_at, allocation_at, resources, allocations, MayCome, came, MayBeTaken, taken, Follow, IsFilled};
+ghost use Rattle.gcd_map.specs.HobMap.{resource_at, allocation_at, resources, allocations, MayCome, Comes, came, MayBeTaken, taken, Follow, IsFilled};
 ghost use Rattle.gcd_map.specs.HobFaults.{ComesNot, IsNotTaken, Stops, IsMemoryFault};
 ghost use Rattle.gcd_map.specs.Places.{IsNear, resource_cause, allocation_cause, Step, IsStepFault};
 
 use crate::fault::{GcdCause, GcdFault};
-use crate::hob::{allocation_at, resource_at};
+use crate::hob::{HobStretch, allocation_at, resource_at};
 use crate::map::GcdMap;
 use crate::state::GcdKind;
 use crate::word::GcdWord;
 use hob_codec::HobPlace;
+use pi_base::{OutOfMemory, Seq};
+use std::alloc::Global;
 
 fn resource_cause(word: GcdWord) -> GcdCause
     ensures { result ≡ resource_cause word }
@@ -30,6 +33,38 @@ fn allocation_cause(word: GcdWord) -> GcdCause
         GcdWord::Memory => GcdCause::Memory,
         _ => GcdCause::Outside,
     }
+}
+
+// The resources, in order of base.
+fn by_base(alloc: Global, bytes: &[u8], places: &[HobPlace]) -> Result<Vec<HobStretch>, OutOfMemory>
+    ensures { IfOk result (λ sorted. IsPermutation (resources bytes.now places.now) sorted.items) }
+{
+    let mut sorted = Seq::new(alloc);
+    let mut rest = places;
+    'places: while let Some((place, after)) = rest.split_first() {
+        if let Some(resource) = resource_at(bytes, place.at) {
+            sorted.push(resource)?;
+        }
+        rest = after;
+    }
+    let mut sorted = sorted.into_vec();
+    sorted.sort_unstable_by_key(|resource| resource.base);
+    Ok(sorted)
+}
+
+// Adds resources, until one cannot come; whether all came.
+fn add_each(map: &mut GcdMap, stretches: &[HobStretch]) -> bool
+    ensures { result ≡ true → (space : MemorySpace) → Shows map.old space
+        → (end : MemorySpace) × Follow Comes came space stretches.now end × Shows map.new end }
+{
+    let mut rest = stretches;
+    'stretches: while let Some((stretch, after)) = rest.split_first() {
+        if map.add(stretch.kind, stretch.base, stretch.len).is_err() {
+            return false;
+        }
+        rest = after;
+    }
+    true
 }
 
 // Adds the resource at a place, if one is there.
@@ -70,8 +105,8 @@ fn take_at(map: &mut GcdMap, bytes: &[u8], at: usize) -> Result<(), GcdFault>
     }
 }
 
-// Adds the resources in order.
-fn add_resources(map: &mut GcdMap, bytes: &[u8], places: &[HobPlace]) -> Result<(), GcdFault>
+// Adds the resources in order, up to the first that cannot come.
+fn add_in_order(map: &mut GcdMap, bytes: &[u8], places: &[HobPlace]) -> Result<(), GcdFault>
     requires near { Each IsNear places.now }
     ensures { (space : MemorySpace) → Shows map.old space
         → MatchResult result
@@ -84,6 +119,23 @@ fn add_resources(map: &mut GcdMap, bytes: &[u8], places: &[HobPlace]) -> Result<
         rest = after;
     }
     Ok(())
+}
+
+// Adds the resources. In order of base each comes near the end of the map; only where one cannot come does their own order tell which is the first.
+fn add_resources(map: &mut GcdMap, bytes: &[u8], places: &[HobPlace]) -> Result<(), GcdFault>
+    requires near { Each IsNear places.now }
+    ensures { (space : MemorySpace) → Shows map.old space
+        → MatchResult result
+        (λ _. (end : MemorySpace) × Follow MayCome came space (resources bytes.now places.now) end × Shows map.new end)
+        (λ fault. fault.cause ≢ Memory → Stops MayCome came ComesNot space (resources bytes.now places.now) fault) }
+{
+    let sorted = by_base(map.alloc(), bytes, places)?;
+    let mut trial = map.copy()?;
+    if add_each(&mut trial, sorted.as_slice()) {
+        *map = trial;
+        return Ok(());
+    }
+    add_in_order(map, bytes, places)
 }
 
 // Allocates the allocations in order.

@@ -62,6 +62,24 @@ impl GcdMap {
         }
     }
 
+    // A copy of the map.
+    pub(crate) fn copy(&self) -> Result<GcdMap, OutOfMemory>
+        ensures { IfOk result (λ map. map ≡ self.now) }
+    {
+        match Vec::from_slice(self.alloc(), self.ranges.as_slice()) {
+            Ok(ranges) => Ok(GcdMap {
+                limit: self.limit,
+                ranges,
+            }),
+            Err(_) => Err(OutOfMemory),
+        }
+    }
+
+    // The allocator that the map keeps.
+    pub(crate) fn alloc(&self) -> Global {
+        *self.ranges.allocator()
+    }
+
     // The address after a stretch, if the stretch is in the memory space.
     fn end_of(&self, base: u64, len: u64) -> Option<u64>
         ensures { SomeIff result (base + len ≤ self.now.limit) (base + len) }

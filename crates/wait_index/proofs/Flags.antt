@@ -107,3 +107,18 @@ none_set (suc n) (suc place) = none_set n place
 pub none_left : (flags : List Bool) (from : ℕ) (first : Option ℕ) → IsFirst (either false flags flags) from first → from ≡ 0 → IfNone first (count flags ≡ 0)
 none_left flags from (Some place) is front = tt
 none_left flags from None is front = count_none flags (λ place. (or_false (flag flags place) false (flag flags place) (is place (omega (arith, front)))).0)
+
+-- after the first place from one on was taken out, none comes before it, where none came before the one
+pub none_before : (old new : ℕ → Bool) (from first : ℕ) → ((place : ℕ) → place < from → old place ≡ false) → ((place : ℕ) → from ≤ place → place < first → old place ≡ false)
+    → ((other : ℕ) → ¬ (first ≡ other) → new other ≡ old other) → (place : ℕ) → place < first → new place ≡ false
+none_before old new from first before between others place less = others place (λ e. absurd (omega (arith, e, less))) ∙ elim (leb_tells from place) [
+  | inl on ↦ between place on.1 less
+  | inr past ↦ before place past.1
+]
+
+-- where none comes before a place, and none from it on, none is set
+pub none_at_all : (flags : List Bool) (from : ℕ) → ((place : ℕ) → place < from → flag flags place ≡ false) → ((place : ℕ) → from ≤ place → flag flags place ≡ false) → count flags ≡ 0
+none_at_all flags from before behind = count_none flags (λ place. elim (leb_tells from place) [
+  | inl on ↦ behind place on.1
+  | inr past ↦ before place past.1
+])

@@ -89,6 +89,9 @@ impl PlaceSet {
         ensures counted { count self.new ≤ count self.old }
         ensures one_less { flag self.old place ≡ true → count self.new + 1 ≡ count self.old }
     {
+        if !self.contains(place) {
+            return;
+        }
         self.flags.set(place, false);
         unmark(self.flags.as_slice(), &mut self.blocks, place / BLOCK);
     }

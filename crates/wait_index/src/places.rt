@@ -115,6 +115,7 @@ impl Places {
         ensures in_order { IsInOrder self.new }
         ensures kept { IsKept self.old self.new }
         ensures counted { count self.new.stale + 1 ≡ count self.old.stale }
+        ensures others { (other : ℕ) → ¬ (place ≡ other) → flag self.new.stale other ≡ flag self.old.stale other }
         ensures as_many { length self.new.standings ≡ length self.old.standings }
         ensures judged { (judge : ℕ → OfVerdict)
             → ((number : ℕ) → slice_get (order_of self.old) place ≡ Some number → verdict ≡ judge number)

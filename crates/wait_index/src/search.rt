@@ -57,13 +57,15 @@ pub(crate) fn first_in(
     None
 }
 
-// Whether no place of a block is in the set.
+// Whether no place of a block is in the set. The last place comes first, since places are mostly taken out in order.
 pub(crate) fn is_empty(flags: &[bool], block: usize) -> bool
     requires { block < BLOCKS }
     ensures { result ≡ true → (place : ℕ) → block * BLOCK ≤ place → place < block * BLOCK + BLOCK → flag flags.now place ≡ false }
 {
-    'places: for at in block * BLOCK..block * BLOCK + BLOCK {
-        if flag(flags, at) {
+    let mut left = BLOCK;
+    'places: while left > 0 {
+        left -= 1;
+        if flag(flags, block * BLOCK + left) {
             return false;
         }
     }

@@ -31,9 +31,11 @@ pub(crate) fn settle<L: Ledger>(
     ensures counted { steps.old ≤ steps.new }
     ensures few_steps { steps.new ≤ steps.old + count places.old.stale }
 {
-    'stale: while let Some(place) = places.stale.first_from(0) {
+    let mut from = 0;
+    'stale: while let Some(place) = places.stale.first_from(from) {
         let number = places.number_at(place);
         let verdict = verdict_of(phase, catalog, number, installed, steps);
         places.judge(place, verdict);
+        from = place;
     }
 }

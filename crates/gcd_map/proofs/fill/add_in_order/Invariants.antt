@@ -3,7 +3,7 @@ use Rattle.pi_base.specs.Lists.{Each}
 use Rattle.gcd_map.specs.HobMap.{resources, MayCome, came}
 use Rattle.gcd_map.specs.{HobFaults.ComesNot, Places.IsNear}
 use Rattle.gcd_map.proofs.Following.{Goes}
-use Rattle.gcd_map.proofs.fill.add_resources.Given as goal
+use Rattle.gcd_map.proofs.fill.add_in_order.Given as goal
 
 abbrev pub invariant-resources : goal.invariant-resources
 invariant-resources l = record {
