@@ -1,4 +1,4 @@
-use Rattle.dxe_dispatch.proofs.boot.boot_dxe.Given as goal
+use Rattle.dxe_dispatch.proofs.boot.watch_boot.Given as goal
 
 -- its steps are counted in the ledger of its blank
 abbrev pub ghosts-run_with_ledger : goal.ghosts-run_with_ledger
