@@ -25,17 +25,17 @@ use Rattle.dxe_dispatch.proofs.Chosen.{Any, StepLaws, TakesFew, few_by, few_star
 use Rattle.dxe_dispatch.proofs.Targets.{left_before}
 
 -- the lines of the target are those of the machine
-from_target : (m target later : DxeMachine) (told : List Line) → target.lines ≡ m.lines → later.lines ≡ target.lines ++ told → later.lines ≡ m.lines ++ told
+pub from_target : (m target later : DxeMachine) (told : List Line) → target.lines ≡ m.lines → later.lines ≡ target.lines ++ told → later.lines ≡ m.lines ++ told
 from_target m target later told same lines = lines ∙ ap (λ xs. xs ++ told) same
 
 -- the text with what a step printed
-text_more : (m later : DxeMachine) (told : List Line) (old mid new : Option (List ℕ)) → later.lines ≡ m.lines ++ told → Appends old mid (text_of m.lines) → Appends mid new (text_of told) → Appends old new (text_of later.lines)
+pub text_more : (m later : DxeMachine) (told : List Line) (old mid new : Option (List ℕ)) → later.lines ≡ m.lines ++ told → Appends old mid (text_of m.lines) → Appends mid new (text_of told) → Appends old new (text_of later.lines)
 text_more m later told old mid new lines f g =
     let P : List ℕ → Type 0 = λ text. Appends old new text in
     subst P (sym (ap text_of lines ∙ text_of-append m.lines told)) (appends_then old mid new (text_of m.lines) (text_of told) f g)
 
 -- the text where nothing was put
-text_still : (bytes : List ℕ) (old mid new : Option (List ℕ)) → Appends old mid bytes → Appends mid new [] → Appends old new bytes
+pub text_still : (bytes : List ℕ) (old mid new : Option (List ℕ)) → Appends old mid bytes → Appends mid new [] → Appends old new bytes
 text_still bytes old mid new f g = subst (Appends old new) (append-nil bytes) (appends_then old mid new bytes [] f g)
 
 -- the text with a part of what a step printed
@@ -59,7 +59,7 @@ pub record IsComing {M S : Type 0} (Names : DxeMachine → Option ℕ → Type 0
   pub left : steps_left catalog fuel (came catalog fuel opening earlier) + turns ≤ dxe_bound catalog fuel
   pub counted : FewBy catalog fuel opening earlier before evaluated
 
-few_on : (catalog : Catalog) (fuel : ℕ) (opening : DxeMachine) (earlier : List DxeMachine) (target : DxeMachine) (before evaluated now : ℕ) → target.discovered ≡ (came catalog fuel opening earlier).discovered
+pub few_on : (catalog : Catalog) (fuel : ℕ) (opening : DxeMachine) (earlier : List DxeMachine) (target : DxeMachine) (before evaluated now : ℕ) → target.discovered ≡ (came catalog fuel opening earlier).discovered
     → FewBy catalog fuel opening earlier before evaluated → EvaluatesWithin catalog fuel target evaluated now → FewBy catalog fuel opening (target ∷ earlier) before now
 few_on catalog fuel opening earlier target before evaluated now same few within =
     sums before evaluated now _ _ _ _ _ (ap (λ xs. length (drivers_of catalog xs)) same) few within
@@ -68,7 +68,7 @@ few_on catalog fuel opening earlier target before evaluated now same few within 
     sums before evaluated now here there by_step old target same few within = omega (arith, same, few, within)
 
 -- one turn more
-pub coming_on : {M S : Type 0} (laws : StepLaws) (Names : DxeMachine → Option ℕ → Type 0) (Lets : DxeMachine → ℕ → Bool) (text : S → Option (List ℕ)) (faults : S → ℕ) (stands : M → StoreState → Type 0) (store : M) (catalog : Catalog) (fuel : ℕ)
+unfoldable pub coming_on : {M S : Type 0} (laws : StepLaws) (Names : DxeMachine → Option ℕ → Type 0) (Lets : DxeMachine → ℕ → Bool) (text : S → Option (List ℕ)) (faults : S → ℕ) (stands : M → StoreState → Type 0) (store : M) (catalog : Catalog) (fuel : ℕ)
     (opening : DxeMachine) (first : S) (turns : ℕ) (core later : DxeCore) (kept grown : Queue) (sink shown : S) (before evaluated now : ℕ) (step : Step) → IsWellFormed catalog
     → (way : IsComing Names Lets text faults stands store catalog fuel opening first turns core kept sink before evaluated)
     → TurnsBy Names Lets (IsNow stands store catalog later grown) (IsLeft stands store catalog later grown) catalog fuel (came catalog fuel opening way.earlier) (record { old = text sink; new = text shown }) evaluated now (Ok (T.Took step)) → faults shown ≡ faults sink
@@ -95,7 +95,7 @@ coming_on laws Names Lets text faults stands store catalog fuel opening first tu
     }
 
 -- the turn that ends it
-coming_over : {M S : Type 0} (first_law : FirstEligibleMayStart) (Names : DxeMachine → Option ℕ → Type 0) (Lets : DxeMachine → ℕ → Bool) (text : S → Option (List ℕ)) (faults : S → ℕ) (stands : M → StoreState → Type 0) (store : M) (catalog : Catalog) (fuel : ℕ)
+unfoldable pub coming_over : {M S : Type 0} (first_law : FirstEligibleMayStart) (Names : DxeMachine → Option ℕ → Type 0) (Lets : DxeMachine → ℕ → Bool) (text : S → Option (List ℕ)) (faults : S → ℕ) (stands : M → StoreState → Type 0) (store : M) (catalog : Catalog) (fuel : ℕ)
     (opening : DxeMachine) (first : S) (turns : ℕ) (core later : DxeCore) (kept grown : Queue) (sink shown : S) (before evaluated now : ℕ) (how : DxeEnd)
     → (way : IsComing Names Lets text faults stands store catalog fuel opening first turns core kept sink before evaluated)
     → TurnsBy Names Lets (IsNow stands store catalog later grown) (IsLeft stands store catalog later grown) catalog fuel (came catalog fuel opening way.earlier) (record { old = text sink; new = text shown }) evaluated now (Ok (T.Reached (R.End how)))
@@ -117,7 +117,7 @@ coming_over first_law Names Lets text faults stands store catalog fuel opening f
     }
 
 -- the turn before which it is left, since a driver is not let
-coming_bars : {M S : Type 0} (first_law : FirstEligibleMayStart) (Names : DxeMachine → Option ℕ → Type 0) (Lets : DxeMachine → ℕ → Bool) (text : S → Option (List ℕ)) (faults : S → ℕ) (stands : M → StoreState → Type 0) (store : M) (catalog : Catalog) (fuel : ℕ)
+unfoldable pub coming_bars : {M S : Type 0} (first_law : FirstEligibleMayStart) (Names : DxeMachine → Option ℕ → Type 0) (Lets : DxeMachine → ℕ → Bool) (text : S → Option (List ℕ)) (faults : S → ℕ) (stands : M → StoreState → Type 0) (store : M) (catalog : Catalog) (fuel : ℕ)
     (opening : DxeMachine) (first : S) (turns : ℕ) (core later : DxeCore) (kept grown : Queue) (sink shown : S) (before evaluated now : ℕ) (number : ℕ)
     → (way : IsComing Names Lets text faults stands store catalog fuel opening first turns core kept sink before evaluated)
     → TurnsBy Names Lets (IsNow stands store catalog later grown) (IsLeft stands store catalog later grown) catalog fuel (came catalog fuel opening way.earlier) (record { old = text sink; new = text shown }) evaluated now (Ok (T.Reached (R.Barred number)))
@@ -139,7 +139,7 @@ coming_bars first_law Names Lets text faults stands store catalog fuel opening f
     }
 
 -- either of the two
-pub coming_to : {M S : Type 0} (first_law : FirstEligibleMayStart) (Names : DxeMachine → Option ℕ → Type 0) (Lets : DxeMachine → ℕ → Bool) (text : S → Option (List ℕ)) (faults : S → ℕ) (stands : M → StoreState → Type 0) (store : M) (catalog : Catalog) (fuel : ℕ)
+unfoldable pub coming_to : {M S : Type 0} (first_law : FirstEligibleMayStart) (Names : DxeMachine → Option ℕ → Type 0) (Lets : DxeMachine → ℕ → Bool) (text : S → Option (List ℕ)) (faults : S → ℕ) (stands : M → StoreState → Type 0) (store : M) (catalog : Catalog) (fuel : ℕ)
     (opening : DxeMachine) (first : S) (turns : ℕ) (core later : DxeCore) (kept grown : Queue) (sink shown : S) (before evaluated now : ℕ) (reached : Reached DxeEnd)
     → (way : IsComing Names Lets text faults stands store catalog fuel opening first turns core kept sink before evaluated)
     → TurnsBy Names Lets (IsNow stands store catalog later grown) (IsLeft stands store catalog later grown) catalog fuel (came catalog fuel opening way.earlier) (record { old = text sink; new = text shown }) evaluated now (Ok (T.Reached reached))
@@ -259,7 +259,7 @@ opening_queue catalog kept queue volumes s actions new same discovers =
     discovers before opening (new.of before (record { discovered = refl; requested = refl; scheduled = refl; started = refl; handles = refl })) has
 
 -- the opening, with its lines and its queue
-pub opening_comes : {M S : Type 0} (opens : DxeOpensUnderWay) (waits : UnrequestedDriversWait) (Names : DxeMachine → Option ℕ → Type 0) (Lets : DxeMachine → ℕ → Bool) (text : S → Option (List ℕ)) (faults : S → ℕ) (stands : M → StoreState → Type 0) (store : M) (catalog : Catalog) (fuel : ℕ)
+unfoldable pub opening_comes : {M S : Type 0} (opens : DxeOpensUnderWay) (waits : UnrequestedDriversWait) (Names : DxeMachine → Option ℕ → Type 0) (Lets : DxeMachine → ℕ → Bool) (text : S → Option (List ℕ)) (faults : S → ℕ) (stands : M → StoreState → Type 0) (store : M) (catalog : Catalog) (fuel : ℕ)
     (s : StoreState) (actions : ℕ) (first : S) (core : DxeCore) (kept queue : Queue) (shown : List ℕ) (sink : S) (steps : ℕ) → IsWellFormed catalog → StandsFor stands store catalog core (dxe_opening catalog s actions) → IsNewQueue catalog kept
     → Discovers catalog kept shown queue → owed queue ≤ owed kept + length (drivers_of catalog shown) → shown ≡ (dxe_opening catalog s actions).discovered
     → Appends (text first) (text sink) (text_of (discovery_lines shown)) → faults sink ≡ faults first

@@ -21,3 +21,4 @@ mod Machines
 mod Scheduling
 mod WaitingDrivers
 mod Walks
+mod Watching

@@ -7,7 +7,7 @@ use Rattle.boot_model.specs.{Discovery.discoveries, DxeRun.dxe_opening, DxeRun.d
 use Rattle.boot_model.specs.DxeMachine.{DxeMachine}
 use Rattle.dxe_dispatch.specs.{Queue.Queue, declared.boot.Run.Run, Ends.IsOpened}
 use Rattle.dxe_core.specs.Standing.{DxeCore, IsCoreOf, StandsFor}
-use Rattle.dxe_dispatch.specs.Choices.{BarsBy, BootsBy, LeavesBy, RunsBy, StopsShort, handles_of, leaves}
+use Rattle.dxe_dispatch.specs.Choices.{BarsBy, BootsBy, RunsBy, StopsShort, handles_of, leaves}
 use Rattle.boot_laws.specs.declared.choice.Reached.{Reached}
 use Rattle.boot_laws.specs.declared.choice.Reached.TheVariants as R
 
@@ -24,22 +24,16 @@ pub opened : {M E : Type 0} (stands : M → StoreState → Type 0) (store : M) (
 opened stands store catalog taken bases are (Ok core) is = λ s here. stands_at_opening stands store catalog core s taken bases here (are s here) (is s)
 opened stands store catalog taken bases are (Err fault) is = tt
 
--- the queue is gone
-pub left_behind : {M : Type 0} (Names : DxeMachine → Option ℕ → Type 0) (Lets : DxeMachine → ℕ → Bool) (stands : M → StoreState → Type 0) (store : M) (catalog : Catalog) (fuel : ℕ) (opening : DxeMachine) (core : DxeCore) (queue : Queue) (reached : Reached DxeEnd) (left : ℕ) (old new : Option (List ℕ))
-    → left ≡ queue.left → RunsBy Names Lets stands store catalog fuel opening core queue old new (Ok reached) → LeavesBy Names Lets stands store catalog fuel opening core old new (Ok (record { reached = reached; left = left }))
-left_behind Names Lets stands store catalog fuel opening core queue reached left old new same run = (queue, same, run)
-
 -- a driver that was not let has left it
 pub some_left : {M : Type 0} (Names : DxeMachine → Option ℕ → Type 0) (Lets : DxeMachine → ℕ → Bool) (stands : M → StoreState → Type 0) (store : M) (catalog : Catalog) (fuel : ℕ) (opening : DxeMachine) (core : DxeCore) (run : Run) (old new : Option (List ℕ))
-    → LeavesBy Names Lets stands store catalog fuel opening core old new (Ok run) → (number : ℕ) → run.reached ≡ R.Barred number → 1 ≤ run.left
-some_left Names Lets stands store catalog fuel opening core run old new by number is =
-    let bars : BarsBy Names Lets stands store catalog fuel opening core by.0 number old new = subst (λ r. RunsBy Names Lets stands store catalog fuel opening core by.0 old new (Ok r)) is by.2 in
+    (queue : Queue) → run.left ≡ queue.left → RunsBy Names Lets stands store catalog fuel opening core queue old new (Ok run.reached) → (number : ℕ) → run.reached ≡ R.Barred number → 1 ≤ run.left
+some_left Names Lets stands store catalog fuel opening core run old new queue same by number is =
+    let bars : BarsBy Names Lets stands store catalog fuel opening core queue number old new = subst (λ r. RunsBy Names Lets stands store catalog fuel opening core queue old new (Ok r)) is by in
     let left = bars.left.left in
-    let same = by.1 in
     omega (arith, left, same)
 
 -- the handles of the last machine are those of the core
-pub boots : {M : Type 0} (Names : DxeMachine → Option ℕ → Type 0) (Lets : DxeMachine → ℕ → Bool) (stands : M → StoreState → Type 0) (store : M) (catalog : Catalog) (fuel : ℕ) (opening : DxeMachine) (core : DxeCore) (queue : Queue) (reached : Reached DxeEnd) (handles : HandleState) (in_pei left : ℕ) (old new : Option (List ℕ))
+unfoldable pub boots : {M : Type 0} (Names : DxeMachine → Option ℕ → Type 0) (Lets : DxeMachine → ℕ → Bool) (stands : M → StoreState → Type 0) (store : M) (catalog : Catalog) (fuel : ℕ) (opening : DxeMachine) (core : DxeCore) (queue : Queue) (reached : Reached DxeEnd) (handles : HandleState) (in_pei left : ℕ) (old new : Option (List ℕ))
     → handles ≡ core.services.handles → left ≡ queue.left → RunsBy Names Lets stands store catalog fuel opening core queue old new (Ok reached)
     → BootsBy Names Lets catalog fuel opening in_pei old new (Ok (leaves in_pei handles left reached))
 boots Names Lets stands store catalog fuel opening core queue (R.End how) handles in_pei left old new same counted run =

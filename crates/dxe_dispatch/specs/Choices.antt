@@ -13,7 +13,7 @@ use Rattle.boot_laws.specs.{declared.choice.Reached.Reached, Naming.HasPut, Nami
 use Rattle.boot_laws.specs.declared.choice.Reached.TheVariants as R
 use Rattle.dxe_dispatch.specs.{Aim.aimed, Queue.IsQueueOf, Queue.Queue, declared.answer.Turn.Turn, declared.boot.Barred.Barred}
 use Rattle.dxe_core.specs.Standing.{DxeCore, IsFor, StandsFor}
-use Rattle.dxe_dispatch.specs.{declared.boot.Ended.Ended, declared.boot.Left.Left, declared.boot.Run.Run}
+use Rattle.dxe_dispatch.specs.{declared.boot.Ended.Ended, declared.boot.Left.Left}
 use Rattle.dxe_dispatch.specs.declared.boot.Left.TheVariants as V
 use Rattle.dxe_dispatch.specs.Ends.{HasEnded, IsNow, StandsAtEnd}
 use Rattle.dxe_dispatch.specs.Turns.{AreKeptFor, IsLeft, IsStarting, EvaluatesWithin, PassesStart, TurnsDxeTo}
@@ -171,20 +171,6 @@ RunsByChoice choice stands store catalog call result =
     (s : StoreState) (actions fuel : ℕ) → IsFor catalog fuel call.core → StandsFor stands store catalog call.core (dxe_opening catalog s actions)
     → RunsBy (NamesDrivers choice.names choice.text choice.faults choice.in_pei call.sink) (LetsDrivers choice.lets choice.in_pei)
     stands store catalog fuel (dxe_opening catalog s actions) call.later call.queue (choice.text call.sink) (choice.text call.shown) result
-
--- the same where the queue is gone, of which is kept how many drivers have left it
-abbrev pub LeavesBy : {M : Type 0} → (DxeMachine → Option ℕ → Type 0) → (DxeMachine → ℕ → Bool) → (M → StoreState → Type 0) → M → Catalog → ℕ
-    → DxeMachine → DxeCore → Option (List ℕ) → Option (List ℕ) → Result Run Halt → Type 0
-LeavesBy Names Lets stands store catalog fuel opening later old new (Ok run) =
-    (queue : Queue) × (run.left ≡ queue.left) × RunsBy Names Lets stands store catalog fuel opening later queue old new (Ok run.reached)
-LeavesBy Names Lets stands store catalog fuel opening later old new (Err halt) = StopsShort Names Lets catalog fuel opening old new
-
--- from the opening over each state, as the run itself
-abbrev pub LeavesByChoice : {M S : Type 0} → DriverChoice S → (M → StoreState → Type 0) → M → Catalog → DxeCore → S → DxeCore → S → Result Run Halt → Type 0
-LeavesByChoice choice stands store catalog core sink later shown result =
-    (s : StoreState) (actions fuel : ℕ) → IsFor catalog fuel core → StandsFor stands store catalog core (dxe_opening catalog s actions)
-    → LeavesBy (NamesDrivers choice.names choice.text choice.faults choice.in_pei sink) (LetsDrivers choice.lets choice.in_pei)
-    stands store catalog fuel (dxe_opening catalog s actions) later (choice.text sink) (choice.text shown) result
 
 -- what is left behind it, by what it came to; a driver that was not let has left the queue too
 abbrev pub leaves : ℕ → HandleState → ℕ → Reached DxeEnd → Left

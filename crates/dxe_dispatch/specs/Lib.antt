@@ -3,6 +3,7 @@ pub mod Ends
 pub mod Events
 pub mod Turns
 pub mod Waiting
+pub mod Watched
 pub mod Aim
 pub mod Index
 pub mod Queue

@@ -5,11 +5,12 @@ ghost use Rattle.mod_catalog.specs.WellFormed.{IsWellFormed};
 ghost use Rattle.store_model.specs.{Service.Present, Service.OfEach, StoreCall.Anything};
 ghost use Rattle.dxe_core.specs.Standing.{IsFor};
 ghost use Rattle.boot_laws.specs.declared.choice.Reached.TheVariants as R;
-ghost use Rattle.dxe_dispatch.specs.Choices.{BootsByChoice, LeavesByChoice, handles_of, leaves};
+ghost use Rattle.dxe_dispatch.specs.{Choices.BootsByChoice, Choices.handles_of, Choices.leaves, Watched.BootsWatched, Watched.LeavesWatched};
 ghost use Rattle.dxe_dispatch.specs.Ends.{IsAtOpening, IsOpened};
 
 use crate::DriverQueue;
-use crate::run::run_dxe;
+use crate::watch::{DxeWatch, Unwatched};
+use crate::watched::watch_dxe;
 use boot_io::{Halt, Sink};
 use boot_laws::{Choice, Reached};
 use boot_model::DxeEnd;
@@ -77,11 +78,12 @@ struct Run {
 }
 
 // DXE from its opening, over a queue that is made for it. The expressions that are evaluated are counted in the ledger of a blank.
-fn run_with_ledger<M: PeiStore, S: Sink, C: Choice<S>, L: Ledger>(
+fn run_with_ledger<M: PeiStore, S: Sink, C: Choice<S>, W: DxeWatch, L: Ledger>(
     alloc: Global,
     dxe: &mut Dxe,
     store: &M,
     choice: &C,
+    watch: &mut W,
     in_pei: u32,
     catalog: &Catalog,
     sink: &mut S,
@@ -90,25 +92,31 @@ fn run_with_ledger<M: PeiStore, S: Sink, C: Choice<S>, L: Ledger>(
     requires catalog { IsWellFormed catalog.now }
     requires made { (fuel : ℕ) × IsFor catalog.now fuel dxe.old }
     requires opening { IsAtOpening M.stands_for store.now catalog.now dxe.old }
+    requires watch { W.is_new watch.old }
     requires name { blank.name ≡ L.name }
     requires parts { blank.parts ≡ L.parts }
     requires counts { 0 < L.parts }
-    ensures row { LeavesByChoice (record {
+    ensures row { LeavesWatched (W.knows_all watch.new) (record {
       names = C.drivers choice.now;
       lets = C.lets_in_dxe choice.now;
       text = S.text;
       faults = S.faults;
       in_pei = in_pei;
     })
-        M.stands_for store.now catalog.now dxe.old sink.old dxe.new sink.new result }
+        M.stands_for store.now catalog.now (record {
+          core = dxe.old;
+          sink = sink.old;
+          later = dxe.new;
+          shown = sink.new;
+        }) result }
     ensures few { dxe.old.fuel.taken < 2 ^ 32 → OnOk result (length dxe.new.services.handles.interfaces < 2 ^ 32) }
     ensures few_starts { IfOk result (λ run. run.left < 2 ^ 32) }
     ensures faults { HaltsAfter result (S.faults sink.old) (S.faults sink.new) }
 {
     let mut queue = DriverQueue::new(alloc, catalog)?;
     let mut steps = Steps::<L>::new(blank);
-    let reached = run_dxe(
-        dxe, store, &mut queue, choice, in_pei, catalog, sink, &mut steps,
+    let reached = watch_dxe(
+        dxe, store, &mut queue, choice, watch, in_pei, catalog, sink, &mut steps,
     );
     let left = queue.left_count();
     drop(queue);
@@ -132,6 +140,41 @@ fn left_by(run: Run, in_pei: u32, handles: Handles) -> Left
             starts: u64::from(in_pei) + (run.left - 1) as u64,
         }),
     }
+}
+
+/// The whole of DXE behind the hand-off of a store, as `boot_dxe`, and watched.
+pub fn watch_boot<M: PeiStore, S: Sink, C: Choice<S>, W: DxeWatch>(
+    alloc: Global,
+    store: &M,
+    catalog: &Catalog,
+    fuel: u32,
+    taken: u32,
+    in_pei: u32,
+    choice: &C,
+    watch: &mut W,
+    sink: &mut S,
+) -> Result<Left, Halt>
+    requires catalog { IsWellFormed catalog.now }
+    requires state { Present (M.stands_for store.now) Anything }
+    requires watch { W.is_new watch.old }
+    ensures row { OfEach (M.stands_for store.now) Anything (BootsWatched (W.knows_all watch.new) (record {
+      names = C.drivers choice.now;
+      lets = C.lets_in_dxe choice.now;
+      text = S.text;
+      faults = S.faults;
+      in_pei = in_pei;
+    })
+        catalog.now fuel taken (record { sink = sink.old; shown = sink.new }) result) }
+    ensures few { IfOk result (λ left. length (handles_of left).interfaces < 2 ^ 32) }
+    ensures faults { HaltsAfter result (S.faults sink.old) (S.faults sink.new) }
+{
+    let mut dxe = dxe_at_opening(alloc, store, catalog, fuel, taken)?;
+    let blank = Blank::new(1);
+    let run = run_with_ledger::<M, S, C, W, Brand>(
+        alloc, &mut dxe, store, choice, watch, in_pei, catalog, sink, blank,
+    );
+    let handles = dxe.into_handles();
+    Ok(left_by(run?, in_pei, handles))
 }
 
 /// The whole of DXE behind the hand-off of a store, where a choice may name the driver that starts, and says whether it does. `fuel` is how many actions may be taken in both phases, `taken` how many PEI took, and `in_pei` how many starts there were in it. No more interfaces are left than a `u32` counts.
@@ -158,11 +201,15 @@ pub fn boot_dxe<M: PeiStore, S: Sink, C: Choice<S>>(
     ensures few { IfOk result (λ left. length (handles_of left).interfaces < 2 ^ 32) }
     ensures faults { HaltsAfter result (S.faults sink.old) (S.faults sink.new) }
 {
-    let mut dxe = dxe_at_opening(alloc, store, catalog, fuel, taken)?;
-    let blank = Blank::new(1);
-    let run = run_with_ledger::<M, S, C, Brand>(
-        alloc, &mut dxe, store, choice, in_pei, catalog, sink, blank,
-    );
-    let handles = dxe.into_handles();
-    Ok(left_by(run?, in_pei, handles))
+    watch_boot(
+        alloc,
+        store,
+        catalog,
+        fuel,
+        taken,
+        in_pei,
+        choice,
+        &mut Unwatched,
+        sink,
+    )
 }

@@ -20,11 +20,15 @@ mod tell;
 mod turns;
 mod waiting;
 mod waits;
+mod watch;
+mod watched;
 
 pub use answer::{Step, Turn};
-pub use boot::{Barred, Ended, Left, boot_dxe, dxe_at_opening};
+pub use boot::{Barred, Ended, Left, boot_dxe, dxe_at_opening, watch_boot};
 pub use queue::DriverQueue;
 pub use root::target_of;
 pub use run::{bound, run_dxe, run_first};
 pub use turns::turn_by;
 pub use waiting::reason_of;
+pub use watch::{DxeWatch, Unwatched};
+pub use watched::watch_dxe;

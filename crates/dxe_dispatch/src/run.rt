@@ -8,16 +8,13 @@ ghost use Rattle.dxe_core.specs.Standing.{IsFor};
 ghost use Rattle.dxe_dispatch.specs.Ends.{EvaluatesFew, IsAtOpening, RunsFirst};
 
 use crate::DriverQueue;
-use crate::answer::Turn;
-use crate::turns::turn_by;
+use crate::watch::Unwatched;
+use crate::watched::watch_dxe;
 use boot_io::{Halt, Sink};
-use boot_laws::{
-    Choice, FirstEligible, Reached, discovered_order_has_each_once, dxe_chooses_by_groups,
-    dxe_goes_on, dxe_opens, dxe_runs_end, groups_are_aimed, unrequested_drivers_wait,
-};
+use boot_laws::{Choice, FirstEligible, Reached, dxe_runs_end};
 use boot_model::{DxeEnd, MOST_FRAMES};
 use depex_code::Steps;
-use dxe_core::{Dxe, put_volumes};
+use dxe_core::Dxe;
 use mod_catalog::Catalog;
 use std::sync::ledger::Ledger;
 use store_model::PeiStore;
@@ -73,22 +70,17 @@ pub fn run_dxe<M: PeiStore, S: Sink, C: Choice<S>, L: Ledger>(
     })
         M.stands_for store.now catalog.now dxe.old sink.old steps.old steps.new }
 {
-    dxe_opens();
-    dxe_goes_on();
-    dxe_chooses_by_groups();
-    groups_are_aimed();
-    unrequested_drivers_wait();
-    discovered_order_has_each_once();
-    let volumes = dxe.order().volumes();
-    queue.discover(catalog, dxe.order(), volumes)?;
-    put_volumes(sink, volumes)?;
-    'turns: for _ in 0..bound(catalog, dxe.fuel()) {
-        match turn_by(dxe, store, queue, choice, in_pei, catalog, sink, steps)? {
-            Turn::Took(_) => {}
-            Turn::Reached(reached) => return Ok(reached),
-        }
-    }
-    unreachable!()
+    watch_dxe(
+        dxe,
+        store,
+        queue,
+        choice,
+        &mut Unwatched,
+        in_pei,
+        catalog,
+        sink,
+        steps,
+    )
 }
 
 /// DXE from the opening to its end where the first driver that may start does, with its group: the run of the machine.

@@ -1,5 +1,5 @@
 // A run of PEI that is watched.
-ghost use Rattle.std.specs.Prelude.{◌≡◌, ◌≤◌, ◌+◌, ℕ, []};
+ghost use Rattle.std.specs.Prelude.{◌≡◌, ◌≤◌, ◌+◌, ℕ};
 ghost use Rattle.boot_io.specs.Halted.{HaltsAfter};
 ghost use Rattle.boot_model.specs.PeiRun.{pei_opening};
 ghost use Rattle.mod_catalog.specs.WellFormed.{IsWellFormed};
@@ -21,7 +21,7 @@ use pei_core::{Pei, put_reports};
 use std::sync::ledger::Ledger;
 use store_model::PeiStore;
 
-/// PEI from the opening to its end by a choice, as `run_pei`, and watched: each step behind which the run goes on is told.
+/// PEI from the opening to its end by a choice, as `run_pei`, and watched: the opening, each step and what the run reaches are told.
 pub fn watch_pei<M: PeiStore + Drop, S: Sink, C: Choice<S>, W: PeiWatch, L: Ledger>(
     pei: &mut Pei<M>,
     queue: &mut PeiQueue,
@@ -35,9 +35,14 @@ pub fn watch_pei<M: PeiStore + Drop, S: Sink, C: Choice<S>, W: PeiWatch, L: Ledg
     requires made { (fuel : ℕ) × IsFor catalog.now fuel pei.old }
     requires queue { IsNewQueue catalog.now queue.old }
     requires opening { (board : Board) × StandsFor M.stands_for pei.old (pei_opening board catalog.now) }
-    requires watch { (board : Board) (fuel : ℕ) → W.knows watch.old catalog.now fuel [] (pei_opening board catalog.now) }
-    ensures row { RunsWatched (W.knows watch.new) (C.peims choice.now) (C.lets_in_pei choice.now) S.text S.faults M.stands_for catalog.now
-        sink.old (record { pei = pei.old; later = pei.new; texts = record { old = S.text sink.old; new = S.text sink.new } }) result }
+    requires watch { W.is_new watch.old }
+    ensures row { RunsWatched (W.knows_all watch.new) (record {
+      names = C.peims choice.now;
+      lets = C.lets_in_pei choice.now;
+      text = S.text;
+      faults = S.faults;
+    })
+        M.stands_for catalog.now sink.old (record { pei = pei.old; later = pei.new; texts = record { old = S.text sink.old; new = S.text sink.new } }) result }
     ensures memory { IsWantOfStore M.TAKES_MEMORY result }
     ensures faults { HaltsAfter result (S.faults sink.old) (S.faults sink.new) }
     ensures few_steps { EvaluatesFewByChoice (C.peims choice.now) (C.lets_in_pei choice.now) S.text S.faults M.stands_for catalog.now
@@ -49,13 +54,17 @@ pub fn watch_pei<M: PeiStore + Drop, S: Sink, C: Choice<S>, W: PeiWatch, L: Ledg
     alike_views_are_shown();
     queue.report(catalog, pei.reported());
     put_reports(sink, pei.reported())?;
+    watch.begins(pei, catalog);
     'turns: for _ in 0..bound(catalog, pei.fuel()) {
         match turn(pei, queue, choice, catalog, sink, steps)? {
             Turn::Took(step) => {
                 watch.saw(&step, pei, catalog);
                 drop(step);
             }
-            Turn::Reached(reached) => return Ok(reached),
+            Turn::Reached(reached) => {
+                watch.ends(&reached, pei, queue, catalog);
+                return Ok(reached);
+            }
         }
     }
     unreachable!()

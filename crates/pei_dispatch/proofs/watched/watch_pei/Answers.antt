@@ -5,7 +5,7 @@ use Rattle.pei_dispatch.specs.View.{AreAlike, first_view, view_of, with_volumes}
 use Rattle.pei_dispatch.specs.{Choices.LetsPeims, Choices.NamesPeims, Queue.owed_by}
 use Rattle.pei_dispatch.proofs.ChosenFew.{few_at_end, none_evaluated, opening_few}
 use Rattle.pei_dispatch.proofs.ChosenWays.{Laws, opened, opening_halts, opening_way, turn_to_come, way_halts, way_on}
-use Rattle.pei_dispatch.proofs.Watching.{halts_watched, reached_watched, was_step}
+use Rattle.pei_dispatch.proofs.Watching.{halts_watched, has_reached, reached_watched, stands_there, was_step}
 use Rattle.boot_io.specs.declared.halt.Halt.TheVariants as H
 use Rattle.pei_dispatch.proofs.watched.watch_pei.Goals as goal
 
@@ -22,7 +22,10 @@ returns-in_err-put_reports-clause-row g c board fuel made stands =
     let L = NamesPeims (g.C.Choice.peims c.args.choice.now) T g.S.Sink.faults c.args.sink.now in
     let lets = LetsPeims (g.C.Choice.lets_in_pei c.args.choice.now) in
     let p = err_from_is_err_and c.from_residual.result c.from_residual.ensures.1 in
-    halts_watched (g.W.PeiWatch.knows c.args.watch.now catalog fuel) L lets g.M.PeiStore.stands_for catalog fuel (pei_opening board catalog) (record { pei = c.args.pei.now; later = c.args.pei.now; texts = record { old = T c.args.sink.now; new = T c.put_reports.new.sink } }) c.from_residual.result p.0 H.Sink p.1 p.2 (opening_halts L lets board catalog fuel c.reported-2.result.now (T c.args.sink.now) (T c.put_reports.new.sink) (c.reported-2.ensures (pei_opening board catalog) stands) c.in_err-put_reports.ensures.text)
+    halts_watched _ _ c.from_residual.result p.0 H.Sink p.1 p.2 (opening_halts L lets board catalog fuel c.reported-2.result.now (T c.args.sink.now) (T c.put_reports.new.sink) (c.reported-2.ensures (pei_opening board catalog) stands) c.in_err-put_reports.ensures.text)
+
+pub begins-requires-clause-state : goal.begins-requires-clause-state
+begins-requires-clause-state g c = (pei_opening c.requires.opening.0 c.args.catalog.now, c.requires.opening.1)
 
 pub turns-init : goal.turns-init
 unfolding opening_way
@@ -43,7 +46,7 @@ turns-init g c = record {
             (opened g.M.PeiStore.stands_for board catalog c.args.pei.now c.args.queue.now c.report.new.self stands c.requires.queue shows c.report.ensures.cursor)
             (c.reported-2.ensures m stands) c.in_ok-put_reports.ensures.text c.in_ok-put_reports.ensures.cause
             (opening_few catalog fuel m c.reported.result.now c.args.steps.now c.args.queue.now c.report.new.self volumes c.requires.queue c.report.ensures.owed),
-        c.requires.watch board fuel,
+        c.begins.ensures.knows board fuel stands,
       );
   made = λ fuel made. made;
   count = c.in_ok-put_reports.ensures.cause;
@@ -85,6 +88,18 @@ turns-preserved g c = record {
   count = c.in_ok-step.ensures.faults ∙ c.turns.invariant.count;
 }
 
+pub ends-requires-clause-state : goal.ends-requires-clause-state
+ends-requires-clause-state g c =
+    let T = g.S.Sink.text in
+    let catalog = c.args.catalog.now in
+    let L = NamesPeims (g.C.Choice.peims c.args.choice.now) T g.S.Sink.faults c.args.sink.now in
+    let lets = LetsPeims (g.C.Choice.lets_in_pei c.args.choice.now) in
+    let fuel = c.requires.made.0 in
+    let way = (c.turns.invariant.way c.requires.opening.0 fuel c.requires.made.1 c.requires.opening.1).0 in
+    let row = rw c.in-Reached.is at (c.in_ok-step.ensures.row way.m fuel c.args.sink.now (c.turns.invariant.made fuel c.requires.made.1) way.now way.way way.has) in
+    stands_there g.M.PeiStore.stands_for catalog fuel way.comes.earlier way.m c.turn.new.pei c.turn.new.queue c.in-Reached.reached
+    (has_reached L lets g.M.PeiStore.stands_for catalog fuel way.comes.earlier way.m (record { pei = c.turns.pei; queue = c.turns.queue; later = c.turn.new.pei; grown = c.turn.new.queue; texts = record { old = T c.turns.sink; new = T c.turn.new.sink } }) c.in-Reached.reached row)
+
 pub returns-in-Reached-clause-row : goal.returns-in-Reached-clause-row
 returns-in-Reached-clause-row g c board fuel made stands =
     let T = g.S.Sink.text in
@@ -94,8 +109,10 @@ returns-in-Reached-clause-row g c board fuel made stands =
     let lets = LetsPeims (g.C.Choice.lets_in_pei c.args.choice.now) in
     let both = c.turns.invariant.way board fuel made stands in
     let way = both.0 in
-    reached_watched L lets T F g.M.PeiStore.stands_for catalog fuel (pei_opening board catalog) c.args.pei.now c.args.sink.now c.turns.counter c.turns.pei c.turn.new.pei c.turns.queue c.turn.new.queue c.turns.sink c.turn.new.sink (g.W.PeiWatch.knows c.turns.watch catalog fuel) c.in-Reached.reached c.args.steps.now (c.turns.steps + owed_by c.turns.queue) way both.1
-    (rw c.in-Reached.is at (c.in_ok-step.ensures.row way.m fuel c.args.sink.now (c.turns.invariant.made fuel made) way.now way.way way.has))
+    let row = rw c.in-Reached.is at (c.in_ok-step.ensures.row way.m fuel c.args.sink.now (c.turns.invariant.made fuel made) way.now way.way way.has) in
+    let has = has_reached L lets g.M.PeiStore.stands_for catalog fuel way.comes.earlier way.m (record { pei = c.turns.pei; queue = c.turns.queue; later = c.turn.new.pei; grown = c.turn.new.queue; texts = record { old = T c.turns.sink; new = T c.turn.new.sink } }) c.in-Reached.reached row in
+    reached_watched L lets T F g.M.PeiStore.stands_for catalog fuel (pei_opening board catalog) c.args.pei.now c.args.sink.now c.turns.counter c.turns.pei c.turn.new.pei c.turns.queue c.turn.new.queue c.turns.sink c.turn.new.sink (g.W.PeiWatch.knows_all c.ends.new.self catalog fuel) c.in-Reached.reached c.args.steps.now (c.turns.steps + owed_by c.turns.queue) way row
+    (c.ends.ensures.knows_all fuel way.comes.earlier has.all way.m has.last both.1 has.was has.left)
 
 pub returns-in_err-step-clause-row : goal.returns-in_err-step-clause-row
 returns-in_err-step-clause-row g c board fuel made stands =
@@ -107,7 +124,7 @@ returns-in_err-step-clause-row g c board fuel made stands =
     let both = c.turns.invariant.way board fuel made stands in
     let way = both.0 in
     let p = err_from_is_err_and c.from_residual-in_err-step.result c.from_residual-in_err-step.ensures.1 in
-    halts_watched (g.W.PeiWatch.knows c.turns.watch catalog fuel) L lets g.M.PeiStore.stands_for catalog fuel (pei_opening board catalog) (record { pei = c.args.pei.now; later = c.turn.new.pei; texts = record { old = T c.args.sink.now; new = T c.turn.new.sink } }) c.from_residual-in_err-step.result p.0 c.in_err-step.field-0.0 p.1 p.2 (way_halts L lets T F g.M.PeiStore.stands_for catalog fuel (pei_opening board catalog) c.args.pei.now c.args.sink.now c.turns.counter c.turns.pei c.turn.new.pei c.turns.queue c.turn.new.queue c.turns.sink c.turn.new.sink c.in_err-step.field-0.0 c.args.steps.now (c.turns.steps + owed_by c.turns.queue) way
+    halts_watched _ _ c.from_residual-in_err-step.result p.0 c.in_err-step.field-0.0 p.1 p.2 (way_halts L lets T F g.M.PeiStore.stands_for catalog fuel (pei_opening board catalog) c.args.pei.now c.args.sink.now c.turns.counter c.turns.pei c.turn.new.pei c.turns.queue c.turn.new.queue c.turns.sink c.turn.new.sink c.in_err-step.field-0.0 c.args.steps.now (c.turns.steps + owed_by c.turns.queue) way
     (c.in_err-step.ensures.row way.m fuel c.args.sink.now (c.turns.invariant.made fuel made) way.now way.way way.has))
 
 pub returns-in_err-put_reports-clause-few_steps : goal.returns-in_err-put_reports-clause-few_steps

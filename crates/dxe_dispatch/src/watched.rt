@@ -1,0 +1,88 @@
+// A run of DXE that is watched.
+ghost use Rattle.std.specs.Prelude.{◌≡◌, ◌≤◌, ◌<◌, ◌^◌, ℕ, OnOk, length};
+ghost use Rattle.boot_io.specs.Halted.{HaltsAfter};
+ghost use Rattle.mod_catalog.specs.WellFormed.{IsWellFormed};
+ghost use Rattle.dxe_core.specs.Standing.{IsFor};
+ghost use Rattle.dxe_dispatch.specs.{Queue.IsNewQueue, Queue.IsQueueFor, Choices.EvaluatesFewByChoice, Ends.IsAtOpening, Watched.RunsWatched};
+
+use crate::DriverQueue;
+use crate::answer::Turn;
+use crate::run::bound;
+use crate::turns::turn_by;
+use crate::watch::DxeWatch;
+use boot_io::{Halt, Sink};
+use boot_laws::{
+    Choice, Reached, discovered_order_has_each_once, dxe_chooses_by_groups, dxe_goes_on, dxe_opens,
+    groups_are_aimed, unrequested_drivers_wait,
+};
+use boot_model::DxeEnd;
+use depex_code::Steps;
+use dxe_core::{Dxe, put_volumes};
+use mod_catalog::Catalog;
+use std::sync::ledger::Ledger;
+use store_model::PeiStore;
+
+/// DXE from the opening to its end by a choice, as `run_dxe`, and watched: the opening, each step and what the run reaches are told.
+pub fn watch_dxe<M: PeiStore, S: Sink, C: Choice<S>, W: DxeWatch, L: Ledger>(
+    dxe: &mut Dxe,
+    store: &M,
+    queue: &mut DriverQueue,
+    choice: &C,
+    watch: &mut W,
+    in_pei: u32,
+    catalog: &Catalog,
+    sink: &mut S,
+    steps: &mut Steps<L>,
+) -> Result<Reached<DxeEnd>, Halt>
+    requires catalog { IsWellFormed catalog.now }
+    requires made { (fuel : ℕ) × IsFor catalog.now fuel dxe.old }
+    requires new { IsNewQueue catalog.now queue.old }
+    requires queue { IsQueueFor catalog.now queue.old }
+    requires opening { IsAtOpening M.stands_for store.now catalog.now dxe.old }
+    requires watch { W.is_new watch.old }
+    ensures row { RunsWatched (W.knows_all watch.new) (record {
+      names = C.drivers choice.now;
+      lets = C.lets_in_dxe choice.now;
+      text = S.text;
+      faults = S.faults;
+      in_pei = in_pei;
+    })
+        M.stands_for store.now catalog.now (record {
+          core = dxe.old;
+          sink = sink.old;
+          later = dxe.new;
+          shown = sink.new;
+        }) queue.new result }
+    ensures few { dxe.old.fuel.taken < 2 ^ 32 → OnOk result (length dxe.new.services.handles.interfaces < 2 ^ 32) }
+    ensures few_starts { OnOk result (queue.new.left < 2 ^ 32) }
+    ensures faults { HaltsAfter result (S.faults sink.old) (S.faults sink.new) }
+    ensures few_steps { EvaluatesFewByChoice (record {
+      names = C.drivers choice.now;
+      lets = C.lets_in_dxe choice.now;
+      text = S.text;
+      faults = S.faults;
+      in_pei = in_pei;
+    })
+        M.stands_for store.now catalog.now dxe.old sink.old steps.old steps.new }
+{
+    dxe_opens();
+    dxe_goes_on();
+    dxe_chooses_by_groups();
+    groups_are_aimed();
+    unrequested_drivers_wait();
+    discovered_order_has_each_once();
+    let volumes = dxe.order().volumes();
+    queue.discover(catalog, dxe.order(), volumes)?;
+    put_volumes(sink, volumes)?;
+    watch.begins(dxe, store, queue, catalog);
+    'turns: for _ in 0..bound(catalog, dxe.fuel()) {
+        match turn_by(dxe, store, queue, choice, in_pei, catalog, sink, steps)? {
+            Turn::Took(step) => watch.saw(&step, dxe, store, queue, catalog),
+            Turn::Reached(reached) => {
+                watch.ends(&reached, dxe, store, queue, catalog);
+                return Ok(reached);
+            }
+        }
+    }
+    unreachable!()
+}
