@@ -3,7 +3,7 @@ use Rattle.std.proofs.Common.{◌≡◌, ℕ, ◌<◌, ◌||◌, ◌&&◌, Bool,
 use Rattle.std.proofs.{lemmas.Bool.and_parts, lemmas.Bool.and_from, lemmas.Bool.Decides.nat_tests}
 use Rattle.std.specs.{Prelude.⊤, List.list_all, List.AllByRecursion}
 use Rattle.asm_text.specs.ActionText.{spaced}
-use Rattle.source_words.specs.Words.{is_blank, is_bracket, is_inner, joined, words}
+use Rattle.source_words.specs.Words.{is_blank, is_bracket, is_comment, is_inner, joined, words}
 
 -- each byte belongs to a word of several
 abbrev pub IsInner : List ℕ → Type 0
@@ -54,13 +54,14 @@ abbrev pub Stands : List ℕ → Type 0
 Stands [] = ⊤
 Stands (byte ∷ rest) = is_inner byte ≡ false
 
-third : (a b : Bool) (x y z : List (List ℕ)) → not (a || b) ≡ true → cond a x (cond b y z) ≡ z
-third true b x y z h = absurd cc
-third false true x y z h = absurd cc
-third false false x y z h = refl
+fourth : (a c b : Bool) (x w y z : List (List ℕ)) → not (a || (c || b)) ≡ true → cond a x (cond c w (cond b y z)) ≡ z
+fourth true c b x w y z h = absurd cc
+fourth false true b x w y z h = absurd cc
+fourth false false true x w y z h = absurd cc
+fourth false false false x w y z h = refl
 
 inner_head : (x : ℕ) (rest : List ℕ) → is_inner x ≡ true → words (x ∷ rest) ≡ joined x rest (words rest)
-inner_head x rest h = third (is_blank x) (is_bracket x) (words rest) ((x ∷ []) ∷ words rest) (joined x rest (words rest)) h
+inner_head x rest h = fourth (is_blank x) (is_comment x) (is_bracket x) (words rest) [] ((x ∷ []) ∷ words rest) (joined x rest (words rest)) h
 
 ends : (x : ℕ) (rest : List ℕ) (others : List (List ℕ)) → Stands rest → (rest ≡ [] → others ≡ []) → joined x rest others ≡ (x ∷ []) ∷ others
 ends x [] others stands none = rw (none refl) refl

@@ -1,6 +1,6 @@
 // The words of a line.
 ghost use Rattle.std.specs.Prelude.{◌≡◌, ◌<◌, ◌≤◌, ◌∷◌, [], length, slice_index, ℕ, true, false, IfSome, MatchOption};
-ghost use Rattle.source_words.specs.Words.{is_blank, is_bracket, is_inner, is_keyword, words};
+ghost use Rattle.source_words.specs.Words.{is_blank, is_bracket, is_comment, is_inner, is_keyword, words};
 
 // Whether a byte stands between words.
 fn is_blank(byte: u8) -> bool
@@ -16,11 +16,18 @@ fn is_bracket(byte: u8) -> bool
     byte == b'(' || byte == b')'
 }
 
+// Whether a comment begins with a byte.
+fn is_comment(byte: u8) -> bool
+    ensures { result ≡ is_comment byte }
+{
+    byte == b'#'
+}
+
 // Whether a byte is one of a word of several.
 fn is_inner(byte: u8) -> bool
     ensures { result ≡ is_inner byte }
 {
-    !(is_blank(byte) || is_bracket(byte))
+    !(is_blank(byte) || is_comment(byte) || is_bracket(byte))
 }
 
 // What stands behind the blanks at the front.
@@ -55,7 +62,7 @@ fn inner_len(line: &[u8]) -> usize
 
 /// The first word of a line and what follows it. None where the line has no word.
 ///
-/// Spaces and tabs stand between words, and a round bracket is a word of its own.
+/// Spaces and tabs stand between words, and a round bracket is a word of its own. A `#` begins a comment, which goes to the end of the line.
 pub fn next_word(line: &[u8]) -> Option<(&[u8], &[u8])>
     ensures found { MatchOption result (words line.now ≡ []) (λ parts. words line.now ≡ parts.0.now ∷ words parts.1.now) }
     ensures shorter { IfSome result (λ parts. length parts.1.now < length line.now) }
@@ -64,6 +71,9 @@ pub fn next_word(line: &[u8]) -> Option<(&[u8], &[u8])>
     match rest {
         [] => None,
         [first, ..] => {
+            if is_comment(*first) {
+                return None;
+            }
             let len = if is_bracket(*first) {
                 1
             } else {

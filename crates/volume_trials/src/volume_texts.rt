@@ -574,3 +574,33 @@ fn each_mistake_is_told_with_its_line_and_cause(rt: HostRuntime) {
         assert!(rt; is_told);
     }
 }
+
+/// Texts that make the same volume.
+static SAME: [(&str, &str); 2] = [
+    (
+        "volume 512 ffs2 # all of it\nfile peim 00000001-0000-4000-8000-000000000001 # the first\n  # before\ndepex pei memory-ppi#\nscript pei#\nblock # 0\nlog a # b\nret Success # it went well\nend # of the script\nend # of all\n# behind\n",
+        "volume 512\nfile peim 00000001-0000-4000-8000-000000000001\ndepex pei memory-ppi\nscript pei\nblock\nlog a # b\nret Success\nend\nend\n",
+    ), // comments
+    (
+        "volume 512\nfile raw 00000001-0000-4000-8000-000000000001\nbody 0102 # 03\nfile freeform pei-apriori#1\nguids memory-ppi # dxe-ipl-ppi\nend\n",
+        "volume 512\nfile raw 00000001-0000-4000-8000-000000000001\nbody 0102\nfile freeform pei-apriori\nguids memory-ppi\nend\n",
+    ), // comments behind lists
+];
+
+// Whether two texts make one volume.
+fn make_one(alloc: Global, text: &str, other: &str) -> bool {
+    match (
+        volume_of(alloc, text.as_bytes()),
+        volume_of(alloc, other.as_bytes()),
+    ) {
+        (Ok(first), Ok(second)) => first.as_slice() == second.as_slice(),
+        _ => false,
+    }
+}
+
+#[test]
+fn comments_change_nothing(rt: HostRuntime) {
+    for (text, other) in &SAME {
+        assert!(rt; make_one(rt.alloc(), text, other));
+    }
+}
