@@ -1,4 +1,4 @@
-//! What all other crates stand on, GUIDs, maps by GUID, real files and sinks; the texts and codes that people and files write; and what the tools of their own answer: tried row by row.
+//! What all other crates stand on, GUIDs, maps by GUID, real files and sinks, and those in memory; the texts and codes that people and files write; and what the tools of their own answer: tried row by row.
 #![tactic(auto)]
 
 #[cfg(test)]
@@ -19,6 +19,8 @@ mod hob_rows;
 mod map_commands;
 #[cfg(test)]
 mod map_faults;
+#[cfg(test)]
+mod memory_devices;
 #[cfg(test)]
 mod memory_map;
 #[cfg(test)]
