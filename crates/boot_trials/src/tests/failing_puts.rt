@@ -1,6 +1,6 @@
 // A sink that fails at each of its puts in turn, over both top calls.
 use super::text::{NOTHING, Text};
-use super::{AUDIT, ONE_MODULE, RAN, SMALLEST, file_of, put_files, whole_text, words_of};
+use super::{ONE_MODULE, RAN, SMALLEST, file_of, put_files, whole_text, words_of};
 use boot_core::boot_main;
 use boot_io::{MemFiles, MemSink};
 use pi_base::Seq;
@@ -44,7 +44,7 @@ const SUMMARY: &[u8] =
 static TRIALS: [Trial; 6] = [
     Trial {
         call: Call::Boot,
-        words: SMALLEST.words,
+        words: &["boot", "p"],
         file: b"",
         text: RAN,
         status: 6,
@@ -52,7 +52,7 @@ static TRIALS: [Trial; 6] = [
     },
     Trial {
         call: Call::Boot,
-        words: AUDIT.words,
+        words: &["audit", "p"],
         file: b"",
         text: Text {
             head: ONE_MODULE,
