@@ -1,5 +1,5 @@
-//! Tests of the lowest crates, row by row: GUIDs and maps by GUID, real files and sinks, the texts and codes that people and files write, and the answers of
-//! the tools that have crates of their own.
+//! Tests of the lowest crates, row by row: GUIDs and maps by GUID, files and sinks, real ones and those in memory, the texts and codes that people and files
+//! write, and the answers of the tools that have crates of their own.
 #![tactic(auto)]
 
 #[cfg(test)]
@@ -20,6 +20,8 @@ mod hob_rows;
 mod map_commands;
 #[cfg(test)]
 mod map_faults;
+#[cfg(test)]
+mod memory_devices;
 #[cfg(test)]
 mod memory_map;
 #[cfg(test)]
