@@ -4,7 +4,7 @@ from dataclasses import dataclass
 from html import escape
 
 from boot_picture import COLOURS, MEANINGS, NAMESPACE, WAITS_COLOUR
-from explained import CORE, NOBODY, PHASES, Boot, Start, Wait
+from explained import NOBODY, PHASES, Boot, Start, Wait
 
 MARK, STEP, ROW, FRONT = 22, 25, 22, 44  # of the picture as a file: a mark's width, that with the room behind it, a row's height, the phase's word
 COLUMNS = 40  # marks in a row of it
@@ -32,24 +32,19 @@ class Overview:
         starts = [self.start(start) for start in boot.starts]
         self.marks = starts + [self.wait(wait) for wait in boot.never_started()]
 
-    def label(self, number: int | str) -> str:
-        return "the core" if number == CORE else self.boot.modules[int(number)].label()
-
     def start(self, start: Start) -> Mark:
-        makers = list(dict.fromkeys(self.label(maker) for _, maker in start.needs if maker != NOBODY))
+        makers = list(dict.fromkeys(self.boot.label(maker) for _, maker in start.needs if maker != NOBODY))
         gives = [self.name(guid) for guid, _ in self.boot.installed(start)]
-        says = f"{start.place} {self.label(start.module)}: {MEANINGS.get(start.why, start.why)}"
+        says = f"{start.place} {self.boot.label(start.module)}: {MEANINGS.get(start.why, start.why)}"
         says += f"; waited for {some(makers)}" if makers else ""
         says += f"; installs {some(gives)}" if gives else ""
         return Mark(start.phase, start.why, f"start{start.place}", str(start.place), says)
 
     def wait(self, wait: Wait) -> Mark:
-        return Mark(wait.phase, "waits", f"waits{wait.module}{wait.phase}", "\N{MULTIPLICATION SIGN}", f"{self.label(wait.module)} {self.missing(wait)}")
+        return Mark(wait.phase, "waits", f"waits{wait.module}{wait.phase}", "\N{MULTIPLICATION SIGN}", self.never(wait))
 
-    def missing(self, wait: Wait) -> str:
-        """Why a part never started, in a line."""
-        missing = [self.name(guid) for guid, _ in wait.lacks]
-        return f"never started ({wait.reason})" + (f": missing {some(missing)}" if missing else "")
+    def never(self, wait: Wait) -> str:
+        return f"{self.boot.label(wait.module)} never started: {self.boot.cause(wait, self.name)}"
 
     def of_phase(self, phase: str) -> list[Mark]:
         return [mark for mark in self.marks if mark.phase == phase]
@@ -87,9 +82,9 @@ class Overview:
         """The lines below the marks: what the colours mean, and who never started."""
         for licence in self.licences():
             yield f"\N{BLACK SQUARE} {licence}: {MEANING[licence]}", f"says {licence}"
-        waits = self.boot.never_started()
+        waits = self.boot.first_causes()
         for wait in waits[:MOST_WAITS]:
-            yield f"\N{MULTIPLICATION SIGN} {self.label(wait.module)} {self.missing(wait)}", "says"
+            yield f"\N{MULTIPLICATION SIGN} {self.never(wait)}", "says"
         if len(waits) > MOST_WAITS:
             yield f"and {len(waits) - MOST_WAITS} others", "says"
 

@@ -219,7 +219,7 @@ class Picture:
     def mark_text(self, mark: Mark) -> str:
         words = mark.words
         if mark.kind == "notify":
-            told = [f"{words[at]} of {self.label(words[at + 1])} for {self.name(words[at + 2])}" for at in range(0, len(words), 3)]
+            told = [f"{words[at]} of {self.boot.label(words[at + 1])} for {self.name(words[at + 2])}" for at in range(0, len(words), 3)]
             return "\N{BLACK DIAMOND} " + "; ".join(told)
         if mark.kind in ("report", "dxe volume"):
             numbers = [word for word in words if word.isdigit()]
@@ -227,19 +227,13 @@ class Picture:
         texts = {"migrate": "memory moves {0} \N{RIGHTWARDS ARROW} {1}", "handoff": "hands off, HOB list at {0}"}
         return texts.get(mark.kind, mark.kind.upper().replace("STOP", "stops")).format(*words)
 
-    def label(self, number: int | str | None) -> str:
-        """The name of a module by its number."""
-        if number == CORE or not str(number).isdigit():
-            return "the core" if number == CORE else "a module"
-        return self.boot.modules[int(number)].label()
-
     def start_name(self, start: Start) -> Lines:
-        beside = f" {self.label(start.beside)}" if start.beside is not None else ""
-        return self.wrap(0, f"{start.place} {self.label(start.module)}", "name") + self.wrap(0, f"{start.why}{beside} \N{MIDDLE DOT} module {start.module}")
+        beside = f" {self.boot.label(start.beside)}" if start.beside is not None else ""
+        return self.wrap(0, f"{start.place} {self.boot.label(start.module)}", "name") + self.wrap(0, f"{start.why}{beside} \N{MIDDLE DOT} module {start.module}")
 
     def start_needs(self, start: Start) -> Lines:
         makers = dict.fromkeys(maker for _, maker in self.shown_needs(start) if maker != NOBODY)
-        return self.wrap(1, f"\N{LEFTWARDS ARROW} {', '.join(map(self.label, makers))}") if makers else []
+        return self.wrap(1, f"\N{LEFTWARDS ARROW} {', '.join(map(self.boot.label, makers))}") if makers else []
 
     def start_doing(self, start: Start) -> Lines:
         """What a start installs, and the notifications that ran meanwhile."""
@@ -248,7 +242,7 @@ class Picture:
             if names := [self.name(guid) for guid, did in installed if did == shown]:
                 lines += self.wrap(2, f"{word} {', '.join(names)}")
         if start.notifications:
-            told = dict.fromkeys(self.label(note.module) for note in start.notifications)
+            told = dict.fromkeys(self.boot.label(note.module) for note in start.notifications)
             lines += self.wrap(2, f"\N{BLACK DIAMOND} {len(start.notifications)} notified: {', '.join(told)}", most=3)
         return lines
 
@@ -256,7 +250,7 @@ class Picture:
         rows = []
         for wait in (wait for wait in self.boot.waits if wait.phase == phase):
             again = wait.module in self.boot.started(phase)
-            name = self.wrap(0, f"\N{MULTIPLICATION SIGN} {self.label(wait.module)}", "name")
+            name = self.wrap(0, f"\N{MULTIPLICATION SIGN} {self.boot.label(wait.module)}", "name")
             name += self.wrap(0, f"{'not again' if again else 'never starts'}: {wait.reason} \N{MIDDLE DOT} module {wait.module}")
             missing = self.wrap(1, f"missing {', '.join(self.name(guid) for guid, _ in wait.lacks)}") if wait.lacks else []
             rows.append(self.row(phase, wait, [name, missing]))
@@ -276,13 +270,13 @@ class Picture:
         for row in self.rows:
             if isinstance(row.what, Start):
                 for guid, maker in self.shown_needs(row.what):
-                    self.arc(row, maker, "arc", f"{self.name(guid)}, of {self.label(maker)}")
+                    self.arc(row, maker, "arc", f"{self.name(guid)}, of {self.boot.label(maker)}")
                 if row.what.beside is not None:
-                    self.arc(row, str(row.what.beside), "arc", f"{row.what.why} {self.label(row.what.beside)}")
+                    self.arc(row, str(row.what.beside), "arc", f"{row.what.why} {self.boot.label(row.what.beside)}")
             elif isinstance(row.what, Wait):
                 for guid, givers in row.what.lacks:
                     for giver, _ in givers:
-                        self.arc(row, giver, "arc lacking", f"{self.name(guid)}, which {self.label(giver)} may install")
+                        self.arc(row, giver, "arc lacking", f"{self.name(guid)}, which {self.boot.label(giver)} may install")
 
     def shown_needs(self, start: Start) -> list[tuple[str, str]]:
         """What a start asked for; of the thirteen protocols that a driver without an expression asks for, the last that came."""

@@ -4,13 +4,28 @@
 """
 import struct
 from collections import Counter
-from collections.abc import Iterator
+from collections.abc import Callable, Iterator
 from dataclasses import dataclass, field
 
-from guid_names import plain_name
+from guid_names import GUID, plain_name
 
 CORE, NOBODY = "core", "-"
 PHASES = ("pei", "dxe")
+
+
+# Why a part never started, by its word in a line `waits`.
+REASONS = {
+    "false": "Its expression does not hold.",
+    "malformed": "Its expression cannot be read, so it never holds.",
+    "shadow": "It registered for shadow, and memory did not move, so it did not start a second time.",
+    "unrequested": "Its expression begins with SOR, and no module requested it by Schedule().",
+    "before": "It starts only just before the driver that it names, and that driver did not start after it.",
+    "after": "It starts only just after the driver that it names, and that driver did not start before it.",
+    "absent": "It has no dependency expression, so it needs all 13 architectural protocols.",
+    "scheduled": "It was scheduled, and the boot was cut off before its turn.",
+    "unreported": "Its volume was never reported to the PEI core.",
+    "undiscovered": "DXE never discovered its volume: no FV HOB has its base, and no driver processed it.",
+}
 
 
 @dataclass
@@ -23,6 +38,11 @@ class Module:
     name: str
     expressions: dict[str, str] = field(default_factory=dict)
     gives: dict[str, list[str]] = field(default_factory=dict)
+
+    def asked(self) -> list[str]:
+        """The GUIDs that its expressions ask for, each once; BEFORE and AFTER name a driver."""
+        texts = [text for text in self.expressions.values() if not text.startswith(("before ", "after "))]
+        return list(dict.fromkeys(guid for text in texts for guid in GUID.findall(text)))
 
     def label(self) -> str:
         """What a person calls it."""
@@ -130,6 +150,25 @@ class Boot:
         """The parts that never started; one that waits for its second start is none of them."""
         started = {phase: self.started(phase) for phase in PHASES}
         return [wait for wait in self.waits if wait.module not in started[wait.phase]]
+
+    def first_causes(self) -> list[Wait]:
+        """The parts that never started; first those that miss what no module installs, since others wait for these."""
+        return sorted(self.never_started(), key=lambda wait: all(givers for _, givers in wait.lacks))
+
+    def cause(self, wait: Wait, name: Callable[[str], str]) -> str:
+        """Why a part never started, in a line."""
+        missing = sorted(wait.lacks, key=lambda lack: bool(lack[1]))
+        if not missing:
+            return REASONS.get(wait.reason, wait.reason).removesuffix(".")
+        guid, givers = missing[0]
+        who = f"which {self.label(givers[0][0])} may install" if givers else "which no module's script installs"
+        return f"missing {name(guid)}, {who}" + (f", and {len(missing) - 1} more" if len(missing) > 1 else "")
+
+    def label(self, number: int | str | None) -> str:
+        """What a person calls a module, by its number."""
+        if number == CORE or not str(number).isdigit():
+            return "the core" if number == CORE else "a module"
+        return self.modules[int(number)].label()
 
     makers: dict[int, int] = field(default_factory=dict)  # of each handle the module that made it
     shown: dict[tuple[str, int], set[str]] = field(default_factory=dict)  # what each module did install, by phase

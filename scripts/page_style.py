@@ -78,6 +78,7 @@ th { text-align: left; font-size: .87em }
 td, th { border-top: 1px solid #ccc; padding: 4px 10px 4px 0; vertical-align: top }
 td ul { margin: 0; padding-left: 1.1em }
 td .guid { white-space: nowrap }
+.stacks { font-size: .93em }
 .bar { background: #e8e8e8; height: 14px; margin: 2px 0 8px; border: 1px solid #777 }
 .bar i { display: block; height: 100%; min-width: 1px; background: #0072b2; print-color-adjust: exact; -webkit-print-color-adjust: exact }
 #memory p { margin: .3em 0 0 }
@@ -105,7 +106,7 @@ STACKED = """
 """
 
 NARROWER = f"""
-@media (max-width: 900px) {{
+@media (max-width: 1150px) {{
   .wide {{ display: none }}
   .narrow {{ display: block }}
   nav input {{ margin-left: 0; width: 100% }}

@@ -11,7 +11,7 @@ from html import escape
 from boot_overview import Overview
 from boot_picture import NARROW, Picture
 from boot_picture import STYLE as PICTURE_STYLE
-from explained import CORE, NOBODY, Boot, Module, Range, Start, Wait
+from explained import CORE, NOBODY, REASONS, Boot, Module, Range, Start, Wait
 from guid_names import GUID
 from page_style import SCRIPT, STYLE
 
@@ -27,18 +27,6 @@ RESULTS = {
     "NoIpl": "PEI ended without a hand-off: no module installed the DXE IPL PPI.",
     "Spent": "The boot was cut off: the plan's fuel was used up.",
     "Deep": "The boot was cut off: more than 64 scripts were inside one another.",
-}
-REASONS = {
-    "false": "Its expression does not hold.",
-    "malformed": "Its expression cannot be read, so it never holds.",
-    "shadow": "It registered for shadow, and memory did not move, so it did not start a second time.",
-    "unrequested": "Its expression begins with SOR, and no module requested it by Schedule().",
-    "before": "It starts only just before the driver that it names, and that driver did not start after it.",
-    "after": "It starts only just after the driver that it names, and that driver did not start before it.",
-    "absent": "It has no dependency expression, so it needs all 13 architectural protocols.",
-    "scheduled": "It was scheduled, and the boot was cut off before its turn.",
-    "unreported": "Its volume was never reported to the PEI core.",
-    "undiscovered": "DXE never discovered its volume: no FV HOB has its base, and no driver processed it.",
 }
 MEMORY = {"moved": "when memory moved", "end": "at the end"}
 
@@ -87,6 +75,10 @@ class Names:
 
     def on_hover(self, guid: str) -> str:
         return f'<abbr title="{escape(self.names[guid])}">{guid}</abbr>' if guid in self.names else guid
+
+    def plain(self, text: str) -> str:
+        """A text with names in the place of GUIDs."""
+        return GUID.sub(lambda match: self.names.get(match[0], match[0]), text)
 
     def named(self, text: str) -> str:
         """A text with names in the place of GUIDs, as an expression is read."""
@@ -195,26 +187,16 @@ class Page:
         return f'<h1>{escape(self.source.title)}</h1><ul class="verdicts">{verdict}{result}</ul>{self.causes()}{overview}<dl class="counts">{shown}</dl>'
 
     def causes(self) -> str:
-        """Who never started, in a line each; first those that miss what no module installs, since others wait for these."""
-        waits = sorted(self.boot.never_started(), key=lambda wait: all(givers for _, givers in wait.lacks))
+        """Who never started, in a line each."""
+        waits = self.boot.first_causes()
         if not waits:
             return '<p class="causes">Every PEIM and DXE driver started. SMM drivers and applications are not looked at.</p>'
-        lines = [f"<li>{link(escape(self.boot.modules[wait.module].label()), f'waits{wait.module}{wait.phase}')} {self.cause(wait)}</li>" for wait in waits]
+        lines = [f"<li>{link(escape(self.boot.label(wait.module)), f'waits{wait.module}{wait.phase}')} {self.cause(wait)}</li>" for wait in waits]
         more = f"<li>{link(f'and {len(lines) - MOST_CAUSES} more', 'never')}</li>" if len(lines) > MOST_CAUSES else ""
         return f'<div class="causes"><b>{len(lines)} never started</b><ul>{"".join(lines[:MOST_CAUSES])}{more}</ul></div>'
 
     def cause(self, wait: Wait) -> str:
-        """Why a part never started, in a line."""
-        missing = sorted(wait.lacks, key=lambda lack: bool(lack[1]))
-        if not missing:
-            return f"({wait.phase.upper()}): {REASONS.get(wait.reason, wait.reason)}"
-        guid, givers = missing[0]
-        more = f", and {len(missing) - 1} more" if len(missing) > 1 else ""
-        who = f"which {self.label(givers[0][0])} may install" if givers else "which no module's script installs"
-        return f"({wait.phase.upper()}): missing {self.names.html(guid)}, {who}{more}"
-
-    def label(self, giver: str) -> str:
-        return "the core" if giver == CORE else escape(self.boot.modules[int(giver)].label())
+        return f"({wait.phase.upper()}): {escape(self.boot.cause(wait, self.names.short))}"
 
     # Who never started
 
@@ -329,14 +311,14 @@ class Page:
         return f"<details><summary>{summary}</summary>{needs}</details>"
 
     def modules(self) -> str:
-        heads = ["no.", "name and file", "volume", "type", "expression", "may install", "what became of it"]
+        heads = ["no.", "name and file", "volume", "type", "expression", "may install", "became"]
         return section("modules", "Modules", table(heads, map(self.module_row, self.boot.modules.values()), "stacks modules"), len(self.boot.modules))
 
     def module_row(self, module: Module) -> str:
         gives = dict.fromkeys(guid for given in module.gives.values() for guid in given)
         return row(f"module{module.number}", {
             "no.": f"{module.number}",
-            "module": f"<b>{escape(module.label())}</b><br>{code(module.guid)}",
+            "module": (f"<b>{escape(module.name)}</b><br>" if module.name != NOBODY else "") + code(module.guid),
             "volume": f"{module.volume}",
             "type": escape(module.kind),
             "expression": "<br>".join(f"{phase.upper()}: {self.expression(module, phase)}" for phase in module.expressions),
@@ -349,8 +331,7 @@ class Page:
         asking: dict[str, list[str]] = {}
         giving: dict[str, list[str]] = {}
         for module in self.boot.modules.values():
-            asked = dict.fromkeys(guid for text in module.expressions.values() for guid in GUID.findall(text))
-            for guid in asked:
+            for guid in module.asked():
                 asking.setdefault(guid, []).append(self.module(module.number))
             for guid in dict.fromkeys(guid for given in module.gives.values() for guid in given):
                 giving.setdefault(guid, []).append(self.module(module.number))
