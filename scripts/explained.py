@@ -2,42 +2,29 @@
 
 `report` stands on it. It reads printed lines alone (docs/EXPLAIN.md, docs/FORMATS.md), and no volume and no plan.
 """
-import re
 import struct
 from collections import Counter
-from collections.abc import Iterator
+from collections.abc import Callable, Iterator
 from dataclasses import dataclass, field
 
-GUID = re.compile(r"[0-9a-f]{8}(?:-[0-9a-f]{4}){3}-[0-9a-f]{12}")
-ESCAPED = re.compile(r"\\u([0-9a-f]{4})")
+from guid_names import GUID, plain_name
+
 CORE, NOBODY = "core", "-"
 PHASES = ("pei", "dxe")
-MEMORY_PPI = "f894643d-c449-42d1-8ea8-85bdd8c65bde"
 
-# Those of the PI specification that the machine itself asks for, by EDK2's names.
-KNOWN = {
-    "8c8ce578-8a3d-4f1c-9935-896185c32dd3": "gEfiFirmwareFileSystem2Guid",
-    "5473c07a-3dcb-4dca-bd6f-1e9689e7349a": "gEfiFirmwareFileSystem3Guid",
-    "1b45cc0a-156a-428a-af62-49864da0e6e6": "gPeiAprioriFileNameGuid",
-    "fc510ee7-ffdc-11d4-bd41-0080c73c8881": "gAprioriGuid",
-    "49edb1c1-bf21-4761-bb12-eb0031aabb39": "gEfiPeiFirmwareVolumeInfoPpiGuid",
-    MEMORY_PPI: "gEfiPeiMemoryDiscoveredPpiGuid",
-    "0ae8ce5d-e448-4437-a8d7-ebf5f194f731": "gEfiDxeIplPpiGuid",
-}
-ARCHITECTURAL = {
-    "a46423e3-4617-49f1-b9ff-d1bfa9115839": "gEfiSecurityArchProtocolGuid",
-    "26baccb1-6f42-11d4-bce7-0080c73c8881": "gEfiCpuArchProtocolGuid",
-    "26baccb2-6f42-11d4-bce7-0080c73c8881": "gEfiMetronomeArchProtocolGuid",
-    "26baccb3-6f42-11d4-bce7-0080c73c8881": "gEfiTimerArchProtocolGuid",
-    "665e3ff6-46cc-11d4-9a38-0090273fc14d": "gEfiBdsArchProtocolGuid",
-    "665e3ff5-46cc-11d4-9a38-0090273fc14d": "gEfiWatchdogTimerArchProtocolGuid",
-    "b7dfb4e1-052f-449f-87be-9818fc91b733": "gEfiRuntimeArchProtocolGuid",
-    "1e5668e2-8481-11d4-bcf1-0080c73c8881": "gEfiVariableArchProtocolGuid",
-    "6441f818-6362-4e44-b570-7dba31dd2453": "gEfiVariableWriteArchProtocolGuid",
-    "5053697e-2cbc-4819-90d9-0580deee5754": "gEfiCapsuleArchProtocolGuid",
-    "1da97072-bddc-4b30-99f1-72a0b56fff2a": "gEfiMonotonicCounterArchProtocolGuid",
-    "27cfac88-46cc-11d4-9a38-0090273fc14d": "gEfiResetArchProtocolGuid",
-    "27cfac87-46cc-11d4-9a38-0090273fc14d": "gEfiRealTimeClockArchProtocolGuid",
+
+# Why a part never started, by its word in a line `waits`.
+REASONS = {
+    "false": "Its expression does not hold.",
+    "malformed": "Its expression cannot be read, so it never holds.",
+    "shadow": "It registered for shadow, and memory did not move, so it did not start a second time.",
+    "unrequested": "Its expression begins with SOR, and no module requested it by Schedule().",
+    "before": "It starts only just before the driver that it names, and that driver did not start after it.",
+    "after": "It starts only just after the driver that it names, and that driver did not start before it.",
+    "absent": "It has no dependency expression, so it needs all 13 architectural protocols.",
+    "scheduled": "It was scheduled, and the boot was cut off before its turn.",
+    "unreported": "Its volume was never reported to the PEI core.",
+    "undiscovered": "DXE never discovered its volume: no FV HOB has its base, and no driver processed it.",
 }
 
 
@@ -51,6 +38,11 @@ class Module:
     name: str
     expressions: dict[str, str] = field(default_factory=dict)
     gives: dict[str, list[str]] = field(default_factory=dict)
+
+    def asked(self) -> list[str]:
+        """The GUIDs that its expressions ask for, each once; BEFORE and AFTER name a driver."""
+        texts = [text for text in self.expressions.values() if not text.startswith(("before ", "after "))]
+        return list(dict.fromkeys(guid for text in texts for guid in GUID.findall(text)))
 
     def label(self) -> str:
         """What a person calls it."""
@@ -146,10 +138,37 @@ class Boot:
         """The HOB list at its longest: it only grows."""
         return max(self.heap.values(), default=None)
 
+    def heap_room(self) -> int | None:
+        """The bytes that the heap has for the HOB list at the end: from MemoryBottom to FreeMemoryTop of the hand-off HOB."""
+        body = next((words[2] for words in map(str.split, self.trace) if words[:2] == ["hob", "1"] and len(words) == 3), "")
+        if len(body) < 2 * HANDOFF_BODY:
+            return None
+        bottom, top = struct.unpack_from("<8x8xQQ", bytes.fromhex(body[: 2 * HANDOFF_BODY]))
+        return top - bottom
+
     def never_started(self) -> list[Wait]:
         """The parts that never started; one that waits for its second start is none of them."""
         started = {phase: self.started(phase) for phase in PHASES}
         return [wait for wait in self.waits if wait.module not in started[wait.phase]]
+
+    def first_causes(self) -> list[Wait]:
+        """The parts that never started; first those that miss what no module installs, since others wait for these."""
+        return sorted(self.never_started(), key=lambda wait: all(givers for _, givers in wait.lacks))
+
+    def cause(self, wait: Wait, name: Callable[[str], str]) -> str:
+        """Why a part never started, in a line."""
+        missing = sorted(wait.lacks, key=lambda lack: bool(lack[1]))
+        if not missing:
+            return REASONS.get(wait.reason, wait.reason).removesuffix(".")
+        guid, givers = missing[0]
+        who = f"which {self.label(givers[0][0])} may install" if givers else "which no module's script installs"
+        return f"missing {name(guid)}, {who}" + (f", and {len(missing) - 1} more" if len(missing) > 1 else "")
+
+    def label(self, number: int | str | None) -> str:
+        """What a person calls a module, by its number."""
+        if number == CORE or not str(number).isdigit():
+            return "the core" if number == CORE else "a module"
+        return self.modules[int(number)].label()
 
     makers: dict[int, int] = field(default_factory=dict)  # of each handle the module that made it
     shown: dict[tuple[str, int], set[str]] = field(default_factory=dict)  # what each module did install, by phase
@@ -174,14 +193,6 @@ class Boot:
 
 INSTALLS = (["call", "install", "Success"], ["call", "reinstall", "Success"])
 LISTS = {"ppis": "PPIs", "callbacks": "callbacks", "dispatches": "dispatch notifications", "pendings": "queued pairs", "hobs": "HOBs", "handles": "interfaces"}
-
-
-def plain_name(name: str) -> str:
-    """A module's name as its section has it: what no word may have stands as \\uXXXX in a line of `explain`."""
-    units = b"".join(int(part[1:], 16).to_bytes(2, "little") if part.startswith("\0") else part.encode("utf-16-le")
-                     for part in re.split(r"(\0[0-9a-f]{4})", ESCAPED.sub("\0\\1", name)))
-    text = units.decode("utf-16-le", "replace")
-    return "".join(letter if letter.isprintable() else "\N{REPLACEMENT CHARACTER}" for letter in text)
 
 
 # The lines of `explain`
@@ -309,7 +320,7 @@ def shown_makers(boot: Boot) -> dict[tuple[str, int], set[str]]:
 
 # The map
 
-HOB_HEADER, END_HOB = 8, (0xFFFF, b"")
+HOB_HEADER, HANDOFF_BODY, END_HOB = 8, 48, (0xFFFF, b"")
 
 
 def hob_list(trace: list[str]) -> bytes:
@@ -326,42 +337,3 @@ def read_map(boot: Boot, lines: list[str]) -> None:
             boot.map.append(Range(int(words[1], 0), int(words[2], 0), words[3], words[4]))
         elif words[0] == "refused":
             boot.map_refused = " ".join(words[1:])
-
-
-# Names of GUIDs
-
-LOADING = re.compile(r"Loading (?:PEIM|driver) (" + GUID.pattern + ")", re.IGNORECASE)
-IMAGE = re.compile(r"EntryPoint=\S+ (\w+)\.efi", re.IGNORECASE)
-
-
-def read_names(text: str) -> dict[str, str]:
-    """The names of GUIDs in a file: lines `NAME GUID`; those of a .dec file of EDK2, `NAME = { 0x.., .. }`; or the modules of a debug log."""
-    found = names_in_log(text)
-    for line in text.splitlines():
-        line = line.split("#")[0].strip()
-        name, _, value = line.partition("=")
-        if (guid := dec_guid(value)) is not None:
-            found[guid] = name.strip()
-        elif (match := re.fullmatch(r"(\S+)\s+\{?(" + GUID.pattern + r")\}?", line, re.IGNORECASE)) is not None:
-            found[match[2].lower()] = match[1]
-    return found
-
-
-def names_in_log(text: str) -> dict[str, str]:
-    """The names of the modules that a core's log tells of: it names a file, and a few lines on the image that it is."""
-    found, loading = {}, ""
-    for line in text.splitlines():
-        if (match := LOADING.search(line)) is not None:
-            loading = match[1].lower()
-        elif loading and (match := IMAGE.search(line)) is not None:
-            found[loading], loading = match[1], ""
-    return found
-
-
-def dec_guid(value: str) -> str | None:
-    """The GUID of a value in a .dec file."""
-    numbers = re.findall(r"0x([0-9a-f]+)", value, re.IGNORECASE)
-    if value.count("{") != 2 or len(numbers) != 11:
-        return None
-    digits = "".join(number.zfill(width)[-width:] for number, width in zip(numbers, [8, 4, 4] + [2] * 8)).lower()
-    return "-".join([digits[:8], digits[8:12], digits[12:16], digits[16:20], digits[20:]])

@@ -1,5 +1,6 @@
-"""The boots whose pages are tried, and how a page is made of one. `check-report` and `try-report` stand on it."""
+"""The boots whose pages are tried, and how a page is made of one. `check-report` and `try-report` use it."""
 import os
+import shlex
 import shutil
 import subprocess
 import sys
@@ -9,7 +10,7 @@ PROGRAMS = [os.path.join(ROOT, "crates", name, "out", name) for name in ("piboot
 # A folder of examples/, and the words of `report`: ten modules of which three wait, eight drivers, 279 modules, every service, two of real
 # firmware, one as its log tells of it and one in the machine's own order.
 BOOTS = [("why", "plan --names names"), ("drivers", "plan"), ("large-boot", "plan"), ("every-service", "plan"),
-         ("real/plain", "plan trace --names log"), ("real/arm", "plan --names log")]
+         ("real/plain", "plan trace --names log --title 'A boot of OVMF in QEMU, as its log records it'"), ("real/arm", "plan --names log")]
 
 
 def programs(words: list[str]) -> dict[str, str]:
@@ -27,7 +28,7 @@ def make_page(example: str, words: str, folder: str, environment: dict[str, str]
         if not os.path.exists(volume):
             with open(volume, "wb") as made:
                 subprocess.run([environment["PITOOLS"], "volume", os.path.join(work, text)], stdout=made, check=True)
-    run = [os.path.join(ROOT, "scripts", "report"), *words.split(), "--out", folder, "--dot"]
+    run = [os.path.join(ROOT, "scripts", "report"), *shlex.split(words), "--out", folder, "--dot"]
     ran = subprocess.run(run, cwd=work, env=environment, capture_output=True, text=True, check=False)
     if ran.returncode != 0:
         print(ran.stderr, file=sys.stderr)

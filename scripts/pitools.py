@@ -1,23 +1,36 @@
-"""Has `pitools` answer, for the scripts of this folder: the one that `scripts/program` gives, or that which is installed with them."""
+"""Has `pitools` or `piboot` answer, for the scripts of this folder: the one that `scripts/program` gives, or that which is installed with them."""
 import functools
 import os
 import shutil
 import subprocess
 
 SCRIPTS = os.path.dirname(os.path.realpath(__file__))
-FINDER, INSTALLED = os.path.join(SCRIPTS, "program"), os.path.normpath(os.path.join(SCRIPTS, "../../bin/pitools"))
+FINDER, INSTALLED = os.path.join(SCRIPTS, "program"), os.path.normpath(os.path.join(SCRIPTS, "../../lib/piboot/bin"))
 
 
 @functools.cache
-def path() -> str:
-    """The path of the program. In a checkout it may have to be made first, once."""
+def path(program: str = "pitools") -> str:
+    """The path of a program. In a checkout it may have to be made first, once."""
     if os.path.exists(FINDER):
-        return subprocess.run([FINDER, "pitools"], stdout=subprocess.PIPE, check=True).stdout.decode().strip()
-    given = os.environ.get("PITOOLS") or INSTALLED
-    return os.path.abspath(shutil.which(given) or shutil.which("pitools") or given)
+        found = subprocess.run([FINDER, program], stdout=subprocess.PIPE, check=False)
+        if found.returncode:
+            raise ValueError(f"there is no {program} to run")
+        return found.stdout.decode().strip()
+    given = os.environ.get(program.upper()) or os.path.join(INSTALLED, program)
+    return os.path.abspath(shutil.which(given) or shutil.which(program) or given)
 
 
-def answer(*words: str, folder: str | None = None) -> tuple[int, bytes]:
+def answer(*words: str, folder: str | None = None, program: str = "pitools") -> tuple[int, bytes]:
     """The exit status for the words of a command line, and what is printed."""
-    ran = subprocess.run([path(), *words], cwd=folder, stdout=subprocess.PIPE, check=False)
+    ran = subprocess.run([path(program), *words], cwd=folder, stdout=subprocess.PIPE, check=False)
     return ran.returncode, ran.stdout
+
+
+def version(program: str) -> list[str]:
+    """What a program says of its version; of a checkout the commit too."""
+    ran = subprocess.run([path(program), "--version"], capture_output=True, check=False)
+    lines = ran.stderr.decode(errors="replace").splitlines()
+    if not os.path.exists(FINDER) or not shutil.which("git"):
+        return lines[:3]
+    commit = subprocess.run(["git", "-C", SCRIPTS, "describe", "--always", "--dirty", "--abbrev=12"], capture_output=True, text=True, check=False)
+    return [*lines[:1], f"checkout at {commit.stdout.strip()}"] if commit.returncode == 0 else lines[:3]

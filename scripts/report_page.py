@@ -1,6 +1,6 @@
-"""Writes the page on a boot: one file of HTML with its styles and its picture inside, and nothing that it loads from elsewhere.
+"""Writes the page on a boot: one file of HTML with its styles and its pictures inside, and nothing that it loads from elsewhere.
 
-`report` stands on it.
+`report` uses it.
 """
 import math
 import re
@@ -8,39 +8,53 @@ from collections.abc import Iterable
 from dataclasses import dataclass
 from html import escape
 
-from boot_picture import COLOURS, MEANINGS, WAITS_COLOUR, Picture
+from boot_overview import Overview
+from boot_picture import NARROW, Picture
 from boot_picture import STYLE as PICTURE_STYLE
-from explained import CORE, GUID, NOBODY, Boot, Module, Range, Start, Wait
+from explained import CORE, NOBODY, REASONS, Boot, Module, Range, Start, Wait
+from guid_names import GUID
 from page_style import SCRIPT, STYLE
 
 LONG = 120  # of a word of the trace with more letters, as the bytes of a large HOB, the beginning is shown
 MOST_NOTES = 50  # notifications of one start that are listed; the trace has all
+MOST_CAUSES = 6  # parts that never started, on the first screen
+MOST_USERS = 8  # modules that ask for a GUID, or may install it, in the list of GUIDs
+FOLDED = 40  # a table with more rows is folded
 
 RESULTS = {
-    "Done": "PEI handed off, and DXE ended with no driver left that may start.",
-    "NoMemory": "PEI ended, and no module had installed memory.",
-    "NoIpl": "PEI ended, and no module had installed the DXE IPL PPI, so it hands off to nobody.",
-    "Spent": "The plan's fuel was spent: the boot was cut off there.",
-    "Deep": "More than 64 scripts stood inside one another: the boot was cut off there.",
+    "Done": "PEI handed off to DXE, and DXE ended with no driver left that may start.",
+    "NoMemory": "PEI ended without permanent memory: no module installed it.",
+    "NoIpl": "PEI ended without a hand-off: no module installed the DXE IPL PPI.",
+    "Spent": "The boot was cut off: the plan's fuel was used up.",
+    "Deep": "The boot was cut off: more than 64 scripts were inside one another.",
 }
-REASONS = {
-    "false": "Its expression does not hold.",
-    "malformed": "Its expression cannot be read, so it never holds.",
-    "shadow": "It registered for shadow, and memory did not move: its second start did not come.",
-    "unrequested": "SOR: it starts only once a module requests it by Schedule(), and none did.",
-    "before": "It starts only just before the driver that it names, and that one did not start behind it.",
-    "after": "It starts only just after the driver that it names, and that one did not start before it.",
-    "absent": "Without an expression a driver waits for all thirteen architectural protocols, and these are not there:",
-    "scheduled": "It was scheduled, and the boot was cut off before its turn.",
-    "unreported": "Its volume was never reported to the PEI core.",
-    "undiscovered": "Its volume was never discovered by DXE: no FV HOB tells of it, and no driver processed it.",
-}
-MEMORY = {"moved": "Before: bytes of the HOB list as it moved", "end": "After: bytes of it at the end"}
+MEMORY = {"moved": "when memory moved", "end": "at the end"}
+
+
+@dataclass
+class Source:
+    """What a page is on: its title, the plan with its text, the trace, and the program that answered."""
+    title: str
+    plan: str
+    plan_text: str
+    trace: str | None
+    program: list[str]
+
+    def number(self, word: str) -> int:
+        """The last number of a line of the plan; 0 without the line."""
+        found = re.search(rf"^{word} (?:\S+ )?(\S+)\r?$", self.plan_text, re.MULTILINE)
+        return int(found[1], 0) if found else 0
+
+    def room(self, part: str, boot: Boot) -> int | None:
+        """The bytes that the heap had for the HOB list: temporary RAM without its page region, or as the hand-off HOB says at the end."""
+        if part == "moved" or boot.moved is None:
+            return self.number("temp") - self.number("pages")
+        return boot.heap_room()
 
 
 @dataclass
 class Names:
-    """The names of GUIDs, and how a page says a GUID."""
+    """The names of GUIDs, and how a page shows a GUID."""
     names: dict[str, str]
 
     def short(self, guid: str) -> str:
@@ -48,9 +62,12 @@ class Names:
         return self.names.get(guid, f"{guid[:8]}..{guid[-4:]}" if GUID.fullmatch(guid) else guid)
 
     def html(self, guid: str) -> str:
-        """A GUID on the page: its name and its text."""
-        text = f'<span class="guid">{escape(guid)}</span>'
-        return f"<b>{escape(self.names[guid])}</b> {text}" if guid in self.names else text
+        """A GUID in a list: its name, with the GUID on hover."""
+        return f'<abbr title="{escape(guid)}">{escape(self.names[guid])}</abbr>' if guid in self.names else code(guid)
+
+    def full(self, guid: str) -> str:
+        """A GUID with its name and its text."""
+        return f"<b>{escape(self.names[guid])}</b> {code(guid)}" if guid in self.names else code(guid)
 
     def hovered(self, text: str) -> str:
         """A text in which each GUID that has a name shows it on hover."""
@@ -58,6 +75,18 @@ class Names:
 
     def on_hover(self, guid: str) -> str:
         return f'<abbr title="{escape(self.names[guid])}">{guid}</abbr>' if guid in self.names else guid
+
+    def plain(self, text: str) -> str:
+        """A text with names in the place of GUIDs."""
+        return GUID.sub(lambda match: self.names.get(match[0], match[0]), text)
+
+    def named(self, text: str) -> str:
+        """A text with names in the place of GUIDs, as an expression is read."""
+        return GUID.sub(lambda match: self.html(match[0]), escape(text))
+
+
+def code(guid: str) -> str:
+    return f'<span class="guid">{escape(guid)}</span>'
 
 
 def link(text: str, anchor: str) -> str:
@@ -85,12 +114,28 @@ def row(identity: str, cells: dict[str, str]) -> str:
     return f'<tr id="{identity}">{shown}</tr>'
 
 
+def section(identity: str, title: str, body: str, rows: int = 0) -> str:
+    """A part of the page; a long one is folded, and its title unfolds it."""
+    is_open = "" if rows > FOLDED else " open"
+    count = f' <span class="rows">{rows:,}</span>' if rows else ""
+    return f'<details class="part" id="{identity}"{is_open}><summary><h2>{title}{count}</h2></summary>{body}</details>'
+
+
+def users(links: list[str]) -> str:
+    """The modules that do something with a GUID."""
+    more = f" and {len(links) - MOST_USERS} more" if len(links) > MOST_USERS else ""
+    return ", ".join(links[:MOST_USERS]) + more
+
+
+PARTS = [("never", "never started"), ("starts", "starts"), ("memory", "memory"), ("each", "each start"), ("modules", "modules"), ("guids", "GUIDs"), ("trace", "trace")]
+
+
 @dataclass
 class Page:
-    """A page on a boot; its parts are methods, in the order in which they stand on it."""
+    """A page on a boot; its parts are methods, in the order in which they are on it."""
     boot: Boot
     names: Names
-    title: str
+    source: Source
 
     def __post_init__(self) -> None:
         modules = list(reversed(self.boot.modules.values()))
@@ -105,9 +150,9 @@ class Page:
 
     def html(self, picture: Picture) -> str:
         head = '<meta charset="utf-8"><meta name="viewport" content="width=device-width, initial-scale=1">'
-        head += f"<title>{escape(self.title)}</title><style>{PICTURE_STYLE}{STYLE}</style>"
-        parts = [self.head(), self.waits(), self.picture(picture), self.memory(), self.starts(), self.modules(), self.trace()]
-        body = "\n".join(parts)
+        head += f"<title>{escape(self.source.title)}</title><style>{PICTURE_STYLE}{STYLE}</style>"
+        parts = [self.contents(), self.head(), self.waits(), self.picture(picture), self.memory(), self.starts(), self.modules(), self.guids(), self.trace()]
+        body = "\n".join([*parts, self.foot()])
         return f'<!DOCTYPE html>\n<html lang="en"><head>{head}</head>\n<body>{body}<script>{SCRIPT}</script></body></html>\n'
 
     # Words
@@ -119,32 +164,52 @@ class Page:
         return link(escape(self.boot.modules[int(number)].label()), f"module{number}")
 
     def expression(self, module: Module, phase: str) -> str:
-        return f"<code>{self.names.hovered(module.expressions.get(phase, NOBODY))}</code>"
+        return f"<code>{self.names.named(module.expressions.get(phase, NOBODY))}</code>"
 
-    # The head
+    # The first screen
+
+    def contents(self) -> str:
+        links = " ".join(link(title, identity) for identity, title in PARTS)
+        search = '<input id="filter" type="search" placeholder="filter by module, GUID or name" aria-label="filter"><span id="found"></span>'
+        return f'<nav>{links}{search}</nav>'
 
     def head(self) -> str:
-        boot = self.boot
+        boot, verdict = self.boot, ""
         counts = {count: f"{number:,}" for count, number in boot.counts().items() if number or count in ("modules", "never started")}
-        counts = {"result": boot.result} | counts | {"actions taken (fuel)": f"{boot.fuel:,}"}
+        counts |= {"actions taken (fuel)": f"{boot.fuel:,}"}
         if (most := boot.heap_most()) is not None:
-            counts["bytes of the HOB list at its longest"] = f"{most:,}"
-        style = {"result": "result"}
-        shown = "".join(f'<div class="{style.get(count, "count")}"><dt>{count}</dt><dd>{escape(number)}</dd></div>' for count, number in counts.items())
-        return f'<h1>{escape(self.title)}</h1><p>{RESULTS.get(boot.result, "")}</p><dl class="counts">{shown}</dl>'
+            counts["bytes of the HOB list"] = f"{most:,}"
+        if self.source.trace:
+            verdict = f'<li class="verdict"><b>yes</b> the rules of PI 1.8 allow the boot that {escape(self.source.trace)} records</li>'
+        shown = "".join(f"<div><dt>{count}</dt><dd>{escape(number)}</dd></div>" for count, number in counts.items())
+        result = f'<li class="result"><b>{escape(boot.result)}</b> {RESULTS.get(boot.result, "")}</li>'
+        overview = Overview(boot, self.names.short).html()
+        return f'<h1>{escape(self.source.title)}</h1><ul class="verdicts">{verdict}{result}</ul>{self.causes()}{overview}<dl class="counts">{shown}</dl>'
+
+    def causes(self) -> str:
+        """Who never started, in a line each."""
+        waits = self.boot.first_causes()
+        if not waits:
+            return '<p class="causes">Every PEIM and DXE driver started. SMM drivers and applications are not looked at.</p>'
+        lines = [f"<li>{link(escape(self.boot.label(wait.module)), f'waits{wait.module}{wait.phase}')} {self.cause(wait)}</li>" for wait in waits]
+        more = f"<li>{link(f'and {len(lines) - MOST_CAUSES} more', 'never')}</li>" if len(lines) > MOST_CAUSES else ""
+        return f'<div class="causes"><b>{len(lines)} never started</b><ul>{"".join(lines[:MOST_CAUSES])}{more}</ul></div>'
+
+    def cause(self, wait: Wait) -> str:
+        return f"({wait.phase.upper()}): {escape(self.boot.cause(wait, self.names.short))}"
 
     # Who never started
 
     def waits(self) -> str:
         waits = "".join(self.wait(wait) for wait in self.boot.waits)
-        return f'<h2 id="never">Who never started, and what it lacks</h2>{waits or "<p>Every module started.</p>"}'
+        return section("never", "Never started, and what is missing", waits or "<p>Every PEIM and DXE driver started.</p>")
 
     def wait(self, wait: Wait) -> str:
         module = self.boot.modules[wait.module]
-        lacks = [f"lacks {self.names.html(guid)}: {self.givers(wait, guid, givers)}" for guid, givers in wait.lacks]
-        has = [f"has {self.names.html(guid)}, of {self.module(maker)}" for guid, maker in wait.has]
+        missing = [f"missing {self.names.full(guid)}: {self.givers(wait, guid, givers)}" for guid, givers in wait.lacks]
+        has = [f"installed {self.names.full(guid)}, by {self.module(maker)}" for guid, maker in wait.has]
         parts = [f"<h3>{self.module(wait.module)} {word(wait.phase.upper())} {word(wait.reason)}</h3>"]
-        parts += [f"<p>{REASONS.get(wait.reason, '')} {self.named_driver(wait, module)}</p>", items(lacks + has), self.would(wait, module)]
+        parts += [f"<p>{REASONS.get(wait.reason, '')} {self.named_driver(wait, module)}</p>", items(missing + has), self.would(wait, module)]
         if self.has_expression(wait, module):
             parts.append(f"<p>expression {self.expression(module, wait.phase)}</p>")
         return f'<article class="wait" id="waits{wait.module}{wait.phase}">{"".join(parts)}</article>'
@@ -158,52 +223,54 @@ class Page:
         if found is None:
             return ""
         named = self.by_guid.get(found[0])
-        return f"It names {self.module(named.number)}." if named else f"No volume has the driver {self.names.html(found[0])}."
+        return f"It names {self.module(named.number)}." if named else f"No volume has the driver {self.names.full(found[0])}."
 
     def givers(self, wait: Wait, guid: str, givers: list[tuple[str, bool]]) -> str:
         if not givers:
             return "no module's script installs it"
         told = [self.giver(wait, giver, did) for giver, did in givers]
-        return "; ".join(told) + ("; and others more" if guid in wait.more else "")
+        return "; ".join(told) + ("; and others" if guid in wait.more else "")
 
     def giver(self, wait: Wait, giver: str, did: bool) -> str:
         if giver == CORE:
-            return "the core installs it only once memory has moved"
-        says = "started without installing it, or took it away" if did else "waits itself"
+            return "the core installs it when memory has moved"
+        says = "started without installing it, or uninstalled it" if did else "waits itself"
         if not did and (giver, wait.phase) in self.waiting:
             says = link(says, f"waits{giver}{wait.phase}")
         return f"{self.module(giver)} may install it, and {says}"
 
     def would(self, wait: Wait, module: Module) -> str:
         if wait.would:
-            return f"<p>It would hold with {' and '.join(self.names.html(guid) for guid in wait.would)}.</p>"
+            return f"<p>It would start with {' and '.join(self.names.html(guid) for guid in wait.would)}.</p>"
         if wait.would is not None and self.has_expression(wait, module):
             return "<p>The expression holds as it is.</p>"
-        return "<p>No GUID that comes would make it hold: one would have to go.</p>" if wait.would is None and wait.reason == "false" else ""
+        return "<p>No GUID that is installed would make it hold: one must be uninstalled.</p>" if wait.would is None and wait.reason == "false" else ""
 
     # Who started
 
     def picture(self, picture: Picture) -> str:
-        whys = {start.why for start in self.boot.starts}
-        legend = [f'<i style="background:{colour}"></i>{why}: {MEANINGS[why]}' for why, colour in COLOURS.items() if why in whys]
+        note = "An arc leads from the module that had a GUID to the module that asked for it. \N{LEFTWARDS ARROW} names these modules too; \N{BLACK DIAMOND} notifications that ran."
         if self.boot.waits:
-            legend.append(f'<i style="border:2px dashed {WAITS_COLOUR}"></i>\N{MULTIPLICATION SIGN}: it never started')
-        legend += ["\N{LEFTWARDS ARROW} and an arc: who had what it asked for", "\N{BLACK DIAMOND} notifications that ran"]
-        bands = "\n".join(picture.band(band) for band in picture.bands())
-        shown = "".join(f"<li>{each}</li>" for each in legend)
-        return f'<h2 id="starts">Who started, in the order of time</h2><ul class="legend">{shown}</ul><div class="picture">{bands}</div>'
+            note += " Dashed: never started."
+        narrow = Picture(self.boot, self.names.short, NARROW)
+        return section("starts", "Starts, in the order of time", f"<p>{note}</p>{picture.html()}{narrow.html()}")
 
     # Memory
 
     def memory(self) -> str:
         boot = self.boot
-        parts = ['<h2 id="memory">Memory</h2>', "<p>Memory never moved.</p>"]
+        parts = ["<p>Memory never moved.</p>"]
         if boot.moved:
-            parts[1] = f"<p>The HOB list began at <code>{boot.moved[0]:#x}</code> and moved to <code>{boot.moved[1]:#x}</code>.</p>"
-        most = boot.heap_most() or 1
-        for part, used in boot.heap.items():
-            parts.append(f'{MEMORY.get(part, part)}: <b>{used:,}</b><div class="bar"><i style="width:{100 * used / most:.1f}%"></i></div>')
-        return "".join(parts) + self.map()
+            parts = [f"<p>The HOB list began at <code>{boot.moved[0]:#x}</code> and moved to <code>{boot.moved[1]:#x}</code>.</p>"]
+        parts += [self.heap_bar(part, used) for part, used in boot.heap.items()]
+        return section("memory", "Memory", "".join(parts) + self.map())
+
+    def heap_bar(self, part: str, used: int) -> str:
+        """How much of the heap's room the HOB list takes."""
+        room = self.source.room(part, self.boot)
+        share = min(100, 100 * used / room) if room else 0
+        of = f" of {room:,} bytes ({'below 0.1' if share < 0.1 else f'{share:.1f}'} %)" if room else " bytes"
+        return f'<p>HOB list {MEMORY.get(part, part)}: <b>{used:,}</b>{of}</p><div class="bar"><i style="width:{share:.2f}%"></i></div>'
 
     def map(self) -> str:
         """The map that the HOB list gives."""
@@ -215,11 +282,11 @@ class Page:
     # Tables
 
     def starts(self) -> str:
-        heads = ["no.", "module", "why", "what its expression asks for, and who had installed it", "what it installs", "trace"]
-        return f'<h2 id="each">Each start</h2>{table(heads, map(self.start, self.boot.starts), "stacks")}'
+        heads = ["no.", "module", "why", "asked for, and who had installed it", "installs", "line"]
+        return section("each", "Each start", table(heads, map(self.start, self.boot.starts), "stacks starts"), len(self.boot.starts))
 
     def start(self, start: Start) -> str:
-        needs = [f"{self.names.html(guid)}: {'not there' if maker == NOBODY else f'of {self.module(maker)}'}" for guid, maker in start.needs]
+        needs = [f"{self.names.html(guid)}: {'not installed' if maker == NOBODY else self.module(maker)}" for guid, maker in start.needs]
         gives = [f"{'' if did else 'maybe '}{self.names.html(guid)}" for guid, did in self.boot.installed(start)]
         notes = [
             f"{link(f'line {note.line}', f'line{note.line}')}: {escape(note.kind)} of {self.module(note.module)} for {self.names.html(note.guid)}"
@@ -230,48 +297,70 @@ class Page:
             "no.": f"{start.place}",
             "module": f"{self.module(start.module)} {word(start.phase.upper())}",
             "why": f"{escape(start.why)}{beside}",
-            "asks for": self.folded(start, items(needs)),
+            "asked for": self.folded(start, items(needs)),
             "installs": items(gives) + (f"\N{BLACK DIAMOND} notified:{items(notes)}" if notes else ""),
-            "trace": link(f"line {start.line}", f"line{start.line}"),
+            "line": link(f"{start.line}", f"line{start.line}"),
         })
 
     def folded(self, start: Start, needs: str) -> str:
-        """The thirteen protocols that a driver without an expression asks for, folded away behind the last that came."""
+        """The thirteen protocols that a driver without an expression asks for, folded away after the last that was installed."""
         last = self.boot.last_met(start) if start.why == "absent" else None
         if last is None:
             return needs
-        summary = f"the architectural protocols; last came {self.names.html(last[0])}, of {self.module(last[1])}"
+        summary = f"the architectural protocols; the last was {self.names.html(last[0])}, by {self.module(last[1])}"
         return f"<details><summary>{summary}</summary>{needs}</details>"
 
     def modules(self) -> str:
-        heads = ["no.", "name and file", "where", "expression", "may install", "came to"]
-        return f'<h2 id="modules">All modules</h2>{table(heads, map(self.module_row, self.boot.modules.values()), "stacks")}'
+        heads = ["no.", "name and file", "volume", "type", "expression", "may install", "became"]
+        return section("modules", "Modules", table(heads, map(self.module_row, self.boot.modules.values()), "stacks modules"), len(self.boot.modules))
 
     def module_row(self, module: Module) -> str:
         gives = dict.fromkeys(guid for given in module.gives.values() for guid in given)
         return row(f"module{module.number}", {
             "no.": f"{module.number}",
-            "module": f'<b>{escape(module.label())}</b><br><span class="guid">{module.guid}</span>',
-            "where": f"volume {module.volume}, type {escape(module.kind)}",
+            "module": (f"<b>{escape(module.name)}</b><br>" if module.name != NOBODY else "") + code(module.guid),
+            "volume": f"{module.volume}",
+            "type": escape(module.kind),
             "expression": "<br>".join(f"{phase.upper()}: {self.expression(module, phase)}" for phase in module.expressions),
             "may install": "<br>".join(self.names.html(guid) for guid in gives),
             "came to": ", ".join(self.came_to.get(module.number, [])),
         })
 
+    def guids(self) -> str:
+        """Each GUID that an expression asks for or a script may install, with those modules."""
+        asking: dict[str, list[str]] = {}
+        giving: dict[str, list[str]] = {}
+        for module in self.boot.modules.values():
+            for guid in module.asked():
+                asking.setdefault(guid, []).append(self.module(module.number))
+            for guid in dict.fromkeys(guid for given in module.gives.values() for guid in given):
+                giving.setdefault(guid, []).append(self.module(module.number))
+        found = sorted(asking | giving, key=lambda guid: (guid not in self.names.names, self.names.short(guid).lower()))
+        rows = [row(f"guid-{guid}", {"name": escape(self.names.names.get(guid, NOBODY)), "GUID": code(guid), "asked for by": users(asking.get(guid, [])),
+                                     "may be installed by": users(giving.get(guid, []))}) for guid in found]
+        return section("guids", "GUIDs", table(["name", "GUID", "expressions of", "scripts of"], rows, "stacks guids"), len(rows))
+
     # The trace
 
     def trace(self) -> str:
         lines = "".join(self.trace_line(number, line) for number, line in enumerate(self.boot.trace, 1))
-        return f'<h2 id="trace">The trace</h2><ol class="trace">{lines}</ol>'
+        return section("trace", "Trace", f'<ol class="trace">{lines}</ol>', len(self.boot.trace))
 
     def trace_line(self, number: int, line: str) -> str:
-        """A line with its anchor, and behind it the name of the module that it tells of."""
+        """A line with its anchor, and the name of the module that is in it."""
         words = line.split(" ")
         place = words[2:4] if words[1:2] == ["start"] or words[0] == "notify" else words[1:3] if words[0] == "waiting" else []
         module = self.by_place.get((place[0], place[1])) if len(place) == 2 else None
         says = f" <em>{escape(module.label())}</em>" if module and module.name != NOBODY else ""
         begins = ' class="begins"' if words[1:2] == ["start"] else ""
         return f'<li id="line{number}"{begins}>{self.names.hovered(shortened(line))}{says}</li>'
+
+    # The foot
+
+    def foot(self) -> str:
+        source = self.source
+        trace = f", trace {escape(source.trace)}" if source.trace else ""
+        return f'<footer><p>{escape("; ".join(source.program))}</p><p>plan {escape(source.plan)}{trace}</p><pre>{escape(source.plan_text)}</pre></footer>'
 
 
 def range_row(each: Range) -> str:

@@ -1,0 +1,60 @@
+"""How a script of this folder speaks to a person: notes, the state of long work on a terminal, and one line in the place of a traceback."""
+import argparse
+import os
+import re
+import sys
+import time
+from collections.abc import Callable
+
+
+def name() -> str:
+    """The script's name, as its messages begin."""
+    return os.path.basename(sys.argv[0]).removeprefix("piboot-")
+
+
+def command(script: str) -> str:
+    """What a person writes to run another script: its path in a checkout, or the command that is installed."""
+    here = os.path.dirname(os.path.realpath(__file__))
+    return f"scripts/{script}" if os.path.exists(os.path.join(here, "program")) else f"piboot-{script}"
+
+
+def parser(doc: str | None) -> argparse.ArgumentParser:
+    """A reader of a command line whose help is a script's first comment, with the names that a person writes here."""
+    text = re.sub(r"scripts/([a-z-]+)", lambda match: command(match[1]), doc or "")
+    return argparse.ArgumentParser(description=text, formatter_class=argparse.RawDescriptionHelpFormatter)
+
+
+def note(text: str) -> None:
+    clear()
+    print(f"{name()}: {text}", file=sys.stderr)
+
+
+def clear() -> None:
+    """Takes the line of `working` off the terminal."""
+    if sys.stderr.isatty():
+        print("\r\033[K", end="", file=sys.stderr, flush=True)
+
+
+def working(text: str, since: float) -> None:
+    """On a terminal a line says what is at work and for how long; the next one takes its place."""
+    if sys.stderr.isatty():
+        print(f"\r\033[K{name()}: {text}, {time.monotonic() - since:.0f} s", end="", file=sys.stderr, flush=True)
+
+
+def run(work: Callable[[], int]) -> int:
+    """The exit status of a script's work. What the machine or the files refuse is one line, with status 1."""
+    try:
+        return work()
+    except BrokenPipeError:
+        os.dup2(os.open(os.devnull, os.O_WRONLY), sys.stdout.fileno())
+        return 1
+    except OSError as fault:
+        note(f"{fault.filename}: {fault.strerror}" if fault.filename else str(fault))
+    except ValueError as fault:
+        note(str(fault))
+    except RecursionError:
+        note("a part of the input is nested too deep")
+    except KeyboardInterrupt:
+        clear()
+        return 130
+    return 1
