@@ -27,7 +27,14 @@ use Rattle.boot_core.proofs.BootLines.{begins_with_pei, both_first, pei_first, s
 -- the choices of the machine itself
 abbrev pub first_choices : {S : Type 0} → (S → Option (List ℕ)) → (S → ℕ) → S → Choices
 first_choices text faults first =
-    choices_of (λ sink starts named. named ≡ None) (λ starts number. true) (λ sink starts named. named ≡ None) (λ starts number. true) text faults first
+    choices_of (record {
+      peims = λ sink starts named. named ≡ None;
+      lets_in_pei = λ starts number. true;
+      drivers = λ sink starts named. named ≡ None;
+      lets_in_dxe = λ starts number. true;
+      text = text;
+      faults = faults;
+    }) first
 
 -- what is known of such a boot
 pub record NamesNone (choices : Choices) (catalog : Catalog) : Type 0 where

@@ -1,17 +1,16 @@
 -- What follows PEI in a boot by choices, by its answer: it has come to the last line, to the start of a driver that is not let, or was given up.
 -- Own.
-use Rattle.std.specs.Prelude.{◌≡◌, ℕ, Bool, List, ◌++◌, Option, Result, Ok, Err}
+use Rattle.std.specs.Prelude.{◌≡◌, ℕ, List, ◌++◌, Option, Result, Ok, Err}
 use Rattle.std.specs.Io.KnownBytes.{Appends}
 use Rattle.boot_io.specs.declared.halt.Halt.{Halt}
 use Rattle.mod_catalog.specs.declared.catalogue.Catalog.{Catalog}
-use Rattle.store_model.specs.{HandleState.HandleState, StoreState.StoreState}
+use Rattle.store_model.specs.HandleState.{HandleState}
 use Rattle.boot_model.specs.{declared.line.Line.Line, declared.line.RunEnd.RunEnd, declared.phase_end.PeiEnd.PeiEnd}
 use Rattle.boot_model.specs.{declared.phase_end.PeiEnd.TheVariants.Handoff, PeiMachine.PeiMachine, Text.text_of}
-use Rattle.boot_laws.specs.Naming.{HasPut}
-use Rattle.pei_dispatch.specs.{declared.boot.Ended.Ended, Ends.IsLeft}
+use Rattle.pei_dispatch.specs.declared.boot.Ended.{Ended}
 use Rattle.boot_core.specs.declared.whole.behind.Behind.{Behind}
 use Rattle.boot_core.specs.declared.whole.behind.Behind.TheVariants.{Closed, Barred}
-use Rattle.boot_core.specs.{declared.whole.boot.Booted.Booted, Choices.Choices, Choices.choices_of, Closing.closing}
+use Rattle.boot_core.specs.{declared.whole.boot.Booted.Booted, Choices.Choices, Closing.closing}
 use Rattle.boot_core.specs.declared.whole.boot.Booted.TheVariants as B
 use Rattle.boot_core.specs.ByChoice.{BarsInDxe, EndsAfter, StopsBehind}
 
@@ -37,10 +36,3 @@ abbrev pub ComesBehind : {S : Type 0} → Choices → (S → Option (List ℕ)) 
     → Catalog → ℕ → PeiMachine → PeiEnd → S → S → Result Behind Halt → Type 0
 ComesBehind by text faults catalog fuel pei how first shown (Ok behind) = HasComeBehind by catalog fuel pei how (text first) (text shown) behind
 ComesBehind by text faults catalog fuel pei how first shown (Err halt) = StopsBehind by text faults catalog fuel pei how first shown
-
--- behind each machine in which PEI may have ended so and left this, and whose lines were put
-abbrev pub BootsBehind : {M S : Type 0} → (S → ℕ → Option ℕ → Type 0) → (ℕ → ℕ → Bool) → (S → ℕ → Option ℕ → Type 0) → (ℕ → ℕ → Bool)
-    → (S → Option (List ℕ)) → (S → ℕ) → (M → StoreState → Type 0) → Ended M → PeiEnd → Catalog → ℕ → S → S → Result Behind Halt → Type 0
-BootsBehind {S = S} peims lets_in_pei drivers lets_in_dxe text faults stands left how catalog fuel sink shown result =
-    (pei : PeiMachine) (first : S) → IsLeft stands catalog pei left → HasPut text faults first pei.lines sink
-    → ComesBehind (choices_of peims lets_in_pei drivers lets_in_dxe text faults first) text faults catalog fuel pei how first shown result

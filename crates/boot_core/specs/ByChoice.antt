@@ -6,7 +6,7 @@ use Rattle.boot_io.specs.{declared.halt.Halt.Halt, Sink.AppendsPart}
 use Rattle.boot_io.specs.declared.halt.Halt.TheVariants as H
 use Rattle.mod_catalog.specs.declared.catalogue.Catalog.{Catalog}
 use Rattle.store_model.specs.HandleState.{HandleState, no_handles}
-use Rattle.store_model.specs.StoreState.{Board, StoreState, empty_store}
+use Rattle.store_model.specs.StoreState.{Board, StoreState}
 use Rattle.boot_model.specs.{declared.line.Line.Line, declared.line.RunEnd.RunEnd, declared.phase_end.DxeEnd.DxeEnd}
 use Rattle.boot_model.specs.declared.line.RunEnd.TheVariants as E
 use Rattle.boot_model.specs.{declared.phase_end.PeiEnd.PeiEnd, BootRun.dxe_result, DxeMachine.DxeMachine, DxeRun.dxe_opening}
@@ -14,12 +14,12 @@ use Rattle.boot_model.specs.declared.phase_end.PeiEnd.TheVariants.{Handoff, NoMe
 use Rattle.boot_model.specs.{PeiMachine.PeiMachine, PeiRun.pei_opening, Text.text_of}
 use Rattle.boot_laws.specs.Naming.{HasPut}
 use Rattle.pei_dispatch.specs.{declared.boot.Ended.Ended, Ends.IsLeft}
-use Rattle.pei_dispatch.specs.Choices.{ComesTo, HasBooted, IsHeldBack, LetsPeims, NamesPeims, StopsForMemory, StopsShort}
+use Rattle.pei_dispatch.specs.Choices.{ComesTo, IsHeldBack, StopsForMemory, StopsShort}
 use Rattle.dxe_dispatch.specs.declared.boot.Barred.{Barred}
 use Rattle.dxe_dispatch.specs.Choices as D
 use Rattle.boot_core.specs.{declared.whole.boot.Booted.Booted, declared.whole.boot.Ran.Ran, Closing.closing}
 use Rattle.boot_core.specs.declared.whole.boot.Booted.TheVariants as B
-use Rattle.boot_core.specs.Choices.{Choices, choices_of, starts_of}
+use Rattle.boot_core.specs.Choices.{Choices, starts_of}
 
 -- behind this machine of PEI, DXE by choices has come to that one
 pub record ComesInDxe (by : Choices) (catalog : Catalog) (fuel : ℕ) (pei : PeiMachine) (m : DxeMachine) : Type 0 where
@@ -148,19 +148,3 @@ BootsTo by text faults stands takes board catalog fuel sink shown (Err H.Sink) =
 BootsTo by text faults stands takes board catalog fuel sink shown (Err H.Memory) =
     WantsInPei by takes board catalog fuel (text sink) (text shown)
     ⊎ StopsBehindPei by text faults board catalog fuel sink shown
-
--- by a choice that looks into the sink, over each board for which the store stands as it was made
-abbrev pub BootsByChoice : {M S : Type 0} → (S → ℕ → Option ℕ → Type 0) → (ℕ → ℕ → Bool) → (S → ℕ → Option ℕ → Type 0) → (ℕ → ℕ → Bool)
-    → (S → Option (List ℕ)) → (S → ℕ) → (M → StoreState → Type 0) → Bool → Catalog → ℕ → M → S → S → Result (Booted M) Halt → Type 0
-BootsByChoice peims lets_in_pei drivers lets_in_dxe text faults stands takes catalog fuel store sink shown result =
-    (board : Board) → stands store (empty_store board)
-    → BootsTo (choices_of peims lets_in_pei drivers lets_in_dxe text faults sink) text faults stands takes board catalog fuel sink shown result
-
--- the same behind each PEI that has ended so, and whose lines were put without a failure
-abbrev pub GoesOn : {M S : Type 0} → (S → ℕ → Option ℕ → Type 0) → (ℕ → ℕ → Bool) → (S → ℕ → Option ℕ → Type 0) → (ℕ → ℕ → Bool)
-    → (S → Option (List ℕ)) → (S → ℕ) → (M → StoreState → Type 0) → Bool → Catalog → ℕ → Ended M → S → S → Result (Booted M) Halt → Type 0
-GoesOn {S = S} peims lets_in_pei drivers lets_in_dxe text faults stands takes catalog fuel left sink shown result =
-    (board : Board) (first : S)
-    → HasBooted (NamesPeims peims text faults first) (LetsPeims lets_in_pei) stands catalog fuel (pei_opening board catalog) left (text first) (text sink)
-    → faults sink ≡ faults first
-    → BootsTo (choices_of peims lets_in_pei drivers lets_in_dxe text faults first) text faults stands takes board catalog fuel first shown result

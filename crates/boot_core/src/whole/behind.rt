@@ -4,15 +4,15 @@ ghost use Rattle.boot_io.specs.Halted.{HaltsAfter};
 ghost use Rattle.boot_model.specs.declared.phase_end.PeiEnd.TheVariants.{Handoff};
 ghost use Rattle.mod_catalog.specs.WellFormed.{IsWellFormed};
 ghost use Rattle.store_model.specs.{HandleState.no_handles, Service.Present, Service.OfEach, StoreCall.Anything};
-ghost use Rattle.boot_core.specs.{declared.whole.behind.Behind.TheVariants.Closed, Behind.BootsBehind, Closing.closing_text};
-ghost use Rattle.boot_core.specs.FirstBoot.{Tells};
+ghost use Rattle.boot_core.specs.{declared.whole.behind.Behind.TheVariants.Closed, Closing.closing_text};
+ghost use Rattle.boot_core.specs.{FirstBoot.Tells, Watched.BootsBehind};
 
 use crate::whole::closing::{put_closing, result_of};
 use boot_io::{Halt, Sink};
 use boot_laws::Choice;
 use boot_model::{PeiEnd, RunEnd};
 use dxe_core::database::Handles;
-use dxe_dispatch::{Barred, Left, boot_dxe};
+use dxe_dispatch::{Barred, DxeWatch, Left, watch_boot};
 use mod_catalog::Catalog;
 use pei_dispatch::Ended;
 use std::alloc::Global;
@@ -45,21 +45,37 @@ fn close<M: PeiStore, S: Sink>(
 }
 
 // DXE behind the hand-off.
-fn boot_drivers<M: PeiStore + Drop, S: Sink, C: Choice<S>>(
+fn boot_drivers<M: PeiStore + Drop, S: Sink, C: Choice<S>, D: DxeWatch>(
     alloc: Global,
     pei: &Ended<M>,
     catalog: &Catalog,
     fuel: u32,
     choice: &C,
+    watch: &mut D,
     sink: &mut S,
 ) -> Result<Behind, Halt>
     requires catalog { IsWellFormed catalog.now }
     requires state { Present (M.stands_for pei.now.store) Anything }
-    ensures row { BootsBehind (C.peims choice.now) (C.lets_in_pei choice.now) (C.drivers choice.now) (C.lets_in_dxe choice.now)
-        S.text S.faults M.stands_for pei.now Handoff catalog.now fuel sink.old sink.new result }
+    requires watch { D.is_new watch.old }
+    ensures row { BootsBehind (D.knows_all watch.new) (record {
+      rules = record {
+        peims = C.peims choice.now;
+        lets_in_pei = C.lets_in_pei choice.now;
+        drivers = C.drivers choice.now;
+        lets_in_dxe = C.lets_in_dxe choice.now;
+        text = S.text;
+        faults = S.faults;
+      };
+      stands = M.stands_for;
+      takes = M.TAKES_MEMORY;
+      catalog = catalog.now;
+      fuel = fuel;
+      sink = sink.old;
+      shown = sink.new;
+    }) pei.now Handoff result }
     ensures faults { HaltsAfter result (S.faults sink.old) (S.faults sink.new) }
 {
-    match boot_dxe(
+    match watch_boot(
         alloc,
         &pei.store,
         catalog,
@@ -67,6 +83,7 @@ fn boot_drivers<M: PeiStore + Drop, S: Sink, C: Choice<S>>(
         pei.actions,
         pei.starts,
         choice,
+        watch,
         sink,
     )? {
         Left::Ended(ended) => {
@@ -97,22 +114,38 @@ fn close_pei<M: PeiStore, S: Sink>(
 }
 
 /// What follows PEI.
-pub(crate) fn boot_behind<M: PeiStore + Drop, S: Sink, C: Choice<S>>(
+pub(crate) fn boot_behind<M: PeiStore + Drop, S: Sink, C: Choice<S>, D: DxeWatch>(
     alloc: Global,
     pei: &Ended<M>,
     catalog: &Catalog,
     fuel: u32,
     choice: &C,
+    watch: &mut D,
     sink: &mut S,
 ) -> Result<Behind, Halt>
     requires catalog { IsWellFormed catalog.now }
     requires state { Present (M.stands_for pei.now.store) Anything }
-    ensures row { BootsBehind (C.peims choice.now) (C.lets_in_pei choice.now) (C.drivers choice.now) (C.lets_in_dxe choice.now)
-        S.text S.faults M.stands_for pei.now pei.now.end catalog.now fuel sink.old sink.new result }
+    requires watch { D.is_new watch.old }
+    ensures row { BootsBehind (D.knows_all watch.new) (record {
+      rules = record {
+        peims = C.peims choice.now;
+        lets_in_pei = C.lets_in_pei choice.now;
+        drivers = C.drivers choice.now;
+        lets_in_dxe = C.lets_in_dxe choice.now;
+        text = S.text;
+        faults = S.faults;
+      };
+      stands = M.stands_for;
+      takes = M.TAKES_MEMORY;
+      catalog = catalog.now;
+      fuel = fuel;
+      sink = sink.old;
+      shown = sink.new;
+    }) pei.now pei.now.end result }
     ensures faults { HaltsAfter result (S.faults sink.old) (S.faults sink.new) }
 {
     match pei.end {
-        PeiEnd::Handoff => boot_drivers(alloc, pei, catalog, fuel, choice, sink),
+        PeiEnd::Handoff => boot_drivers(alloc, pei, catalog, fuel, choice, watch, sink),
         PeiEnd::NoMemory => close_pei(alloc, &pei.store, RunEnd::NoMemory, sink),
         PeiEnd::NoIpl => close_pei(alloc, &pei.store, RunEnd::NoIpl, sink),
         PeiEnd::Spent => close_pei(alloc, &pei.store, RunEnd::Spent, sink),
