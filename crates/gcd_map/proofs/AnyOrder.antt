@@ -1,4 +1,4 @@
--- Resources may come in any order: those that come in one come in each other one, and leave the same states.
+-- Stretches may come in any order: those that come in one come in each other one, and leave the same states.
 use Rattle.std.proofs.Common.{◌≡◌, ◌≢◌, ◌⊎◌, inl, inr, ℕ, ◌+◌, ◌<◌, ◌≤◌, Bool, true, false, ◌&&◌, nat_le, nat_lt, if◌then◌else◌, List, [], ◌∷◌, refl, sym, ap, ◌∙◌, subst, arith, ◌^◌}
 use Rattle.std.specs.List.{All, AllByRecursion, sum_by}
 use Rattle.std.specs.List.Sorted.{IsPermutation}
@@ -6,10 +6,29 @@ use Rattle.std.proofs.lemmas.List.Elements.{All-from_recursion, recursion_from_A
 use Rattle.std.proofs.lemmas.List.Sums.{fold-append, sum_by-cons}
 use Rattle.std.proofs.lemmas.List.Sorted.{All-permutation, IsPermutation-sym, sum_by-IsPermutation}
 use Rattle.std.proofs.lemmas.Bool.Decides.{nat_tests}
-use Rattle.gcd_map.specs.declared.state.GcdKind.TheVariants.{NonExistent}
+use Rattle.gcd_map.specs.declared.state.GcdKind.TheVariants.{NonExistent, System}
 use Rattle.gcd_map.specs.{declared.state.SpaceState.SpaceState, declared.hob.HobStretch.HobStretch, declared.range.GcdRange.GcdRange}
-use Rattle.gcd_map.specs.AddressSpace.{MemorySpace, changed, untouched, state_at, add_change, free_of}
-use Rattle.gcd_map.specs.{HobMap.MayCome, HobMap.Comes, HobMap.came, HobMap.Follow, Ranges.Cover, Stretch.AllIn, SpaceMap.MapState, SpaceMap.Shows, Commands.IsAbsent}
+use Rattle.gcd_map.specs.AddressSpace.{MemorySpace, Change, changed, untouched, state_at, with_change, free_of, allocated_of}
+use Rattle.gcd_map.specs.{HobMap.MayCome, HobMap.Comes as ComesOfKind, HobMap.came, HobMap.MayBeTaken, HobMap.taken, HobMap.Follow, Ranges.Cover, Stretch.AllIn, SpaceMap.MapState, SpaceMap.Shows, Commands.IsAbsent, Commands.IsFreeOf}
+use Rattle.gcd_map.specs.declared.state.Effect.TheVariants.{Becomes}
+
+-- what a stretch makes of its addresses
+abbrev turn : (HobStretch → SpaceState) → HobStretch → Change
+turn state s = record { base = s.base; len = s.len; effect = Becomes (state s) }
+
+abbrev turned : (HobStretch → SpaceState) → MemorySpace → HobStretch → MemorySpace
+turned state space s = with_change space (turn state s)
+
+-- a stretch may follow: it has an address, ends in the space, and each of its addresses is as it has to be
+abbrev May : (SpaceState → Type 0) → MemorySpace → HobStretch → Type 0
+May P space s = (0 < s.len) × (s.base + s.len ≤ space.limit) × AllIn (state_at space) s.base (s.base + s.len) P
+
+abbrev Comes : (SpaceState → Type 0) → (HobStretch → Type 0) → MemorySpace → HobStretch → Type 0
+Comes P Used space s = May P space s × Used s
+
+-- no address is as it has to be after a stretch has come
+abbrev Clash : (SpaceState → Type 0) → (HobStretch → Type 0) → (HobStretch → SpaceState) → Type 0
+Clash P Used state = (s : HobStretch) → Used s → P (state s) → ⊥
 
 abbrev holds : ℕ → HobStretch → Bool
 holds a s = nat_le s.base a && nat_lt a (s.base + s.len)
@@ -21,31 +40,31 @@ weight a s = if holds a s then 1 else 0
 weight_at : (a : ℕ) (s : HobStretch) (b : Bool) → holds a s ≡ b → weight a s ≡ (if b then 1 else 0)
 weight_at a s b is = ap (λ b. if b then 1 else 0) is
 
-abbrev pub all_came : MemorySpace → List HobStretch → MemorySpace
-all_came space [] = space
-all_came space (s ∷ rest) = all_came (came space s) rest
+abbrev pub all_came : (HobStretch → SpaceState) → MemorySpace → List HobStretch → MemorySpace
+all_came state space [] = space
+all_came state space (s ∷ rest) = all_came state (turned state space s) rest
 
-came_at : (space : MemorySpace) (s : HobStretch) (a : ℕ) → state_at (came space s) a ≡ (if holds a s then free_of s.kind else state_at space a)
-came_at space s a = ap (λ (f : ℕ → SpaceState). f a) (fold-append changed untouched space.changes (add_change s.kind s.base s.len ∷ []))
+came_at : (state : HobStretch → SpaceState) → (space : MemorySpace) (s : HobStretch) (a : ℕ) → state_at (turned state space s) a ≡ (if holds a s then state s else state_at space a)
+came_at state space s a = ap (λ (f : ℕ → SpaceState). f a) (fold-append changed untouched space.changes (turn state s ∷ []))
 
-came_here : (space : MemorySpace) (s : HobStretch) (a : ℕ) → holds a s ≡ true → state_at (came space s) a ≡ free_of s.kind
-came_here space s a here = came_at space s a ∙ ap (λ b. if b then free_of s.kind else state_at space a) here
+came_here : (state : HobStretch → SpaceState) → (space : MemorySpace) (s : HobStretch) (a : ℕ) → holds a s ≡ true → state_at (turned state space s) a ≡ state s
+came_here state space s a here = came_at state space s a ∙ ap (λ b. if b then state s else state_at space a) here
 
-came_else : (space : MemorySpace) (s : HobStretch) (a : ℕ) → holds a s ≡ false → state_at (came space s) a ≡ state_at space a
-came_else space s a other = came_at space s a ∙ ap (λ b. if b then free_of s.kind else state_at space a) other
+came_else : (state : HobStretch → SpaceState) → (space : MemorySpace) (s : HobStretch) (a : ℕ) → holds a s ≡ false → state_at (turned state space s) a ≡ state_at space a
+came_else state space s a other = came_at state space s a ∙ ap (λ b. if b then state s else state_at space a) other
 
 holds_in : (a : ℕ) (s : HobStretch) → s.base ≤ a → a < s.base + s.len → holds a s ≡ true
 holds_in a s low high = grind (arith, nat_tests, low, high)
 
 -- what is absent when another has come was absent before, and is not in the other
-before_came : (space : MemorySpace) (s : HobStretch) (a : ℕ) (b : Bool) → holds a s ≡ b → s.kind ≢ NonExistent → IsAbsent (state_at (came space s) a) → (b ≡ false) × IsAbsent (state_at space a)
-before_came space s a true is used absent = absurd (used (ap (λ state. state.kind) (sym (came_here space s a is)) ∙ absent))
-before_came space s a false is used absent = (refl, ap (λ state. state.kind) (sym (came_else space s a is)) ∙ absent)
+before_came : (P : SpaceState → Type 0) (Used : HobStretch → Type 0) (state : HobStretch → SpaceState) → Clash P Used state → (space : MemorySpace) (s : HobStretch) (a : ℕ) (b : Bool) → holds a s ≡ b → Used s → P (state_at (turned state space s) a) → (b ≡ false) × P (state_at space a)
+before_came P Used state clash space s a true is used absent = absurd (clash s used (subst P (came_here state space s a is) absent))
+before_came P Used state clash space s a false is used absent = (refl, subst P (came_else state space s a is) absent)
 
-earlier : (space : MemorySpace) (s : HobStretch) → s.kind ≢ NonExistent → (all : List HobStretch) → AllByRecursion (Comes (came space s)) all → AllByRecursion (Comes space) all
-earlier space s used [] each = tt
-earlier space s used (t ∷ all) each =
-    (((each.0.0.0, each.0.0.1, λ a low high. (before_came space s a (holds a s) refl used (each.0.0.2 a low high)).1), each.0.1), earlier space s used all each.1)
+earlier : (P : SpaceState → Type 0) (Used : HobStretch → Type 0) (state : HobStretch → SpaceState) → Clash P Used state → (space : MemorySpace) (s : HobStretch) → Used s → (all : List HobStretch) → AllByRecursion (Comes P Used (turned state space s)) all → AllByRecursion (Comes P Used space) all
+earlier P Used state clash space s used [] each = tt
+earlier P Used state clash space s used (t ∷ all) each =
+    (((each.0.0.0, each.0.0.1, λ a low high. (before_came P Used state clash space s a (holds a s) refl used (each.0.0.2 a low high)).1), each.0.1), earlier P Used state clash space s used all each.1)
 
 and_both : (p q : Bool) → (p && q) ≡ true → (p ≡ true) × (q ≡ true)
 and_both true q both = (refl, both)
@@ -57,36 +76,35 @@ in_holds a s is =
     (grind (arith, nat_tests, both.0), grind (arith, nat_tests, both.1))
 
 -- what may come holds no address of what came
-weighs_none : (space : MemorySpace) (s t : HobStretch) (a : ℕ) (b : Bool) → holds a t ≡ b → s.kind ≢ NonExistent → holds a s ≡ true → Comes (came space s) t → weight a t ≡ 0
-weighs_none space s t a true is used here comes =
+weighs_none : (P : SpaceState → Type 0) (Used : HobStretch → Type 0) (state : HobStretch → SpaceState) → Clash P Used state → (space : MemorySpace) (s t : HobStretch) (a : ℕ) (b : Bool) → holds a t ≡ b → Used s → holds a s ≡ true → Comes P Used (turned state space s) t → weight a t ≡ 0
+weighs_none P Used state clash space s t a true is used here comes =
     let within : (t.base ≤ a) × (a < t.base + t.len) = in_holds a t is in
-    let no : true ≡ false = sym here ∙ (before_came space s a (holds a s) refl used (comes.0.2 a within.0 within.1)).0 in
+    let no : true ≡ false = sym here ∙ (before_came P Used state clash space s a (holds a s) refl used (comes.0.2 a within.0 within.1)).0 in
     absurd (cc)
-weighs_none space s t a false is used here comes = weight_at a t false is
+weighs_none P Used state clash space s t a false is used here comes = weight_at a t false is
 
-none_holds : (space : MemorySpace) (s : HobStretch) (a : ℕ) → s.kind ≢ NonExistent → holds a s ≡ true → (all : List HobStretch) → AllByRecursion (Comes (came space s)) all → sum_by (weight a) all ≡ 0
-none_holds space s a used here [] each = refl
-none_holds space s a used here (t ∷ all) each =
-    omega (arith, sum_by-cons (weight a) t all, weighs_none space s t a (holds a t) refl used here each.0, none_holds space s a used here all each.1)
+none_holds : (P : SpaceState → Type 0) (Used : HobStretch → Type 0) (state : HobStretch → SpaceState) → Clash P Used state → (space : MemorySpace) (s : HobStretch) (a : ℕ) → Used s → holds a s ≡ true → (all : List HobStretch) → AllByRecursion (Comes P Used (turned state space s)) all → sum_by (weight a) all ≡ 0
+none_holds P Used state clash space s a used here [] each = refl
+none_holds P Used state clash space s a used here (t ∷ all) each =
+    omega (arith, sum_by-cons (weight a) t all, weighs_none P Used state clash space s t a (holds a t) refl used here each.0, none_holds P Used state clash space s a used here all each.1)
 
-each_of : (space : MemorySpace) (all : List HobStretch) (end : MemorySpace) → Follow Comes came space all end → AllByRecursion (Comes space) all
-each_of space [] end follow = tt
-each_of space (s ∷ all) end follow = (follow.0, earlier space s follow.0.1 all (each_of (came space s) all end follow.1))
+each_of : (P : SpaceState → Type 0) (Used : HobStretch → Type 0) (state : HobStretch → SpaceState) → Clash P Used state → (space : MemorySpace) (all : List HobStretch) (end : MemorySpace) → Follow (Comes P Used) (turned state) space all end → AllByRecursion (Comes P Used space) all
+each_of P Used state clash space [] end follow = tt
+each_of P Used state clash space (s ∷ all) end follow = (follow.0, earlier P Used state clash space s follow.0.1 all (each_of P Used state clash (turned state space s) all end follow.1))
 
-once_more : (space : MemorySpace) (s : HobStretch) (all : List HobStretch) (a : ℕ) (b : Bool) → holds a s ≡ b → s.kind ≢ NonExistent → AllByRecursion (Comes (came space s)) all
-    → sum_by (weight a) all ≤ 1 → weight a s + sum_by (weight a) all ≤ 1
-once_more space s all a true is used each once = omega (arith, weight_at a s true is, none_holds space s a used is all each)
-once_more space s all a false is used each once = omega (arith, weight_at a s false is, once)
+once_more : (P : SpaceState → Type 0) (Used : HobStretch → Type 0) (state : HobStretch → SpaceState) → Clash P Used state → (space : MemorySpace) (s : HobStretch) (all : List HobStretch) (a : ℕ) (b : Bool) → holds a s ≡ b → Used s → AllByRecursion (Comes P Used (turned state space s)) all → sum_by (weight a) all ≤ 1 → weight a s + sum_by (weight a) all ≤ 1
+once_more P Used state clash space s all a true is used each once = omega (arith, weight_at a s true is, none_holds P Used state clash space s a used is all each)
+once_more P Used state clash space s all a false is used each once = omega (arith, weight_at a s false is, once)
 
-once_of : (space : MemorySpace) (all : List HobStretch) (end : MemorySpace) → Follow Comes came space all end → (a : ℕ) → sum_by (weight a) all ≤ 1
-once_of space [] end follow a = omega arith
-once_of space (s ∷ all) end follow a =
-    let more = once_more space s all a (holds a s) refl follow.0.1 (each_of (came space s) all end follow.1) (once_of (came space s) all end follow.1 a) in
+once_of : (P : SpaceState → Type 0) (Used : HobStretch → Type 0) (state : HobStretch → SpaceState) → Clash P Used state → (space : MemorySpace) (all : List HobStretch) (end : MemorySpace) → Follow (Comes P Used) (turned state) space all end → (a : ℕ) → sum_by (weight a) all ≤ 1
+once_of P Used state clash space [] end follow a = omega arith
+once_of P Used state clash space (s ∷ all) end follow a =
+    let more = once_more P Used state clash space s all a (holds a s) refl follow.0.1 (each_of P Used state clash (turned state space s) all end follow.1) (once_of P Used state clash (turned state space s) all end follow.1 a) in
     omega (arith, sum_by-cons (weight a) s all, more)
 
-follow_end : (space : MemorySpace) (all : List HobStretch) (end : MemorySpace) → Follow Comes came space all end → end ≡ all_came space all
-follow_end space [] end follow = follow
-follow_end space (s ∷ all) end follow = follow_end (came space s) all end follow.1
+follow_end : (P : SpaceState → Type 0) (Used : HobStretch → Type 0) (state : HobStretch → SpaceState) → (space : MemorySpace) (all : List HobStretch) (end : MemorySpace) → Follow (Comes P Used) (turned state) space all end → end ≡ all_came state space all
+follow_end P Used state space [] end follow = follow
+follow_end P Used state space (s ∷ all) end follow = follow_end P Used state (turned state space s) all end follow.1
 
 -- those that may come first, of which no address is in two, may come one after another
 weighs : (a : ℕ) (t : HobStretch) → t.base ≤ a → a < t.base + t.len → weight a t ≡ 1
@@ -96,68 +114,92 @@ not_here : (a : ℕ) (s : HobStretch) (b : Bool) → holds a s ≡ b → weight 
 not_here a s true is none = let no : weight a s ≡ 1 = weight_at a s true is in absurd (omega (arith, no, none))
 not_here a s false is none = is
 
-later : (space : MemorySpace) (s : HobStretch) (all : List HobStretch) → AllByRecursion (Comes space) all → ((a : ℕ) → weight a s + sum_by (weight a) all ≤ 1) → AllByRecursion (Comes (came space s)) all
-later space s [] each once = tt
-later space s (t ∷ all) each once =
+later : (P : SpaceState → Type 0) (Used : HobStretch → Type 0) (state : HobStretch → SpaceState) → (space : MemorySpace) (s : HobStretch) (all : List HobStretch) → AllByRecursion (Comes P Used space) all → ((a : ℕ) → weight a s + sum_by (weight a) all ≤ 1) → AllByRecursion (Comes P Used (turned state space s)) all
+later P Used state space s [] each once = tt
+later P Used state space s (t ∷ all) each once =
     let apart = λ (a : ℕ) (low : t.base ≤ a) (high : a < t.base + t.len).
     let none : weight a s ≡ 0 = omega (arith, once a, sum_by-cons (weight a) t all, weighs a t low high) in not_here a s (holds a s) refl none in (
-      ((each.0.0.0, each.0.0.1, λ a low high. ap (λ state. state.kind) (came_else space s a (apart a low high)) ∙ each.0.0.2 a low high), each.0.1),
-      later space s all each.1 (λ a. omega (arith, once a, sum_by-cons (weight a) t all)),
+      ((each.0.0.0, each.0.0.1, λ a low high. subst P (sym (came_else state space s a (apart a low high))) (each.0.0.2 a low high)), each.0.1),
+      later P Used state space s all each.1 (λ a. omega (arith, once a, sum_by-cons (weight a) t all)),
     )
 
-follow_all : (space : MemorySpace) (all : List HobStretch) → AllByRecursion (Comes space) all → ((a : ℕ) → sum_by (weight a) all ≤ 1) → Follow MayCome came space all (all_came space all)
-follow_all space [] each once = refl
-follow_all space (s ∷ all) each once =
-    (each.0.0, follow_all (came space s) all (later space s all each.1 (λ a. omega (arith, once a, sum_by-cons (weight a) s all))) (λ a. omega (arith, once a, sum_by-cons (weight a) s all)))
+follow_all : (P : SpaceState → Type 0) (Used : HobStretch → Type 0) (state : HobStretch → SpaceState) → (space : MemorySpace) (all : List HobStretch) → AllByRecursion (Comes P Used space) all → ((a : ℕ) → sum_by (weight a) all ≤ 1) → Follow (May P) (turned state) space all (all_came state space all)
+follow_all P Used state space [] each once = refl
+follow_all P Used state space (s ∷ all) each once =
+    (each.0.0, follow_all P Used state (turned state space s) all (later P Used state space s all each.1 (λ a. omega (arith, once a, sum_by-cons (weight a) s all))) (λ a. omega (arith, once a, sum_by-cons (weight a) s all)))
 
 -- the states at the end: those of the stretches, and elsewhere those before
-untold : (space : MemorySpace) (all : List HobStretch) (a : ℕ) → sum_by (weight a) all ≡ 0 → state_at (all_came space all) a ≡ state_at space a
-untold space [] a none = refl
-untold space (s ∷ all) a none =
+untold : (state : HobStretch → SpaceState) → (space : MemorySpace) (all : List HobStretch) (a : ℕ) → sum_by (weight a) all ≡ 0 → state_at (all_came state space all) a ≡ state_at space a
+untold state space [] a none = refl
+untold state space (s ∷ all) a none =
     let first : weight a s ≡ 0 = omega (arith, none, sum_by-cons (weight a) s all) in
-    untold (came space s) all a (omega (arith, none, sum_by-cons (weight a) s all)) ∙ came_else space s a (not_here a s (holds a s) refl first)
+    untold state (turned state space s) all a (omega (arith, none, sum_by-cons (weight a) s all)) ∙ came_else state space s a (not_here a s (holds a s) refl first)
 
-abbrev Shown : MemorySpace → HobStretch → Type 0
-Shown end s = (a : ℕ) → holds a s ≡ true → state_at end a ≡ free_of s.kind
+abbrev Shown : (HobStretch → SpaceState) → MemorySpace → HobStretch → Type 0
+Shown state end s = (a : ℕ) → holds a s ≡ true → state_at end a ≡ state s
 
-told : (space : MemorySpace) (all : List HobStretch) → ((a : ℕ) → sum_by (weight a) all ≤ 1) → AllByRecursion (Shown (all_came space all)) all
-told space [] once = tt
-told space (s ∷ all) once = (
+told : (state : HobStretch → SpaceState) → (space : MemorySpace) (all : List HobStretch) → ((a : ℕ) → sum_by (weight a) all ≤ 1) → AllByRecursion (Shown state (all_came state space all)) all
+told state space [] once = tt
+told state space (s ∷ all) once = (
   (λ a here.
       let one : weight a s ≡ 1 = weight_at a s true here in
-      untold (came space s) all a (omega (arith, once a, one, sum_by-cons (weight a) s all)) ∙ came_here space s a here),
-  told (came space s) all (λ a. omega (arith, once a, sum_by-cons (weight a) s all)),
+      untold state (turned state space s) all a (omega (arith, once a, one, sum_by-cons (weight a) s all)) ∙ came_here state space s a here),
+  told state (turned state space s) all (λ a. omega (arith, once a, sum_by-cons (weight a) s all)),
 )
 
-here_or : (x y : MemorySpace) (s : HobStretch) (all : List HobStretch) (a : ℕ) (b : Bool) → holds a s ≡ b → AllByRecursion (Shown x) (s ∷ all) → AllByRecursion (Shown y) (s ∷ all)
-    → (sum_by (weight a) all ≡ 0) ⊎ (state_at x a ≡ state_at y a) → (sum_by (weight a) (s ∷ all) ≡ 0) ⊎ (state_at x a ≡ state_at y a)
-here_or x y s all a true is one other rest = inr (one.0 a is ∙ sym (other.0 a is))
-here_or x y s all a false is one other (inr same) = inr same
-here_or x y s all a false is one other (inl none) = inl (omega (arith, sum_by-cons (weight a) s all, weight_at a s false is, none))
+here_or : (state : HobStretch → SpaceState) → (x y : MemorySpace) (s : HobStretch) (all : List HobStretch) (a : ℕ) (b : Bool) → holds a s ≡ b → AllByRecursion (Shown state x) (s ∷ all) → AllByRecursion (Shown state y) (s ∷ all) → (sum_by (weight a) all ≡ 0) ⊎ (state_at x a ≡ state_at y a) → (sum_by (weight a) (s ∷ all) ≡ 0) ⊎ (state_at x a ≡ state_at y a)
+here_or state x y s all a true is one other rest = inr (one.0 a is ∙ sym (other.0 a is))
+here_or state x y s all a false is one other (inr same) = inr same
+here_or state x y s all a false is one other (inl none) = inl (omega (arith, sum_by-cons (weight a) s all, weight_at a s false is, none))
 
-none_or_same : (x y : MemorySpace) (all : List HobStretch) (a : ℕ) → AllByRecursion (Shown x) all → AllByRecursion (Shown y) all → (sum_by (weight a) all ≡ 0) ⊎ (state_at x a ≡ state_at y a)
-none_or_same x y [] a one other = inl refl
-none_or_same x y (s ∷ all) a one other = here_or x y s all a (holds a s) refl one other (none_or_same x y all a one.1 other.1)
+none_or_same : (state : HobStretch → SpaceState) → (x y : MemorySpace) (all : List HobStretch) (a : ℕ) → AllByRecursion (Shown state x) all → AllByRecursion (Shown state y) all → (sum_by (weight a) all ≡ 0) ⊎ (state_at x a ≡ state_at y a)
+none_or_same state x y [] a one other = inl refl
+none_or_same state x y (s ∷ all) a one other = here_or state x y s all a (holds a s) refl one other (none_or_same state x y all a one.1 other.1)
 
-same_limit : (space : MemorySpace) (all : List HobStretch) → (all_came space all).limit ≡ space.limit
-same_limit space [] = refl
-same_limit space (s ∷ all) = same_limit (came space s) all
+same_limit : (state : HobStretch → SpaceState) → (space : MemorySpace) (all : List HobStretch) → (all_came state space all).limit ≡ space.limit
+same_limit state space [] = refl
+same_limit state space (s ∷ all) = same_limit state (turned state space s) all
 
-pub any_order : (space end : MemorySpace) (all sorted : List HobStretch) → IsPermutation all sorted → Follow Comes came space sorted end
-    → Follow MayCome came space all (all_came space all) × ((a : ℕ) → state_at end a ≡ state_at (all_came space all) a) × (end.limit ≡ (all_came space all).limit)
-any_order space end all sorted moved follow =
+any_order : (P : SpaceState → Type 0) (Used : HobStretch → Type 0) (state : HobStretch → SpaceState) → Clash P Used state → (space end : MemorySpace) (all sorted : List HobStretch) → IsPermutation all sorted → Follow (Comes P Used) (turned state) space sorted end → Follow (May P) (turned state) space all (all_came state space all) × ((a : ℕ) → state_at end a ≡ state_at (all_came state space all) a) × (end.limit ≡ (all_came state space all).limit)
+any_order P Used state clash space end all sorted moved follow =
     let back = IsPermutation-sym all sorted moved in
-    let once_sorted = once_of space sorted end follow in
-    let each = recursion_from_All (Comes space) all (All-permutation (Comes space) sorted all back (All-from_recursion (Comes space) sorted (each_of space sorted end follow))) in
+    let once_sorted = once_of P Used state clash space sorted end follow in
+    let each = recursion_from_All (Comes P Used space) all (All-permutation (Comes P Used space) sorted all back (All-from_recursion (Comes P Used space) sorted (each_of P Used state clash space sorted end follow))) in
     let once : (a : ℕ) → sum_by (weight a) all ≤ 1 = λ a. omega (arith, sum_by-IsPermutation (weight a) all sorted moved, once_sorted a) in
-    let is = follow_end space sorted end follow in
-    let ends = all_came space sorted in
-    let shown = recursion_from_All (Shown ends) all (All-permutation (Shown ends) sorted all back (All-from_recursion (Shown ends) sorted (told space sorted once_sorted))) in
-    let same : (a : ℕ) → state_at ends a ≡ state_at (all_came space all) a = λ a. elim (none_or_same ends (all_came space all) all a shown (told space all once)) [
-      | inl none ↦ untold space sorted a (sum_by-IsPermutation (weight a) all sorted moved ∙ none) ∙ sym (untold space all a none)
+    let is = follow_end P Used state space sorted end follow in
+    let ends = all_came state space sorted in
+    let shown = recursion_from_All (Shown state ends) all (All-permutation (Shown state ends) sorted all back (All-from_recursion (Shown state ends) sorted (told state space sorted once_sorted))) in
+    let same : (a : ℕ) → state_at ends a ≡ state_at (all_came state space all) a = λ a. elim (none_or_same state ends (all_came state space all) all a shown (told state space all once)) [
+      | inl none ↦ untold state space sorted a (sum_by-IsPermutation (weight a) all sorted moved ∙ none) ∙ sym (untold state space all a none)
       | inr are ↦ are
     ] in
-    (follow_all space all each once, (λ a. ap (λ (e : MemorySpace). state_at e a) is ∙ same a), ap (λ (e : MemorySpace). e.limit) is ∙ same_limit space sorted ∙ sym (same_limit space all))
+    (follow_all P Used state space all each once, (λ a. ap (λ (e : MemorySpace). state_at e a) is ∙ same a), ap (λ (e : MemorySpace). e.limit) is ∙ same_limit state space sorted ∙ sym (same_limit state space all))
+
+abbrev pub came_all : MemorySpace → List HobStretch → MemorySpace
+came_all = all_came (λ s. free_of s.kind)
+
+abbrev pub taken_all : MemorySpace → List HobStretch → MemorySpace
+taken_all = all_came (λ s. allocated_of System)
+
+-- what holds of stretches in another order, and of the space that they leave
+pub record InOrder (May : MemorySpace → HobStretch → Type 0) (next : MemorySpace → HobStretch → MemorySpace) (space : MemorySpace) (all : List HobStretch) (end now : MemorySpace) : Type 0 where
+  pub follow : Follow May next space all now
+  pub states : (a : ℕ) → state_at end a ≡ state_at now a
+  pub limit : end.limit ≡ now.limit
+
+pub resources_in_order : (space end : MemorySpace) (all sorted : List HobStretch) → IsPermutation all sorted → Follow ComesOfKind came space sorted end → InOrder MayCome came space all end (came_all space all)
+resources_in_order space end all sorted moved follow =
+    let any = any_order IsAbsent (λ s. s.kind ≢ NonExistent) (λ s. free_of s.kind) (λ s used absent. used absent) space end all sorted moved follow in
+    record { follow = any.0; states = any.1; limit = any.2 }
+
+with_all : (space : MemorySpace) (all : List HobStretch) (end : MemorySpace) → Follow MayBeTaken taken space all end → Follow (Comes (IsFreeOf System) (λ s. Unit {0})) (turned (λ s. allocated_of System)) space all end
+with_all space [] end follow = follow
+with_all space (s ∷ all) end follow = ((follow.0, tt), with_all (taken space s) all end follow.1)
+
+pub allocations_in_order : (space end : MemorySpace) (all sorted : List HobStretch) → IsPermutation all sorted → Follow MayBeTaken taken space sorted end → InOrder MayBeTaken taken space all end (taken_all space all)
+allocations_in_order space end all sorted moved follow =
+    let any = any_order (IsFreeOf System) (λ s. Unit {0}) (λ s. allocated_of System) (λ s used free. let no : true ≡ false = ap (λ (state : SpaceState). state.allocated) free in absurd (cc)) space end all sorted moved (with_all space sorted end follow) in
+    record { follow = any.0; states = any.1; limit = any.2 }
 
 cover_same : (s t : ℕ → SpaceState) → ((a : ℕ) → s a ≡ t a) → (from : ℕ) (ranges : List GcdRange) (to : ℕ) → Cover s from ranges to → Cover t from ranges to
 cover_same s t same from [] to cover = cover
