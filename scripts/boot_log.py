@@ -88,13 +88,13 @@ class Event(NamedTuple):
 
 
 class Boot:
-    """The events of one boot in their order, which marks they bear, and its last line with its number."""
+    """The events of one boot in their order, and which marks they bear."""
 
     def __init__(self, is_own: bool = False) -> None:
         self.events: list[Event] = []
         self.marks: set[str] = set()
         self.is_own = is_own  # of a text of one's own, and of no log
-        self.last_line: tuple[int, str] = (0, "")
+        self.text, self.end = "", 0  # the log's text, and the place in it where the boot ends
 
     def add(self, event: Event) -> None:
         self.events.append(event)
@@ -125,6 +125,12 @@ class Boot:
         """A whole boot, from its beginning to the end of DXE, is above all others; of these the one that came further."""
         begins = bool({"begin", "boot volume", "core"} & self.marks)
         return begins and self.stage() == 3, self.stage()
+
+    def last_line(self) -> tuple[int, str]:
+        """The last line that says anything, with its number."""
+        last = self.events[-1]
+        shown = self.text[last.at : self.end].rstrip()
+        return last.line + shown.count("\n"), shown.rpartition("\n")[2].strip()[:300]
 
     def span(self) -> str:
         return f"{self.events[0].line} to {self.events[-1].line}"
@@ -198,19 +204,14 @@ def is_own(text: str) -> bool:
 # Its boots
 
 
-def last_line(text: str, begin: Event, end: int) -> tuple[int, str]:
-    """The last line up to a place that says anything, with its number."""
-    last = text.rfind("\n", begin.at, len(text[begin.at : end].rstrip()) + begin.at) + 1
-    return begin.line + text.count("\n", begin.at, max(last, begin.at)), text[last or begin.at : end].strip()[:300]
-
-
 def boots_of(text: str) -> list[Boot]:
     """The boots that a log tells of in which a module started, or that of a text of one's own."""
     if is_own(text):
         boot = Boot(is_own=True)
         for event in own_events(text):
             boot.add(event)
-        return [boot]
+        boot.text, boot.end = text, len(text)
+        return [boot] if boot.events else []
     boots = [Boot()]
     for event in events_of(text):
         if boots[-1].ends_before(event):
@@ -218,7 +219,7 @@ def boots_of(text: str) -> list[Boot]:
         boots[-1].add(event)
     ends = [boot.events[0].at for boot in boots[1:]] + [len(text)]
     for boot, end in zip(boots, ends, strict=True):
-        boot.last_line = last_line(text, boot.events[-1], end) if boot.events else (0, "")
+        boot.text, boot.end = text, end
     return [boot for boot in boots if {"peim", "driver"} & boot.marks]
 
 

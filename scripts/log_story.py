@@ -7,7 +7,7 @@ from collections.abc import Iterable, Iterator
 from typing import Any
 
 from explained import ARCHITECTURAL, CORE, GUID, KNOWN
-from volume_reader import files_at, sections_of
+from volume_reader import files_at, guid_text, sections_of
 from volume_texts import NOT_LOOKED_AT, File, Module, Shipped, Volume
 
 MOST, MOST_LACKS = 10, 3  # of a kind that are told on standard error, and GUIDs of a module; log.json has all
@@ -40,19 +40,25 @@ def asked(module: Module, phase: str) -> list[str]:
 # Whose code has a GUID
 
 
-def codes_in(volume: memoryview) -> Iterator[tuple[str, bytes]]:
-    """The name of each file with machine code in a volume and in those inside it, with the code of a section."""
+def files_in(volume: memoryview) -> Iterator[tuple[int, str, memoryview]]:
+    """The type, the name and the body of each file in a volume and in those inside it that may have machine code."""
     waiting = [volume]
     while waiting:
         volume = waiting.pop()
         for at, front, size in files_at(volume):
-            kind, name = volume[at + 18], str(uuid.UUID(bytes_le=bytes(volume[at : at + 16])))
-            if FIRST_CODE <= kind <= LAST_CODE:
-                for section_kind, section, behind in sections_of(volume[at + front : at + size]):
-                    if section_kind in CODE_SECTIONS:
-                        yield name, bytes(section[behind:])
-                    elif section_kind == VOLUME_SECTION and kind == VOLUME_IMAGE:
-                        waiting.append(section[behind:])
+            kind, body = volume[at + 18], volume[at + front : at + size]
+            if kind == VOLUME_IMAGE:
+                waiting += [section[behind:] for inner, section, behind in sections_of(body) if inner == VOLUME_SECTION]
+            elif FIRST_CODE <= kind <= LAST_CODE:
+                yield kind, guid_text(volume, at), body
+
+
+def codes_in(volume: memoryview) -> Iterator[tuple[str, bytes]]:
+    """The name of each file with machine code in a volume and in those inside it, with the code of a section."""
+    for _, name, body in files_in(volume):
+        for kind, section, behind in sections_of(body):
+            if kind in CODE_SECTIONS:
+                yield name, bytes(section[behind:])
 
 
 def holders(volumes: list[Shipped], guids: Iterable[str]) -> dict[str, list[str]]:
@@ -78,7 +84,7 @@ class Story:
         self.files = {file.name: file for volume in reversed(catalogue) for file in reversed(volume.files)}
         self.file_names: dict[str, str] = {}
         self.given: dict[str, dict[str, Giver]] = {"pei": {}, "dxe": {}}
-        self.failed: list[tuple[int, str, Module | None]] = []
+        self.failed: list[tuple[int, str, str]] = []  # the line, what it says, and what ran then
         self.last: tuple[int, str, Module] | None = None  # the line, the phase and the module of the last start
         self.core_line = 0  # at which the DXE core starts
 
@@ -108,7 +114,11 @@ class Story:
             del self.given[phase][guid]
 
     def fail(self, line: int, text: str) -> None:
-        self.failed.append((line, text, self.last[2] if self.last else None))
+        self.failed.append((line, text, self.running()))
+
+    def running(self) -> str:
+        """What runs now."""
+        return self.shown(self.last[2].name) if self.last else "the DXE core" if self.core_line else "no module"
 
     # In the end
 
@@ -141,7 +151,7 @@ def counted(kinds: Iterable[str]) -> str:
 
 def failure_words(story: Story, last_line: tuple[int, str]) -> list[str]:
     """Why a boot failed, by its log, and which module ran then."""
-    told = [f"line {line}, {'in ' + story.shown(module.name) if module else 'before any module'}: {text}" for line, text, module in story.failed]
+    told = [f"line {line}, in {ran}: {text}" for line, text, ran in story.failed]
     words = [listed("the log says why the boot failed:", told)] if told else []
     words.append(f"the last line of the boot is line {last_line[0]}: {last_line[1]}")
     if not story.last:
@@ -162,7 +172,7 @@ def wait_words(story: Story, waits: dict[str, list[tuple[Module, list[str]]]]) -
 def some(lacks: list[str]) -> str:
     """The first of the GUIDs that a module waits for, by their names."""
     shown = ", ".join(named(guid) for guid in lacks[:MOST_LACKS]) + (f" and {len(lacks) - MOST_LACKS} more" if len(lacks) > MOST_LACKS else "")
-    return shown or "its turn, or for its expression to hold"
+    return shown or "no GUID: its turn had not come, or its expression is false"
 
 
 def holder_words(story: Story, found: dict[str, list[str]]) -> list[str]:
@@ -183,7 +193,7 @@ def as_data(story: Story, boot: dict[str, Any], waits: dict[str, list[tuple[Modu
         ran = {"line": line, "phase": phase, "module": module.name, "name": story.shown(module.name), "needs": needs}
     return {
         "boot": boot,
-        "failed": [{"line": line, "text": text, "module": module.name if module else None} for line, text, module in story.failed],
+        "failed": [{"line": line, "text": text, "ran": ran} for line, text, ran in story.failed],
         "ran": ran,
         "waits": [{"phase": phase, "module": module.name, "name": story.shown(module.name), "lacks": lacks} for phase, each in waits.items() for module, lacks in each],
         "holders": {guid: [{"module": name, "name": story.shown(name)} for name in names] for guid, names in found.items()},
