@@ -181,7 +181,7 @@ def events_of(text: str) -> Iterator[Event]:
 
 
 def own_events(text: str) -> Iterator[Event]:
-    """The events of a text of one's own. An install before the first driver is that of a PPI, and later that of a protocol."""
+    """The events of a text of one's own. An install before the first line `dxe` is that of a PPI, and later that of a protocol."""
     at, kinds = 0, {"pei": "peim", "dxe": "driver", "installed": "ppi"}
     for number, line in enumerate(text.split("\n"), 1):
         said = line.split("#")[0].strip()
