@@ -6,12 +6,13 @@ from collections import Counter
 from collections.abc import Iterable, Iterator
 from typing import Any
 
-from explained import ARCHITECTURAL, CORE, GUID, KNOWN
+from boot_log import MEMORY_PPI
+from explained import CORE, GUID
 from volume_reader import files_at, guid_text, sections_of
-from volume_texts import NOT_LOOKED_AT, File, Module, Shipped, Volume
+from volume_texts import ARCHITECTURAL, NOT_LOOKED_AT, File, Module, Shipped, Volume
 
 MOST, MOST_LACKS = 10, 3  # of a kind that are told on standard error, and GUIDs of a module; log.json has all
-NAMES = KNOWN | ARCHITECTURAL
+NAMES = ARCHITECTURAL | {MEMORY_PPI: "gEfiPeiMemoryDiscoveredPpiGuid"}
 CODE_SECTIONS = (0x10, 0x11, 0x12)  # PE32, PIC, TE
 VOLUME_IMAGE, VOLUME_SECTION, FIRST_CODE, LAST_CODE = 0x0B, 0x17, 0x03, 0x0F  # the types of files with code lie between these
 Giver = Module | str

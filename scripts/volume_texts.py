@@ -17,6 +17,22 @@ NOT_LOOKED_AT = {
     "03": "SEC core", PEI_CORE: "PEI core", DXE_CORE: "DXE core", "09": "application", "0a": "MM driver", "0d": "MM core", "0e": "standalone MM driver",
     "0f": "standalone MM core",
 }
+# The architectural protocols (PI 1.8, volume 2), which a driver without an expression asks for, by EDK2's names.
+ARCHITECTURAL = {
+    "a46423e3-4617-49f1-b9ff-d1bfa9115839": "gEfiSecurityArchProtocolGuid",
+    "26baccb1-6f42-11d4-bce7-0080c73c8881": "gEfiCpuArchProtocolGuid",
+    "26baccb2-6f42-11d4-bce7-0080c73c8881": "gEfiMetronomeArchProtocolGuid",
+    "26baccb3-6f42-11d4-bce7-0080c73c8881": "gEfiTimerArchProtocolGuid",
+    "665e3ff6-46cc-11d4-9a38-0090273fc14d": "gEfiBdsArchProtocolGuid",
+    "665e3ff5-46cc-11d4-9a38-0090273fc14d": "gEfiWatchdogTimerArchProtocolGuid",
+    "b7dfb4e1-052f-449f-87be-9818fc91b733": "gEfiRuntimeArchProtocolGuid",
+    "1e5668e2-8481-11d4-bcf1-0080c73c8881": "gEfiVariableArchProtocolGuid",
+    "6441f818-6362-4e44-b570-7dba31dd2453": "gEfiVariableWriteArchProtocolGuid",
+    "5053697e-2cbc-4819-90d9-0580deee5754": "gEfiCapsuleArchProtocolGuid",
+    "1da97072-bddc-4b30-99f1-72a0b56fff2a": "gEfiMonotonicCounterArchProtocolGuid",
+    "27cfac88-46cc-11d4-9a38-0090273fc14d": "gEfiResetArchProtocolGuid",
+    "27cfac87-46cc-11d4-9a38-0090273fc14d": "gEfiRealTimeClockArchProtocolGuid",
+}
 USER_INTERFACE, VOLUME = ["section", "15"], ["section", "17"]
 EXPRESSIONS = [["section", "13"], ["section", "1b"]]  # those that have no text: malformed ones, and with bytes behind their end
 
