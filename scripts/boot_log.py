@@ -9,7 +9,7 @@ from collections.abc import Iterator
 from typing import NamedTuple
 
 MOST_BYTES = 64 << 20
-MOST_SPANS = 8  # boots whose lines are told
+MOST_EVENTS, MOST_SPANS = 2_000_000, 8  # starts, installs and the like; boots whose lines are told
 GUID = r"([0-9A-F]{8}(?:-[0-9A-F]{4}){3}-[0-9A-F]{12})"
 HEX = r"0x([0-9A-F]{1,16})"
 WORD = r"(?<![A-Z])"  # what follows is no end of a longer word: an SMM core writes SmmInstallProtocolInterface
@@ -37,11 +37,12 @@ FORMS = {
     "spoiled": rf"{WORD}(?:Loading (?:PEIM|driver)(?! at )|Install PPI:|InstallProtocolInterface:(?! input handle))",
 }
 FORM = re.compile("|".join(f"(?P<{kind}>{form})" for kind, form in FORMS.items()), re.IGNORECASE)
-# What the forms begin with: a form is looked for where one of these words stands.
+# What the forms begin with: a form is looked for where one of these words stands; that of a volume has its number before it.
+VOLUME_TOLD, MOST_DIGITS = "th fv start address is ", 13
 BEGINNINGS = [
     "seccorestartup", "uefi firmware (", "resetsystem", "loading peim", "loading driver", "driver ", "install ppi:", "installprotocolinterface:", "fv hob",
     "peiinstallpeimemory", "temp stack", "temp heap", "temporaryrammigration(", "enter s3 peim", "[bds]", "assert", "!!!! ", "synchronous exception",
-    *(f"the {digit}" for digit in range(10)),
+    VOLUME_TOLD,
 ]
 # Of a terminal's codes those for colours stand inside a word, and the others between two.
 COLOUR = re.compile(rb"\x1b\[[0-9;:]*m")
@@ -172,6 +173,7 @@ def events_of(text: str) -> Iterator[Event]:
     small = text.lower()
     line, counted, end = 1, 0, 0
     for at in heapq.merge(*(places(small, word) for word in BEGINNINGS)):
+        at = small.rfind("the ", max(at - MOST_DIGITS, 0), at) if small.startswith(VOLUME_TOLD, at) else at
         found = FORM.match(text, at) if at >= end else None
         if found is None:
             continue
@@ -213,7 +215,9 @@ def boots_of(text: str) -> list[Boot]:
         boot.text, boot.end = text, len(text)
         return [boot] if boot.events else []
     boots = [Boot()]
-    for event in events_of(text):
+    for number, event in enumerate(events_of(text)):
+        if number == MOST_EVENTS:
+            raise ValueError(f"the log has more than {MOST_EVENTS:,} starts and installs")
         if boots[-1].ends_before(event):
             boots.append(Boot())
         boots[-1].add(event)

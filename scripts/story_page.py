@@ -58,7 +58,7 @@ def with_story(page: str, story: Story, kinds: list[str], names: dict[str, str])
     found = NEVER.search(page)
     if not parts or found is None:
         return page
-    text = f'<h2 id="log">What else there is</h2>{"".join(parts)}'
+    text = f'<h2 id="log">{"What the log says besides" if story else "What is not looked at"}</h2>{"".join(parts)}'
     return page[: found.start()] + text + page[found.start() :]
 
 
@@ -75,8 +75,11 @@ def log_parts(story: Story, names: dict[str, str]) -> list[str]:
             needs = ", ".join(f"{named(need['guid'])} of {escape(shown(need['giver'], names))}" for need in ran["needs"]) or "nothing"
             parts.append(f"<p>{escape(ran['name'])} ran then, in {ran['phase'].upper()}, from line {ran['line']} on; it had waited for {needs}.</p>")
     for guid, holders in story["holders"].items():
-        code = ", ".join(escape(each["name"]) for each in holders) or "no module's"
-        parts.append(f"<p>No module of the log installs {named(guid)}. Its bytes are in this code: {code}.</p>")
+        if holders:
+            parts.append(f"<p>No module of the log installs {named(guid)}. Its bytes are in this code: {', '.join(escape(each['name']) for each in holders)}.</p>")
+    unheld = [named(guid) for guid, holders in story["holders"].items() if not holders]
+    if unheld:
+        parts.append(f"<p>No module of the log installs these, and no code of the volumes has their bytes: {', '.join(unheld)}.</p>")
     for phase in PHASES:
         if story["core"][phase]:
             parts.append(f"<p>The {phase.upper()} core installed itself: {', '.join(named(guid) for guid in story['core'][phase])}.</p>")
