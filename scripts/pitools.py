@@ -20,9 +20,10 @@ def path(program: str = "pitools") -> str:
     return os.path.abspath(shutil.which(given) or shutil.which(program) or given)
 
 
-def answer(*words: str, folder: str | None = None, program: str = "pitools") -> tuple[int, bytes]:
-    """The exit status for the words of a command line, and what is printed."""
-    ran = subprocess.run([path(program), *words], cwd=folder, stdout=subprocess.PIPE, check=False)
+def answer(*words: str, folder: str | None = None, program: str = "pitools", is_quiet: bool = False) -> tuple[int, bytes]:
+    """The exit status for the words of a command line, and what is printed; a quiet program says nothing on standard error."""
+    environment = os.environ | {"PIBOOT_WORDS": ""} if is_quiet else None
+    ran = subprocess.run([path(program), *words], cwd=folder, env=environment, stdout=subprocess.PIPE, check=False)
     return ran.returncode, ran.stdout
 
 
