@@ -27,11 +27,10 @@ def answer(*words: str, folder: str | None = None, program: str = "pitools", is_
     return ran.returncode, ran.stdout
 
 
-def version(program: str) -> list[str]:
-    """What a program says of its version; of a checkout the commit too."""
-    ran = subprocess.run([path(program), "--version"], capture_output=True, check=False)
-    lines = ran.stderr.decode(errors="replace").splitlines()
-    if not os.path.exists(FINDER) or not shutil.which("git"):
-        return lines[:3]
-    commit = subprocess.run(["git", "-C", SCRIPTS, "describe", "--always", "--dirty", "--abbrev=12"], capture_output=True, text=True, check=False)
-    return [*lines[:1], f"checkout at {commit.stdout.strip()}"] if commit.returncode == 0 else lines[:3]
+def version() -> list[str]:
+    """Which programs these are: the commit of the checkout, or what the installed one says of its version, commit and kit."""
+    if os.path.exists(FINDER):
+        commit = subprocess.run(["git", "-C", SCRIPTS, "describe", "--always", "--dirty", "--abbrev=12"], capture_output=True, text=True, check=False)
+        return [f"piboot, of a checkout at {commit.stdout.strip() or 'no commit'}"]
+    ran = subprocess.run([path("piboot"), "--version"], capture_output=True, check=False)
+    return ran.stderr.decode(errors="replace").splitlines()[:3]
