@@ -20,6 +20,7 @@ UNNAMED = "-"
 LOADING = re.compile(r"Loading (?:PEIM|driver) (" + GUID.pattern + ")", re.IGNORECASE)
 IMAGE = re.compile(r"EntryPoint=\S+ (\w+)\.efi", re.IGNORECASE)
 PAIR = re.compile(r"(?:guid )?(\S+)\s+\{?(" + GUID.pattern + r")\}?", re.IGNORECASE)
+KEYWORDS = {"guids", "name", "pei", "dxe", "installed"}  # that begin lines with a GUID in other texts, and are no names
 MODULE = re.compile(r"module \d+ \d+ (" + GUID.pattern + r") \S+ (\S+)")
 FILE = re.compile(r"\s*file \S+ \{?(" + GUID.pattern + r")\}?", re.IGNORECASE)
 INTERFACE = re.compile(r"\s*(?:section 15 ([0-9a-f]+)|ui (\S+))", re.IGNORECASE)
@@ -72,7 +73,7 @@ def pair_of(line: str) -> tuple[str, str] | None:
     if value and (guid := dec_guid(value)) is not None:
         return guid, name.strip()
     match = PAIR.fullmatch(line)
-    return (match[2].lower(), match[1]) if match else None
+    return (match[2].lower(), match[1]) if match and match[1] not in KEYWORDS else None
 
 
 def dec_guid(value: str) -> str | None:

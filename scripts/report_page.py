@@ -127,7 +127,8 @@ def users(links: list[str]) -> str:
     return ", ".join(links[:MOST_USERS]) + more
 
 
-PARTS = [("never", "never started"), ("starts", "starts"), ("memory", "memory"), ("each", "each start"), ("modules", "modules"), ("guids", "GUIDs"), ("trace", "trace")]
+# The parts of the page, in their order, and how the list of contents names them.
+PARTS = {"never": "never started", "starts": "starts", "memory": "memory", "each": "each start", "modules": "modules", "guids": "GUIDs", "trace": "trace"}
 
 
 @dataclass
@@ -169,7 +170,7 @@ class Page:
     # The first screen
 
     def contents(self) -> str:
-        links = " ".join(link(title, identity) for identity, title in PARTS)
+        links = " ".join(link(title, identity) for identity, title in PARTS.items())
         search = '<input id="filter" type="search" placeholder="filter by module, GUID or name" aria-label="filter"><span id="found"></span>'
         return f'<nav>{links}{search}</nav>'
 
@@ -247,7 +248,7 @@ class Page:
 
     def would(self, wait: Wait, module: Module) -> str:
         if wait.would or wait.unless:
-            ways = [f"{word} {' and '.join(self.names.html(guid) for guid in guids)}" for word, guids in (("with", wait.would), ("without", wait.unless)) if guids]
+            ways = [f"{word} {' and '.join(map(self.names.html, guids))}" for word, guids in (("with", wait.would), ("without", wait.unless)) if guids]
             return f"<p>It would start {', '.join(ways)}.</p>"
         if wait.would is not None and self.has_expression(wait, module):
             return "<p>The expression holds as it is.</p>"
@@ -256,7 +257,8 @@ class Page:
     # Who started
 
     def picture(self, picture: Picture) -> str:
-        note = "An arc leads from the module that had a GUID to the module that asked for it. \N{LEFTWARDS ARROW} names these modules too; \N{BLACK DIAMOND} notifications that ran."
+        note = "An arc leads from the module that had a GUID to the module that asked for it. "
+        note += "\N{LEFTWARDS ARROW} names these modules too; \N{BLACK DIAMOND} notifications that ran."
         if self.boot.waits:
             note += " Dashed: never started."
         narrow = Picture(self.boot, self.names.short, NARROW)
