@@ -229,7 +229,8 @@ class Picture:
 
     def start_name(self, start: Start) -> Lines:
         beside = f" {self.boot.label(start.beside)}" if start.beside is not None else ""
-        return self.wrap(0, f"{start.place} {self.boot.label(start.module)}", "name") + self.wrap(0, f"{start.why}{beside} \N{MIDDLE DOT} module {start.module}")
+        name = self.wrap(0, f"{start.place} {self.boot.label(start.module)}", "name")
+        return name + self.wrap(0, f"{start.why}{beside} \N{MIDDLE DOT} module {start.module}")
 
     def start_needs(self, start: Start) -> Lines:
         makers = dict.fromkeys(maker for _, maker in self.shown_needs(start) if maker != NOBODY)

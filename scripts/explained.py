@@ -74,14 +74,16 @@ class Start:
 
 @dataclass
 class Wait:
-    """A part that never started. A GUID that it lacks comes with each module that may install it and whether that one started."""
+    """A part that never started. A GUID that is missing comes with each module that may install it, and a word on why that one did not."""
     module: int
     phase: str
     reason: str
-    lacks: list[tuple[str, list[tuple[str, bool]]]] = field(default_factory=list)
+    detail: list[str] = field(default_factory=list)  # the words after the reason
+    lacks: list[tuple[str, list[tuple[str, str]]]] = field(default_factory=list)
     more: list[str] = field(default_factory=list)  # the GUIDs of those that yet others may install
     has: list[tuple[str, str]] = field(default_factory=list)
     would: list[str] | None = None
+    unless: list[str] = field(default_factory=list)
 
 
 @dataclass
@@ -243,19 +245,27 @@ def read_total(boot: Boot, word: str, words: list[str]) -> None:
 
 def read_wait(boot: Boot, word: str, words: list[str]) -> None:
     if word == "waits":
-        boot.waits.append(Wait(int(words[0]), words[1], words[2]))
+        boot.waits.append(Wait(int(words[0]), words[1], words[2], words[3:]))
     elif word == "lacks":
-        pairs = words[2:] if words[2] != NOBODY else []
-        if pairs[-1:] == ["more"]:
+        if words[-1] == "more":
             boot.waits[-1].more.append(words[1])
-            pairs.pop()
-        boot.waits[-1].lacks.append((words[1], [(giver, state == "started") for giver, state in zip(pairs[::2], pairs[1::2], strict=True)]))
+        boot.waits[-1].lacks.append((words[1], list(givers_of(words[2:]))))
     elif word == "has":
         boot.waits[-1].has.append((words[1], words[2]))
     elif word == "would":
         boot.waits[-1].would = [guid for guid in words[1:] if guid != NOBODY]
+    elif word == "unless":
+        boot.waits[-1].unless = words[1:]
     else:
         raise ValueError(word)
+
+
+def givers_of(words: list[str]) -> Iterator[tuple[str, str]]:
+    """Each module that may install a GUID, with what is said of it: one word, or two where the first asks for another."""
+    rest = iter([word for word in words if word not in (NOBODY, "more")])
+    for giver in rest:
+        state = next(rest)
+        yield giver, f"{state} {next(rest)}" if state in ("gone", "failed") else state
 
 
 # The trace

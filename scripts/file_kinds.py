@@ -1,8 +1,8 @@
-"""Tells a file by its content, for who hands in another one than is asked for. `report`, `look` and `name` use it."""
+"""Tells a file by its content, for who hands in another one than is asked for. `report`, `look` and `log-to-trace` use it."""
 import re
 
+from guid_names import volumes_in_image
 from speaking import command
-from volume_reader import SIGNATURE
 
 READ = 1 << 20  # bytes that are looked at
 PLAN, TRACE, LOG, IMAGE, VOLUME_TEXT = "a plan", "a trace", "a log", "a firmware image", "the text of a volume"
@@ -28,7 +28,7 @@ def kind_of(content: bytes) -> str:
     """What a file is, as far as its first bytes show; empty where they do not."""
     if not content:
         return "an empty file"
-    if SIGNATURE in content:
+    if next(volumes_in_image(content), None) is not None:
         return IMAGE
     if content.startswith(b"\x01\x00\x38\x00"):
         return "a HOB list"

@@ -8,17 +8,19 @@ import os
 import re
 from collections.abc import Iterator
 
-from volume_reader import SIGNATURE, SIGNATURE_AT, files_at, guid_text, header_length, little, sections_of
+from volume_reader import SIGNATURE_AT, files_at, guid_text, header_length, little, sections_of
 
 GUID = re.compile(r"[0-9a-f]{8}(?:-[0-9a-f]{4}){3}-[0-9a-f]{12}", re.IGNORECASE)
 ESCAPED = re.compile(r"\\u([0-9a-f]{4})")
 EDK2 = os.path.join(os.path.dirname(os.path.realpath(__file__)), "edk2.names")
+VOLUME_SIGNATURE = b"_FVH"
 USER_INTERFACE = 0x15  # the type of a section that has a module's name
 UNNAMED = "-"
 
 LOADING = re.compile(r"Loading (?:PEIM|driver) (" + GUID.pattern + ")", re.IGNORECASE)
 IMAGE = re.compile(r"EntryPoint=\S+ (\w+)\.efi", re.IGNORECASE)
 PAIR = re.compile(r"(?:guid )?(\S+)\s+\{?(" + GUID.pattern + r")\}?", re.IGNORECASE)
+KEYWORDS = {"guids", "name", "pei", "dxe", "installed"}  # that begin lines with a GUID in other texts, and are no names
 MODULE = re.compile(r"module \d+ \d+ (" + GUID.pattern + r") \S+ (\S+)")
 FILE = re.compile(r"\s*file \S+ \{?(" + GUID.pattern + r")\}?", re.IGNORECASE)
 INTERFACE = re.compile(r"\s*(?:section 15 ([0-9a-f]+)|ui (\S+))", re.IGNORECASE)
@@ -37,7 +39,7 @@ def names_in_file(path: str) -> dict[str, str]:
     """The names in a file; of a plan, those in its volumes."""
     with open(path, "rb") as file:
         content = file.read()
-    if content.find(SIGNATURE) >= 0:
+    if VOLUME_SIGNATURE in content:
         return names_in_image(content)
     text = content.decode("utf-8", "replace")
     if PLAN.search(text) is None:
@@ -71,7 +73,7 @@ def pair_of(line: str) -> tuple[str, str] | None:
     if value and (guid := dec_guid(value)) is not None:
         return guid, name.strip()
     match = PAIR.fullmatch(line)
-    return (match[2].lower(), match[1]) if match else None
+    return (match[2].lower(), match[1]) if match and match[1] not in KEYWORDS else None
 
 
 def dec_guid(value: str) -> str | None:
@@ -106,12 +108,12 @@ def names_in_image(image: bytes) -> dict[str, str]:
 
 def volumes_in_image(image: bytes) -> Iterator[bytes]:
     """Each volume of an image, those inside others too."""
-    at = image.find(SIGNATURE)
+    at = image.find(VOLUME_SIGNATURE)
     while at >= 0:
         start = at - SIGNATURE_AT
         if header_length(image, start):
             yield image[start : start + little(image, start + 32, 8)]
-        at = image.find(SIGNATURE, at + 1)
+        at = image.find(VOLUME_SIGNATURE, at + 1)
 
 
 def interfaces_of(volume: bytes) -> Iterator[tuple[str, bytes]]:

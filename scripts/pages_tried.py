@@ -9,7 +9,7 @@ ROOT = os.path.dirname(os.path.dirname(os.path.abspath(__file__)))
 PROGRAMS = [os.path.join(ROOT, "crates", name, "out", name) for name in ("piboot", "pitools")]
 # A folder of examples/, and the words of `report`: ten modules of which three wait, eight drivers, 279 modules, every service, two of real
 # firmware, one as its log tells of it and one in the machine's own order.
-BOOTS = [("why", "plan --names names"), ("drivers", "plan"), ("large-boot", "plan"), ("every-service", "plan"),
+BOOTS = [("why", "plan"), ("drivers", "plan"), ("large-boot", "plan"), ("every-service", "plan"),
          ("real/plain", "plan trace --names log --title 'A boot of OVMF in QEMU, as its log records it'"), ("real/arm", "plan --names log")]
 
 

@@ -20,17 +20,17 @@ def path(program: str = "pitools") -> str:
     return os.path.abspath(shutil.which(given) or shutil.which(program) or given)
 
 
-def answer(*words: str, folder: str | None = None, program: str = "pitools") -> tuple[int, bytes]:
-    """The exit status for the words of a command line, and what is printed."""
-    ran = subprocess.run([path(program), *words], cwd=folder, stdout=subprocess.PIPE, check=False)
+def answer(*words: str, folder: str | None = None, program: str = "pitools", is_quiet: bool = False) -> tuple[int, bytes]:
+    """The exit status for the words of a command line, and what is printed; a quiet program says nothing on standard error."""
+    environment = os.environ | {"PIBOOT_WORDS": ""} if is_quiet else None
+    ran = subprocess.run([path(program), *words], cwd=folder, env=environment, stdout=subprocess.PIPE, check=False)
     return ran.returncode, ran.stdout
 
 
-def version(program: str) -> list[str]:
-    """What a program says of its version; of a checkout the commit too."""
-    ran = subprocess.run([path(program), "--version"], capture_output=True, check=False)
-    lines = ran.stderr.decode(errors="replace").splitlines()
-    if not os.path.exists(FINDER) or not shutil.which("git"):
-        return lines[:3]
-    commit = subprocess.run(["git", "-C", SCRIPTS, "describe", "--always", "--dirty", "--abbrev=12"], capture_output=True, text=True, check=False)
-    return [*lines[:1], f"checkout at {commit.stdout.strip()}"] if commit.returncode == 0 else lines[:3]
+def version() -> list[str]:
+    """Which programs these are: the commit of the checkout, or what the installed one says of its version, commit and kit."""
+    if os.path.exists(FINDER):
+        commit = subprocess.run(["git", "-C", SCRIPTS, "describe", "--always", "--dirty", "--abbrev=12"], capture_output=True, text=True, check=False)
+        return [f"piboot, of a checkout at {commit.stdout.strip() or 'no commit'}"]
+    ran = subprocess.run([path("piboot"), "--version"], capture_output=True, check=False)
+    return ran.stderr.decode(errors="replace").splitlines()[:3]

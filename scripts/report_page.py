@@ -127,7 +127,8 @@ def users(links: list[str]) -> str:
     return ", ".join(links[:MOST_USERS]) + more
 
 
-PARTS = [("never", "never started"), ("starts", "starts"), ("memory", "memory"), ("each", "each start"), ("modules", "modules"), ("guids", "GUIDs"), ("trace", "trace")]
+# The parts of the page, in their order, and how the list of contents names them.
+PARTS = {"never": "never started", "starts": "starts", "memory": "memory", "each": "each start", "modules": "modules", "guids": "GUIDs", "trace": "trace"}
 
 
 @dataclass
@@ -169,7 +170,7 @@ class Page:
     # The first screen
 
     def contents(self) -> str:
-        links = " ".join(link(title, identity) for identity, title in PARTS)
+        links = " ".join(link(title, identity) for identity, title in PARTS.items())
         search = '<input id="filter" type="search" placeholder="filter by module, GUID or name" aria-label="filter"><span id="found"></span>'
         return f'<nav>{links}{search}</nav>'
 
@@ -225,23 +226,30 @@ class Page:
         named = self.by_guid.get(found[0])
         return f"It names {self.module(named.number)}." if named else f"No volume has the driver {self.names.full(found[0])}."
 
-    def givers(self, wait: Wait, guid: str, givers: list[tuple[str, bool]]) -> str:
+    def givers(self, wait: Wait, guid: str, givers: list[tuple[str, str]]) -> str:
         if not givers:
             return "no module's script installs it"
-        told = [self.giver(wait, giver, did) for giver, did in givers]
+        told = [self.giver(wait, giver, *state.split(" ")) for giver, state in givers]
         return "; ".join(told) + ("; and others" if guid in wait.more else "")
 
-    def giver(self, wait: Wait, giver: str, did: bool) -> str:
-        if giver == CORE:
+    def giver(self, wait: Wait, giver: str, state: str, more: str = "") -> str:
+        """A module that may install what is missing, and why it has not."""
+        if giver == CORE and state == "waits":
             return "the core installs it when memory has moved"
-        says = "started without installing it, or uninstalled it" if did else "waits itself"
-        if not did and (giver, wait.phase) in self.waiting:
+        if state == "gone":
+            return f"{self.module(giver)} installed it, and {self.module(more)} uninstalled it"
+        says = {
+            "started": "started without installing it, or uninstalled it", "waits": "waits itself", "any": "may install any GUID",
+            "failed": f"its call got {escape(more)}",
+        }.get(state, escape(state))
+        if state == "waits" and (giver, wait.phase) in self.waiting:
             says = link(says, f"waits{giver}{wait.phase}")
         return f"{self.module(giver)} may install it, and {says}"
 
     def would(self, wait: Wait, module: Module) -> str:
-        if wait.would:
-            return f"<p>It would start with {' and '.join(self.names.html(guid) for guid in wait.would)}.</p>"
+        if wait.would or wait.unless:
+            ways = [f"{word} {' and '.join(map(self.names.html, guids))}" for word, guids in (("with", wait.would), ("without", wait.unless)) if guids]
+            return f"<p>It would start {', '.join(ways)}.</p>"
         if wait.would is not None and self.has_expression(wait, module):
             return "<p>The expression holds as it is.</p>"
         return "<p>No GUID that is installed would make it hold: one must be uninstalled.</p>" if wait.would is None and wait.reason == "false" else ""
@@ -249,7 +257,8 @@ class Page:
     # Who started
 
     def picture(self, picture: Picture) -> str:
-        note = "An arc leads from the module that had a GUID to the module that asked for it. \N{LEFTWARDS ARROW} names these modules too; \N{BLACK DIAMOND} notifications that ran."
+        note = "An arc leads from the module that had a GUID to the module that asked for it. "
+        note += "\N{LEFTWARDS ARROW} names these modules too; \N{BLACK DIAMOND} notifications that ran."
         if self.boot.waits:
             note += " Dashed: never started."
         narrow = Picture(self.boot, self.names.short, NARROW)

@@ -6,6 +6,8 @@ import sys
 import time
 from collections.abc import Callable
 
+import pitools
+
 
 def name() -> str:
     """The script's name, as its messages begin."""
@@ -14,14 +16,23 @@ def name() -> str:
 
 def command(script: str) -> str:
     """What a person writes to run another script: its path in a checkout, or the command that is installed."""
-    here = os.path.dirname(os.path.realpath(__file__))
-    return f"scripts/{script}" if os.path.exists(os.path.join(here, "program")) else f"piboot-{script}"
+    return f"scripts/{script}" if os.path.exists(pitools.FINDER) else f"piboot-{script}"
+
+
+class Version(argparse.Action):
+    """Prints which programs the script uses, and ends it."""
+
+    def __call__(self, reader: argparse.ArgumentParser, *_: object) -> None:
+        print("\n".join(pitools.version()))
+        reader.exit()
 
 
 def parser(doc: str | None) -> argparse.ArgumentParser:
     """A reader of a command line whose help is a script's first comment, with the names that a person writes here."""
     text = re.sub(r"scripts/([a-z-]+)", lambda match: command(match[1]), doc or "")
-    return argparse.ArgumentParser(description=text, formatter_class=argparse.RawDescriptionHelpFormatter)
+    reader = argparse.ArgumentParser(description=text, formatter_class=argparse.RawDescriptionHelpFormatter)
+    reader.add_argument("--version", action=Version, nargs=0, help="print the version, the commit and the kit")
+    return reader
 
 
 def note(text: str) -> None:

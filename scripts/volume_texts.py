@@ -12,6 +12,27 @@ A_PRIORI = ("1b45cc0a-156a-428a-af62-49864da0e6e6", "fc510ee7-ffdc-11d4-bd41-008
 # The types of files as a text has them, and the phases for which they have a part.
 PHASES = {"peim": ["pei"], "driver": ["dxe"], "combined": ["pei", "dxe"], "mm-dxe": ["dxe"]}
 FREEFORM, PEI_CORE, DXE_CORE, VOLUME_IMAGE = "freeform", "04", "05", "volume-image"
+# Modules without a part for PEI or DXE, by the types of their files (PI 1.8, volume 3, "EFI_FV_FILETYPE").
+NOT_LOOKED_AT = {
+    "03": "SEC core", PEI_CORE: "PEI core", DXE_CORE: "DXE core", "09": "application", "0a": "MM driver", "0d": "MM core", "0e": "standalone MM driver",
+    "0f": "standalone MM core",
+}
+# The architectural protocols (PI 1.8, volume 2), which a driver without an expression asks for, by EDK2's names.
+ARCHITECTURAL = {
+    "a46423e3-4617-49f1-b9ff-d1bfa9115839": "gEfiSecurityArchProtocolGuid",
+    "26baccb1-6f42-11d4-bce7-0080c73c8881": "gEfiCpuArchProtocolGuid",
+    "26baccb2-6f42-11d4-bce7-0080c73c8881": "gEfiMetronomeArchProtocolGuid",
+    "26baccb3-6f42-11d4-bce7-0080c73c8881": "gEfiTimerArchProtocolGuid",
+    "665e3ff6-46cc-11d4-9a38-0090273fc14d": "gEfiBdsArchProtocolGuid",
+    "665e3ff5-46cc-11d4-9a38-0090273fc14d": "gEfiWatchdogTimerArchProtocolGuid",
+    "b7dfb4e1-052f-449f-87be-9818fc91b733": "gEfiRuntimeArchProtocolGuid",
+    "1e5668e2-8481-11d4-bcf1-0080c73c8881": "gEfiVariableArchProtocolGuid",
+    "6441f818-6362-4e44-b570-7dba31dd2453": "gEfiVariableWriteArchProtocolGuid",
+    "5053697e-2cbc-4819-90d9-0580deee5754": "gEfiCapsuleArchProtocolGuid",
+    "1da97072-bddc-4b30-99f1-72a0b56fff2a": "gEfiMonotonicCounterArchProtocolGuid",
+    "27cfac88-46cc-11d4-9a38-0090273fc14d": "gEfiResetArchProtocolGuid",
+    "27cfac87-46cc-11d4-9a38-0090273fc14d": "gEfiRealTimeClockArchProtocolGuid",
+}
 USER_INTERFACE, VOLUME = ["section", "15"], ["section", "17"]
 EXPRESSIONS = [["section", "13"], ["section", "1b"]]  # those that have no text: malformed ones, and with bytes behind their end
 
@@ -24,7 +45,12 @@ class File:
         _, self.kind, self.name, *_ = line.split()
         self.body: list[str] = []
         self.nested: list[Volume] = []
+        self.titles: list[list[str]] = []  # the lines of its name for a person
         self.fault = ""
+
+    def __str__(self) -> str:
+        shown = bytes.fromhex("".join(self.titles[0][2:])).decode("utf-16-le", "replace").rstrip("\0") if self.titles else ""
+        return f"{self.name} {shown if shown.isprintable() else ''}".rstrip()
 
     def is_list(self) -> bool:
         """Whether it is an a priori list."""
@@ -38,6 +64,8 @@ class File:
         """Reads a line of its body."""
         if self.counts(words):
             self.body.append(" ".join(words))
+        elif words[:2] == USER_INTERFACE:
+            self.titles.append(words)
         if words[0] == "body" and (self.kind in PHASES or self.kind == VOLUME_IMAGE or self.is_list()):
             self.fault = "is packed, or has no sections: `scripts/cut-volumes` unpacks volumes"
         elif self.kind == VOLUME_IMAGE and words[:2] == VOLUME:
@@ -53,20 +81,10 @@ class Module(File):
     def __init__(self, volume: "Volume", line: str) -> None:
         super().__init__(volume, line)
         self.scripts: dict[str, list[list[str]]] = {"pei": [], "dxe": []}  # for each start its actions
-        self.titles: list[list[str]] = []  # the lines of its name for a person
-
-    def __str__(self) -> str:
-        shown = bytes.fromhex("".join(self.titles[0][2:])).decode("utf-16-le", "replace").rstrip("\0") if self.titles else ""
-        return f"{self.name} {shown if shown.isprintable() else ''}".rstrip()
 
     def counts(self, words: list[str]) -> bool:
         """Kept are its expressions."""
         return words[0] == "depex" or words[:2] in EXPRESSIONS
-
-    def read(self, words: list[str]) -> None:
-        super().read(words)
-        if words[:2] == USER_INTERFACE:
-            self.titles.append(words)
 
     def has_part(self, phase: str) -> bool:
         return phase in PHASES[self.kind]
