@@ -39,7 +39,7 @@ class Shape:
         return self.columns[min(cell, len(self.columns) - 1)]
 
 
-# On a wide screen a box has three columns: who starts and why, what it waited for, what it installs. On a phone and on paper it has one.
+# On a wide screen a box has three columns: who starts and why, what it waited for, what it installs. On a phone and in print it has one.
 WIDE = Shape("wide", 80, 1000, ((12, 290), (312, 240), (562, 430)), 1 << 30)
 NARROW = Shape("narrow", 44, 276, ((12, 258),), BAND)
 
