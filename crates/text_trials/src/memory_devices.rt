@@ -22,27 +22,29 @@ fn put<S: Sink>(sink: &mut S, piece: &[u8]) -> Result<(), SinkFault> {
     sink.put(piece)
 }
 
-// Pieces in order, the answer to each, and the text behind it: room for six bytes, and the second call fails.
-static PUTS: [(&[u8], Result<(), SinkFault>, &[u8]); 6] = [
-    (b"abc", Ok(()), b"abc"),
-    (b"xy", Err(SinkFault), b"abc"),
-    (b"", Ok(()), b"abc"),
-    (b"defg", Err(SinkFault), b"abcdef"),
-    (b"", Ok(()), b"abcdef"),
-    (b"g", Err(SinkFault), b"abcdef"),
-];
-
-fn try_sink(rt: &impl Abort, sink: &mut MemSink) {
-    for (piece, answer, text) in &PUTS {
-        assert!(rt; put(sink, piece) == *answer);
-        assert!(rt; sink.text() == *text);
-    }
+// Puts a piece, and compares the answer and the text after it.
+fn try_put(
+    rt: &impl Abort,
+    sink: &mut MemSink,
+    piece: &[u8],
+    answer: Result<(), SinkFault>,
+    text: &[u8],
+) {
+    let given = put(sink, piece);
+    assert!(rt; given == answer);
+    assert!(rt; sink.text() == text);
 }
 
+// The sink has room for six bytes, and its second call fails.
 #[test]
 fn a_memory_sink_fails_where_it_is_told_to_and_past_its_room(rt: HostRuntime) {
     let mut sink = sink_of(rt.alloc(), 6, &[2]).expect(&rt, "ample memory");
-    try_sink(&rt, &mut sink);
+    try_put(&rt, &mut sink, b"abc", Ok(()), b"abc");
+    try_put(&rt, &mut sink, b"xy", Err(SinkFault), b"abc");
+    try_put(&rt, &mut sink, b"", Ok(()), b"abc");
+    try_put(&rt, &mut sink, b"defg", Err(SinkFault), b"abcdef");
+    try_put(&rt, &mut sink, b"", Ok(()), b"abcdef");
+    try_put(&rt, &mut sink, b"g", Err(SinkFault), b"abcdef");
     drop(sink);
 }
 
@@ -84,28 +86,60 @@ fn read<F: Files>(
     files.read_whole(name, limit, into)
 }
 
-// Names and limits in order, the answer to each, and what was read by then: the fourth call and the fifth are to fail, and a content over its limit is told as too long all the same.
-static READS: [(&str, usize, Result<(), FileFault>, &[u8]); 6] = [
-    ("a", 5, Ok(()), b"first"),
-    ("b", 5, Err(FileFault::Failed), b"first"),
-    ("a", 4, Err(FileFault::TooLong), b"first"),
-    ("a", 5, Err(FileFault::Failed), b"first"),
-    ("a", 4, Err(FileFault::TooLong), b"first"),
-    ("a", 6, Ok(()), b"firstfirst"),
-];
-
-fn try_files(rt: &impl Abort, files: &mut MemFiles, into: &mut Seq<u8>) {
-    for (name, limit, answer, bytes) in &READS {
-        assert!(rt; read(files, name, *limit, into) == *answer);
-        assert!(rt; into.as_slice() == *bytes);
-    }
+// Reads a file, and compares the answer and what was read by then.
+fn try_read(
+    rt: &impl Abort,
+    files: &mut MemFiles,
+    into: &mut Seq<u8>,
+    (name, limit): (&str, usize),
+    (answer, bytes): (Result<(), FileFault>, &[u8]),
+) {
+    let given = read(files, name, limit, into);
+    assert!(rt; given == answer);
+    assert!(rt; into.as_slice() == bytes);
 }
 
+// The fourth call and the fifth are to fail; a content over its limit is reported as too long all the same.
 #[test]
 fn memory_files_tell_the_first_content_of_a_name(rt: HostRuntime) {
     let mut files = files_of(rt.alloc(), &[4, 5]).expect(&rt, "ample memory");
     let mut into = Seq::new(rt.alloc());
-    try_files(&rt, &mut files, &mut into);
+    try_read(&rt, &mut files, &mut into, ("a", 5), (Ok(()), b"first"));
+    try_read(
+        &rt,
+        &mut files,
+        &mut into,
+        ("b", 5),
+        (Err(FileFault::Failed), b"first"),
+    );
+    try_read(
+        &rt,
+        &mut files,
+        &mut into,
+        ("a", 4),
+        (Err(FileFault::TooLong), b"first"),
+    );
+    try_read(
+        &rt,
+        &mut files,
+        &mut into,
+        ("a", 5),
+        (Err(FileFault::Failed), b"first"),
+    );
+    try_read(
+        &rt,
+        &mut files,
+        &mut into,
+        ("a", 4),
+        (Err(FileFault::TooLong), b"first"),
+    );
+    try_read(
+        &rt,
+        &mut files,
+        &mut into,
+        ("a", 6),
+        (Ok(()), b"firstfirst"),
+    );
     drop(into);
     drop(files);
 }
