@@ -120,7 +120,7 @@ pub enum Action {
         guid: Guid,
         v: u8,
     },
-    /// Puts an interface in the place of another.
+    /// Replaces an interface by another.
     DxeReinstall {
         h: u8,
         guid: Guid,

@@ -33,7 +33,7 @@ pub enum ActCause {
     Jump = 36,
     /// At an action: a register is above 15, or a block's number is not below the number of blocks.
     Index = 37,
-    /// Want of memory.
+    /// Memory ran out.
     Memory = 38,
 }
 
@@ -42,7 +42,7 @@ pub enum ActCause {
 pub enum WriteFault {
     /// The text passes its limit.
     TooLong,
-    /// Want of memory.
+    /// Memory ran out.
     Memory,
 }
 

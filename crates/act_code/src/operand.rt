@@ -12,7 +12,7 @@ use std::alloc::Global;
 pub enum Unread {
     /// No action of the phase is there.
     Malformed,
-    /// Want of memory.
+    /// Memory ran out.
     Memory,
 }
 

@@ -50,7 +50,7 @@ fn may_end(blocks: &[Seq<Action>], none: bool) -> bool
     }
 }
 
-// Gives the script one more block.
+// Adds a block to the script.
 fn add_block(alloc: Global, draft: &mut Script) -> Result<(), Unread>
     ensures { Gives (λ _. draft.new) result (with_block draft.old) }
 {
@@ -62,7 +62,7 @@ fn add_block(alloc: Global, draft: &mut Script) -> Result<(), Unread>
     }
 }
 
-// Gives a last block one more action.
+// Adds an action to a last block.
 fn add_action(
     alloc: Global,
     phase: Phase,
@@ -81,7 +81,7 @@ fn add_action(
     Ok(())
 }
 
-// Gives the script one more action in its last block.
+// Adds an action to the last block of the script.
 fn extend(alloc: Global, draft: &mut Script, line: &[u8]) -> Result<(), Unread>
     ensures { Gives (λ _. draft.new) result (extended draft.old line.now) }
 {
@@ -100,7 +100,7 @@ fn extend(alloc: Global, draft: &mut Script, line: &[u8]) -> Result<(), Unread>
     }
 }
 
-/// Gives the script one more line. It is no script any more if there is no such line.
+/// Adds a line to the script. It is no script any more if there is no such line.
 #[tactic(auto, unfolding(crate::specs::Drafts::with_line))]
 pub(crate) fn add_line(alloc: Global, draft: &mut Script, line: &[u8]) -> Result<(), Unread>
     ensures { Gives (λ _. draft.new) result (with_line draft.old line.now) }

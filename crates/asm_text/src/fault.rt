@@ -14,7 +14,7 @@ pub enum TextFault {
     /// The text is that of a value whose bytes pass their limit.
     #[error("TooLong")]
     TooLong,
-    /// Want of memory.
+    /// Memory ran out.
     #[error("Memory")]
     Memory,
 }

@@ -10,7 +10,7 @@ use pi_base::OutOfMemory;
 pub enum Halt {
     /// A line could not be written. The sink has counted the failure.
     Sink,
-    /// Want of memory.
+    /// Memory ran out.
     Memory,
 }
 

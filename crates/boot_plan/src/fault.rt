@@ -21,7 +21,7 @@ pub enum PlanCause {
     Limit = 45,
     /// The page region leaves too little of temporary RAM.
     Room = 46,
-    /// Want of memory.
+    /// Memory ran out.
     Memory = 47,
 }
 

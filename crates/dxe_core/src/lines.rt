@@ -42,7 +42,7 @@ pub fn put_volumes<S: Sink>(sink: &mut S, volumes: &[u32]) -> Result<(), SinkFau
     Ok(())
 }
 
-/// Puts the line of a call, and one for each volume that it discovers. If the sink fails, a prefix of their text was written.
+/// Writes the line of a call, and one for each volume that it discovers. If the sink fails, a prefix of their text was written.
 pub(crate) fn put_reply<S: Sink>(sink: &mut S, call: Line, volumes: &[u32]) -> Result<(), SinkFault>
     ensures text { Puts result (S.text sink.old) (S.text sink.new) (text_of (call ∷ discovery_lines volumes.now)) }
     ensures cause { SinkFaultsAfter result (S.faults sink.old) (S.faults sink.new) }

@@ -55,7 +55,7 @@ listed_at file_system from (file ∷ files) =
     let behind = listed_at file_system (at + length (file_bytes file_system file)) files in
     if file.kind == PAD then behind else at ∷ behind
 
--- the bytes are a volume of all of them without a name, whose files are those that were handed in, pads aside
+-- the bytes are a volume of all of them without a name, whose files are those that were handed in, without pads
 pub record IsReadBack (files : List NewFile) (bytes : List ℕ) : Type 0 where
   pub volume : Volume
   pub is_volume : IsVolume bytes volume

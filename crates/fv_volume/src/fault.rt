@@ -31,7 +31,7 @@ pub enum VolCause {
     DataSum = 11,
     /// One listed file more than `MOST_FILES`.
     TooManyFiles = 12,
-    /// Want of memory.
+    /// Memory ran out.
     Memory = 13,
 }
 

@@ -15,7 +15,7 @@ use crate::volume_header::Format;
 /// What an item is.
 #[derive(Clone, Copy)]
 pub(crate) enum ItemKind {
-    /// A header that is not valid, passed over as 24 bytes (own).
+    /// A header that is not valid, skipped as 24 bytes (own).
     Dead,
     /// A deleted file, or one whose body is not valid yet (the latter own).
     Skipped,

@@ -133,7 +133,7 @@ fn fault_at(at: usize, cause: VolCause) -> Option<VolFault>
     })
 }
 
-/// The first thing that is wrong with a header, its extended header aside.
+/// The first thing that is wrong with a header, apart from its extended header.
 pub(crate) fn header_fault(bytes: &[u8], header: &VolumeHeader) -> Option<VolFault>
     ensures fault { result ≡ header_fault bytes.now header.now }
     ensures sound { IfNone result ((header.now.len ≤ length bytes.now) × (header.now.header_len ≤ header.now.len)) }

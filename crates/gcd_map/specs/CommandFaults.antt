@@ -4,7 +4,7 @@ use Rattle.gcd_map.specs.{declared.command.Command.Command, declared.commands.Co
 use Rattle.gcd_map.specs.declared.commands.CommandFault.TheVariants.{Bad, Memory}
 use Rattle.gcd_map.specs.CommandText.{spelled, IsBad, IsFirstBad}
 
--- the fault is that of the text's first bad line, memory aside
+-- the fault is that of the text's first bad line, unless memory runs out
 abbrev pub IsCommandFault : List ℕ → CommandFault → Type 0
 IsCommandFault text (Bad number) = IsFirstBad text number
 IsCommandFault text Memory = Unit {0}

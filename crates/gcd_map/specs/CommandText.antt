@@ -55,15 +55,15 @@ command_of_words (name ∷ first ∷ second ∷ third ∷ more ∷ words) = None
 abbrev pub command_of : List ℕ → Option Command
 command_of line = if is_plain line then command_of_words (words line) else None
 
--- what the lines spell that are not passed over
+-- what the lines spell that are not skipped
 abbrev pub spelled : List (List ℕ) → List (Option Command)
 spelled lines = map command_of (filter (λ line. not (is_passed_over line)) lines)
 
--- the commands of a text: each line that is not passed over spells one
+-- the commands of a text: each line that is not skipped spells one
 abbrev pub AreCommands : List ℕ → List Command → Type 0
 AreCommands text commands = spelled (lines text) ≡ map (λ command. Some command) commands
 
--- the line is not passed over, and spells no command
+-- the line is not skipped, and spells no command
 abbrev pub IsBad : List ℕ → Type 0
 IsBad line = (is_passed_over line ≡ false) × (command_of line ≡ None)
 

@@ -12,10 +12,10 @@ use thiserror::Error;
 /// Why commands could not be read from a text.
 #[derive(Clone, Copy, Debug, Error)]
 pub enum CommandFault {
-    /// The number, from 1, of the first line that is neither passed over nor spells a command.
+    /// The number, from 1, of the first line that is neither skipped nor spells a command.
     #[error("Bad")]
     Bad { line: u32 },
-    /// Want of memory.
+    /// Memory ran out.
     #[error("Memory")]
     Memory,
 }

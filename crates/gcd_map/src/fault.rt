@@ -17,7 +17,7 @@ pub enum GcdCause {
     Form = 3,
     /// The list has no end HOB.
     NoEnd = 4,
-    /// Want of memory.
+    /// Memory ran out.
     Memory = 5,
     /// There is no CPU HOB.
     NoCpu = 70,

@@ -17,7 +17,7 @@ pub enum GcdWord {
     AccessDenied,
     /// Some address, or each base, is not as the call needs it.
     NotFound,
-    /// Want of memory for the map itself.
+    /// Memory ran out for the map itself.
     Memory,
 }
 

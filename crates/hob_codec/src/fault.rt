@@ -17,7 +17,7 @@ pub enum HobFault {
     Form = 3,
     /// A list has no end HOB.
     NoEnd = 4,
-    /// Want of memory.
+    /// Memory ran out.
     Memory = 5,
 }
 

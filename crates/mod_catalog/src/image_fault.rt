@@ -41,7 +41,7 @@ pub enum ImageCause {
     TooManyVolumes = 53,
     /// All scripts together pass `MOST_SCRIPT_BYTES`.
     ScriptTotal = 54,
-    /// Want of memory.
+    /// Memory ran out.
     Memory = 61,
 }
 

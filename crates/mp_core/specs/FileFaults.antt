@@ -4,7 +4,7 @@ use Rattle.mp_core.specs.{declared.event.MpEvent.MpEvent, declared.fault.MpFault
 use Rattle.mp_core.specs.{declared.fault.MpFault.TheVariants.Bad, declared.fault.MpFault.TheVariants.Memory, LineText.head_of}
 use Rattle.mp_core.specs.FileText.{numbered_from, spelled, first_without_event, first_bad_by, IsFirstBad}
 
--- the fault is that of the text's first bad line, memory aside
+-- the fault is that of the text's first bad line, unless memory runs out
 abbrev pub IsMpFault : List ℕ → MpFault → Type 0
 IsMpFault text (Bad line) = IsFirstBad text line
 IsMpFault text Memory = Unit {0}
@@ -19,7 +19,7 @@ abbrev pub IsEventFault : ℕ → ℕ → List (ℕ × List ℕ) → MpFault →
 IsEventFault processors cells lines (Bad at) = first_without_event processors cells lines ≡ Some at
 IsEventFault processors cells lines Memory = Unit {0}
 
--- what taking a line with its number leaves: the events with its own, if it is not passed over
+-- what taking a line with its number leaves: the events with its own, if it is not skipped
 abbrev pub TakesLine : ℕ → ℕ → List MpEvent → ℕ → List ℕ → Result (Unit {0}) MpFault → List MpEvent → Type 0
 TakesLine processors cells old number line (Ok _) new =
     (first_without_event processors cells (numbered_from number (line ∷ [])) ≡ None)

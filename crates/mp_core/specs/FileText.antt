@@ -4,7 +4,7 @@ use Rattle.std.specs.List.{enumerate_from}
 use Rattle.line_words.specs.Line.{lines, is_passed_over}
 use Rattle.mp_core.specs.{declared.event.MpEvent.MpEvent, declared.file.MpFile.MpFile, LineText.head_of, LineText.event_of}
 
--- lines that are not passed over, each with its number, the first line having this one
+-- lines that are not skipped, each with its number, the first line having this one
 abbrev pub numbered_from : ℕ → List (List ℕ) → List (ℕ × List ℕ)
 numbered_from number lines = filter (λ line. not (is_passed_over line.1)) (enumerate_from number lines)
 

@@ -9,7 +9,7 @@ pub enum MpFault {
     /// The number, from 1, of the first line that is of no form or names what there is not; if there is no first line `mp N C`, the number of lines plus 1.
     #[error("Bad")]
     Bad { line: u32 },
-    /// Want of memory.
+    /// Memory ran out.
     #[error("Memory")]
     Memory,
 }

@@ -24,7 +24,7 @@ pub struct MpFile {
     pub events: Seq<MpEvent>,
 }
 
-// Reads the first line that is not passed over, which has this number, and the lines after it.
+// Reads the first line that is not skipped, which has this number, and the lines after it.
 fn read_from(alloc: Global, line: &[u8], number: u32, rest: &[u8]) -> Result<MpFile, MpFault>
     requires { number + 1 + length rest.now < 2 ^ 32 }
     ensures file { IfOk result (λ file. AreLinesOf file ((number, line.now) ∷ numbered_from (number + 1) (lines rest.now))) }

@@ -17,7 +17,7 @@ const CELL: [u8; 4] = *b"cell";
 // What is printed for a record without numbers.
 const NO_NUMBERS: [u8; 1] = *b"-";
 
-// Puts the line of a keyword and a number.
+// Writes the line of a keyword and a number.
 fn put_numbered<S: Sink>(sink: &mut S, keyword: &[u8], number: u64) -> Result<(), SinkFault>
     ensures text { Puts result (S.text sink.old) (S.text sink.new) (line_of keyword.now (decimal number ∷ [])) }
     ensures cause { SinkFaultsAfter result (S.faults sink.old) (S.faults sink.new) }
@@ -28,7 +28,7 @@ fn put_numbered<S: Sink>(sink: &mut S, keyword: &[u8], number: u64) -> Result<()
     put_line(sink, keyword, &[number])
 }
 
-// Puts the line of a call and its reply.
+// Writes the line of a call and its reply.
 fn put_reply<S: Sink>(sink: &mut S, event: &MpEvent, reply: MpReply) -> Result<(), SinkFault>
     ensures text { Puts result (S.text sink.old) (S.text sink.new) (reply_line (event.now, reply)) }
     ensures cause { SinkFaultsAfter result (S.faults sink.old) (S.faults sink.new) }
@@ -47,7 +47,7 @@ fn is_turn(event: &MpEvent) -> bool
     matches!(event, MpEvent::Turn { .. })
 }
 
-// Puts the lines of calls and their replies.
+// Writes the lines of calls and their replies.
 fn put_replies<S: Sink>(
     sink: &mut S,
     events: &[MpEvent],
@@ -71,7 +71,7 @@ fn put_replies<S: Sink>(
     Ok(())
 }
 
-// Puts the line of a cell.
+// Writes the line of a cell.
 #[tactic(auto, unfolding(crate::specs::OutcomeText::cell_keyword))]
 fn put_cell<S: Sink>(sink: &mut S, index: u64, cell: u64) -> Result<(), SinkFault>
     ensures text { Puts result (S.text sink.old) (S.text sink.new) (cell_line (index, cell)) }
@@ -86,7 +86,7 @@ fn put_cell<S: Sink>(sink: &mut S, index: u64, cell: u64) -> Result<(), SinkFaul
     put_line(sink, CELL.as_slice(), &[index, cell])
 }
 
-// Puts the lines of the cells.
+// Writes the lines of the cells.
 fn put_cells<S: Sink>(sink: &mut S, cells: &[u64]) -> Result<(), SinkFault>
     ensures text { Puts result (S.text sink.old) (S.text sink.new) (cells_text cells.now) }
     ensures cause { SinkFaultsAfter result (S.faults sink.old) (S.faults sink.new) }
@@ -97,7 +97,7 @@ fn put_cells<S: Sink>(sink: &mut S, cells: &[u64]) -> Result<(), SinkFault>
     Ok(())
 }
 
-// Puts a number after a space.
+// Writes a number after a space.
 fn put_number<S: Sink>(sink: &mut S, number: u64) -> Result<(), SinkFault>
     ensures text { Puts result (S.text sink.old) (S.text sink.new) (spaced (decimal number)) }
     ensures cause { SinkFaultsAfter result (S.faults sink.old) (S.faults sink.new) }
@@ -109,7 +109,7 @@ fn put_number<S: Sink>(sink: &mut S, number: u64) -> Result<(), SinkFault>
     sink.put(digits)
 }
 
-// Puts the numbers of a record, each after a space.
+// Writes the numbers of a record, each after a space.
 fn put_numbers<S: Sink>(sink: &mut S, numbers: &[u64]) -> Result<(), SinkFault>
     ensures text { Puts result (S.text sink.old) (S.text sink.new) (flat_map spaced (map decimal numbers.now)) }
     ensures cause { SinkFaultsAfter result (S.faults sink.old) (S.faults sink.new) }
@@ -120,7 +120,7 @@ fn put_numbers<S: Sink>(sink: &mut S, numbers: &[u64]) -> Result<(), SinkFault>
     Ok(())
 }
 
-// Puts the line of a processor whose record has no numbers.
+// Writes the line of a processor whose record has no numbers.
 #[tactic(auto, unfolding(crate::specs::OutcomeText::no_numbers))]
 fn put_empty_record<S: Sink>(sink: &mut S, processor: u64) -> Result<(), SinkFault>
     ensures text { Puts result (S.text sink.old) (S.text sink.new) (record_line (processor, [])) }
@@ -132,7 +132,7 @@ fn put_empty_record<S: Sink>(sink: &mut S, processor: u64) -> Result<(), SinkFau
     put_line(sink, record_keyword(), &[processor, NO_NUMBERS.as_slice()])
 }
 
-// Puts the line of a processor's record, number by number, since there can be many.
+// Writes the line of a processor's record, number by number, since there can be many.
 fn put_record<S: Sink>(sink: &mut S, processor: u64, numbers: &[u64]) -> Result<(), SinkFault>
     ensures text { Puts result (S.text sink.old) (S.text sink.new) (record_line (processor, numbers.now)) }
     ensures cause { SinkFaultsAfter result (S.faults sink.old) (S.faults sink.new) }
@@ -146,7 +146,7 @@ fn put_record<S: Sink>(sink: &mut S, processor: u64, numbers: &[u64]) -> Result<
     sink.put(b"\n")
 }
 
-// Puts the lines of the records.
+// Writes the lines of the records.
 fn put_records<S: Sink>(sink: &mut S, records: &[Seq<u64>]) -> Result<(), SinkFault>
     ensures text { Puts result (S.text sink.old) (S.text sink.new) (records_text records.now) }
     ensures cause { SinkFaultsAfter result (S.faults sink.old) (S.faults sink.new) }

@@ -7,7 +7,7 @@ use Rattle.recorded_boot.specs.declared.order.fault.OrderFault.TheVariants.{Bad,
 use Rattle.recorded_boot.specs.{declared.order.line.Asked.Asked, declared.order.lines.StartOrder.StartOrder, LineText.asked_of}
 use Rattle.recorded_boot.specs.declared.order.line.Asked.TheVariants as A
 
--- lines that are not passed over, each with its number, the first line having this one
+-- lines that are not skipped, each with its number, the first line having this one
 abbrev pub numbered_from : ℕ → List (List ℕ) → List (ℕ × List ℕ)
 numbered_from number lines = filter (λ line. not (is_passed_over line.1)) (enumerate_from number lines)
 
@@ -46,12 +46,12 @@ pub record IsFirstBad (text : List ℕ) (number : ℕ) : Type 0 where
   pub spell : AreLinesOf order before
   pub bad : (asked_of number line ≡ None) ⊎ (is_some order.stop ≡ true)
 
--- the fault is that of the text's first bad line, memory aside
+-- the fault is that of the text's first bad line, unless memory runs out
 abbrev pub IsOrderFault : List ℕ → OrderFault → Type 0
 IsOrderFault text (Bad line) = IsFirstBad text line
 IsOrderFault text Memory = Unit {0}
 
--- what taking a line with its number leaves: what was asked for with its own, if it is not passed over; or it is bad
+-- what taking a line with its number leaves: what was asked for with its own, if it is not skipped; or it is bad
 abbrev pub TakesLine : StartOrder → ℕ → List ℕ → Result (Unit {0}) OrderFault → StartOrder → Type 0
 TakesLine old number line (Ok _) new =
     map (λ asked. Some asked) (all_asked new) ≡ map (λ asked. Some asked) (all_asked old) ++ spelled (numbered_from number (line ∷ []))

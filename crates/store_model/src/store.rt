@@ -59,7 +59,7 @@ pub trait PeiStore: GuidSet {
         ensures row { Performs TAKES_MEMORY (And (stands_for self.old) (AreDescs list.now)) (stands_for self.new)
             (λ s. I.install s list.now by) result };
 
-    /// Puts a PPI in the place of another (PI 1.8, volume 1, `ReInstallPpi()`).
+    /// Replaces a PPI by another (PI 1.8, volume 1, `ReInstallPpi()`).
     fn reinstall(&mut self, old: Desc, new: Desc, by: u32) -> Result<Sweep, StoreFault>
         requires state { Present (stands_for self.old) (AreBothDescs old new) }
         ensures row { Performs TAKES_MEMORY (And (stands_for self.old) (AreBothDescs old new)) (stands_for self.new)

@@ -128,7 +128,7 @@ pub enum StoreFault {
     Missing,
     /// There are no pages before the move.
     NotYet,
-    /// Want of memory.
+    /// Memory ran out.
     Memory,
 }
 

@@ -114,7 +114,7 @@ impl PlainStore {
         self.ppis[place].descriptor = new.offset;
     }
 
-    // Puts a PPI in the place of another, and adds the pairs, for which there is room. If memory runs out, nothing changes.
+    // Replaces a PPI by another, and adds the pairs, for which there is room. If memory runs out, nothing changes.
     fn put_again(
         &mut self,
         place: usize,
@@ -138,7 +138,7 @@ impl PlainStore {
         Ok(sweep)
     }
 
-    // Puts a PPI in the place of another.
+    // Replaces a PPI by another.
     pub(crate) fn reinstall_ppi(
         &mut self,
         old: Desc,

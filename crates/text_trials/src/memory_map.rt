@@ -54,7 +54,7 @@ static CASES: [Case; 30] = [
             range 0x0 0x40000000 nonexistent free\nrange 0x40000000 0x10000 system free\n\
             range 0x40010000 0xbfff0000 nonexistent free\n",
     },
-    // Each refusal, in its order before others that hold too, and lines that are passed over.
+    // Each refusal, in its order before others that hold too, and lines that are skipped.
     Case {
         hobs: &[
             Cpu(16),
@@ -263,7 +263,7 @@ static CASES: [Case; 30] = [
         commands: b"",
         text: b"refused hobs Overlap 168\n",
     },
-    // Resources of other types are passed over, whatever their addresses.
+    // Resources of other types are skipped, whatever their addresses.
     Case {
         hobs: &[
             Cpu(12),

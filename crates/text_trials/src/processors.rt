@@ -46,7 +46,7 @@ static CASES: [Case; 5] = [
             record 0 -\nrecord 1 64 75 54\n",
         busy: &[false, true],
     },
-    // Lines that are passed over, carriage returns, spaces, zeros in front, the greatest numbers, and no last line feed.
+    // Lines that are skipped, carriage returns, spaces, zeros in front, the greatest numbers, and no last line feed.
     Case {
         file: b"# a run\r\n\r\nmp  02 001\r\nall 0   put=00018446744073709551615\n#\n\
             turn 4294967295\nturn 1",

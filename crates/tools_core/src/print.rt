@@ -125,7 +125,7 @@ fn put_bytes<S: Sink>(sink: &mut S, fault: &ActFault) -> Result<(), SinkFault>
     )
 }
 
-/// Puts what a report says.
+/// Writes what a report says.
 #[tactic(auto, unfolding(crate::specs::Refusals::usage_line, crate::specs::Refusals::file_line, crate::specs::Refusals::long_line, crate::specs::Refusals::plan_line, crate::specs::Refusals::image_line, crate::specs::Refusals::end_line, crate::specs::Refusals::refused_text_long))]
 pub(crate) fn put_report<S: Sink>(sink: &mut S, report: &Report) -> Result<(), SinkFault>
     ensures text { Puts result (S.text sink.old) (S.text sink.new) (report_text report.now) }

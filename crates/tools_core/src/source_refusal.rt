@@ -109,7 +109,7 @@ fn need_of(cause: Cause) -> Option<u64>
     }
 }
 
-/// Puts the refusal of a volume's text: the line, the cause, and what the cause needs.
+/// Writes the refusal of a volume's text: the line, the cause, and what the cause needs.
 pub(crate) fn put_source<S: Sink>(sink: &mut S, fault: Fault) -> Result<(), SinkFault>
     ensures text { Puts result (S.text sink.old) (S.text sink.new) (source_line fault) }
     ensures cause { SinkFaultsAfter result (S.faults sink.old) (S.faults sink.new) }

@@ -23,7 +23,7 @@ pub enum ToolStatus {
     Deep = 8,
     /// The text could not be written.
     SinkFault = 9,
-    /// Want of memory.
+    /// Memory ran out.
     Memory = 10,
     /// The trace is not that of a free boot, or a module may not start at its place in an order of starts.
     No = 11,

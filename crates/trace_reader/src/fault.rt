@@ -9,7 +9,7 @@ use pi_base::OutOfMemory;
 pub enum TraceFault {
     /// A line, counted from 1, is the text of no readable line: the first such line.
     Bad { line: u32 },
-    /// Want of memory.
+    /// Memory ran out.
     Memory,
 }
 

@@ -28,7 +28,7 @@ pub(crate) fn in_either(flags: &[bool], more: &[bool], both: bool, at: usize) ->
     flag(flags, at) || both && flag(more, at)
 }
 
-// The first place from one on that is in the set, or in the other if both are asked. A block that is not marked is passed over.
+// The first place from one on that is in the set, or in the other if both are asked. A block that is not marked is skipped.
 pub(crate) fn first_in(
     flags: &[bool],
     blocks: &[bool],

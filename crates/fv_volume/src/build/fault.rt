@@ -18,7 +18,7 @@ pub enum BuildFault {
     /// or more is given as 2^64 - 1.
     #[error("NoRoom")]
     NoRoom { need: u64, have: u64 },
-    /// Want of memory.
+    /// Memory ran out.
     #[error("Memory")]
     Memory,
 }

@@ -15,7 +15,7 @@ pub enum SecCause {
     GuidDefined = 22,
     /// One section more than `MOST_SECTIONS`.
     TooMany = 23,
-    /// Want of memory.
+    /// Memory ran out.
     Memory = 24,
 }
 

@@ -33,7 +33,7 @@ pub enum FollowFault {
     },
     /// A line could not be written. The sink has counted the failure.
     Sink,
-    /// Want of memory.
+    /// Memory ran out.
     Memory,
 }
 

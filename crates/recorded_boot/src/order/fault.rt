@@ -7,7 +7,7 @@ use pi_base::OutOfMemory;
 pub enum OrderFault {
     /// The number, from 1, of the first line that is of no form or is after `stop`.
     Bad { line: u32 },
-    /// Want of memory.
+    /// Memory ran out.
     Memory,
 }
 

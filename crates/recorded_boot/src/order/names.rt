@@ -23,7 +23,7 @@ pub enum NamesFault {
         /// Its number in the catalogue.
         volume: u32,
     },
-    /// Want of memory.
+    /// Memory ran out.
     Memory,
 }
 

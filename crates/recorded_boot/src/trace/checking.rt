@@ -31,7 +31,7 @@ pub enum CheckFault {
         /// Its number in the catalogue.
         volume: u32,
     },
-    /// Want of memory.
+    /// Memory ran out.
     Memory,
 }
 

@@ -10,7 +10,7 @@ use pi_base::OutOfMemory;
 pub enum Parted {
     /// The text is no boot's that continues as what was met.
     Off,
-    /// Want of memory.
+    /// Memory ran out.
     Memory,
 }
 
