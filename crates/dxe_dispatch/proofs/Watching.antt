@@ -8,14 +8,12 @@ use Rattle.boot_laws.specs.{declared.choice.Reached.Reached, DxeAim.FirstEligibl
 use Rattle.boot_laws.specs.declared.choice.Reached.TheVariants as R
 use Rattle.dxe_core.specs.Standing.{DxeCore, StandsFor}
 use Rattle.dxe_dispatch.specs.Queue.{Discovers, IsNewQueue, Queue}
-use Rattle.dxe_dispatch.specs.declared.answer.Step.{Step}
+use Rattle.dxe_dispatch.specs.{declared.answer.Step.Step, Ends.IsNow, Turns.IsLeft, declared.boot.Left.Left}
 use Rattle.dxe_dispatch.specs.declared.answer.Turn.TheVariants as T
-use Rattle.dxe_dispatch.specs.{Ends.IsNow, Turns.IsLeft}
-use Rattle.dxe_dispatch.specs.{declared.boot.Left.Left, Choices.IsAimedBy, Choices.StopsShort, Choices.TurnsBy, Choices.came, Choices.leaves}
+use Rattle.dxe_dispatch.specs.Choices.{IsAimedBy, StopsShort, TurnsBy, came, leaves}
 use Rattle.dxe_dispatch.specs.Watched.{BootsKnown, DxeBoot, DxeCourse, RunsKnown, StandsLeft, WasAimed, WasLast, WasStep}
-use Rattle.dxe_dispatch.proofs.Chosen.{Any, target_at}
+use Rattle.dxe_dispatch.proofs.{Chosen.Any, Chosen.target_at, Openings.boots, Targets.left_before}
 use Rattle.dxe_dispatch.proofs.ChosenWays.{IsComing, coming_bars, coming_over, coming_to, opening_queue}
-use Rattle.dxe_dispatch.proofs.{Openings.boots, Targets.left_before}
 
 -- the target of a turn by choices, whoever chose
 pub aimed_so : (Names : DxeMachine → Option ℕ → Type 0) (catalog : Catalog) (m target : DxeMachine) → m.ended ≡ None → IsAimedBy Names catalog m target → WasAimed catalog m target

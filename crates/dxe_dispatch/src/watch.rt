@@ -5,7 +5,8 @@ ghost use Rattle.boot_model.specs.{DxeMachine.DxeMachine, DxeRun.dxe_opening, Dx
 ghost use Rattle.mod_catalog.specs.{WellFormed.IsWellFormed, declared.catalogue.Catalog.Catalog as OfCatalog};
 ghost use Rattle.boot_laws.specs.declared.choice.Reached.{Reached as OfReached};
 ghost use Rattle.dxe_core.specs.Standing.{StandsFor};
-ghost use Rattle.dxe_dispatch.specs.{Choices.came, Ends.IsNow, Watched.StandsLeft, Watched.WasLast, Watched.WasStep};
+ghost use Rattle.dxe_dispatch.specs.{Choices.came, Ends.IsNow};
+ghost use Rattle.dxe_dispatch.specs.Watched.{StandsLeft, WasLast, WasStep};
 
 use crate::DriverQueue;
 use crate::answer::Step;

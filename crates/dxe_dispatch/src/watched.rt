@@ -3,7 +3,8 @@ ghost use Rattle.std.specs.Prelude.{◌≡◌, ◌≤◌, ◌<◌, ◌^◌, ℕ,
 ghost use Rattle.boot_io.specs.Halted.{HaltsAfter};
 ghost use Rattle.mod_catalog.specs.WellFormed.{IsWellFormed};
 ghost use Rattle.dxe_core.specs.Standing.{IsFor};
-ghost use Rattle.dxe_dispatch.specs.{Queue.IsNewQueue, Queue.IsQueueFor, Choices.EvaluatesFewByChoice, Ends.IsAtOpening, Watched.RunsWatched};
+ghost use Rattle.dxe_dispatch.specs.{Queue.IsNewQueue, Queue.IsQueueFor, Choices.EvaluatesFewByChoice, Ends.IsAtOpening};
+ghost use Rattle.dxe_dispatch.specs.Watched.{RunsWatched};
 
 use crate::DriverQueue;
 use crate::answer::Turn;

@@ -1,15 +1,14 @@
 -- Resources may come in any order: those that come in one come in each other one, and leave the same states.
-use Rattle.std.proofs.Common.{◌≡◌, ◌≢◌, ◌⊎◌, inl, inr, ℕ, ◌+◌, ◌<◌, ◌≤◌, Bool, true, false, ◌&&◌, nat_le, nat_lt, if◌then◌else◌, List, [], ◌∷◌, refl, sym, ap, ◌∙◌, subst, arith, ◌^◌}
-use Rattle.std.specs.List.{All, AllByRecursion, sum_by}
-use Rattle.std.specs.List.Sorted.{IsPermutation}
+use Rattle.std.proofs.Common.{◌≡◌, ◌≢◌, ◌⊎◌, inl, inr, ℕ, ◌+◌, ◌<◌, ◌≤◌, Bool, true, false, ◌&&◌, nat_le, nat_lt, if◌then◌else◌, List, [], ◌∷◌, refl, sym, ap, ◌∙◌, subst, arith, ◌^◌, All, sum_by, IsPermutation}
+use Rattle.std.specs.List.{AllByRecursion}
 use Rattle.std.proofs.lemmas.List.Elements.{All-from_recursion, recursion_from_All}
-use Rattle.std.proofs.lemmas.List.Sums.{fold-append, sum_by-cons}
+use Rattle.std.proofs.{lemmas.List.Sums.fold-append, lemmas.List.Sums.sum_by-cons, lemmas.Bool.Decides.nat_tests}
 use Rattle.std.proofs.lemmas.List.Sorted.{All-permutation, IsPermutation-sym, sum_by-IsPermutation}
-use Rattle.std.proofs.lemmas.Bool.Decides.{nat_tests}
-use Rattle.gcd_map.specs.declared.state.GcdKind.TheVariants.{NonExistent}
-use Rattle.gcd_map.specs.{declared.state.SpaceState.SpaceState, declared.hob.HobStretch.HobStretch, declared.range.GcdRange.GcdRange}
+use Rattle.gcd_map.specs.{declared.state.GcdKind.TheVariants.NonExistent, declared.state.SpaceState.SpaceState}
+use Rattle.gcd_map.specs.{declared.hob.HobStretch.HobStretch, declared.range.GcdRange.GcdRange, Ranges.Cover, Stretch.AllIn}
 use Rattle.gcd_map.specs.AddressSpace.{MemorySpace, changed, untouched, state_at, add_change, free_of}
-use Rattle.gcd_map.specs.{HobMap.MayCome, HobMap.Comes, HobMap.came, HobMap.Follow, Ranges.Cover, Stretch.AllIn, SpaceMap.MapState, SpaceMap.Shows, Commands.IsAbsent}
+use Rattle.gcd_map.specs.{SpaceMap.MapState, SpaceMap.Shows, Commands.IsAbsent}
+use Rattle.gcd_map.specs.HobMap.{MayCome, Comes, came, Follow}
 
 abbrev holds : ℕ → HobStretch → Bool
 holds a s = nat_le s.base a && nat_lt a (s.base + s.len)

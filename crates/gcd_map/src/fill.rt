@@ -1,6 +1,5 @@
 // The resources and allocations of a HOB list, one after another.
-ghost use Rattle.std.specs.Prelude.{◌≡◌, ◌≢◌, ◌<◌, ◌^◌, true, IfOk, MatchResult};
-ghost use Rattle.std.specs.List.Sorted.{IsPermutation};
+ghost use Rattle.std.specs.Prelude.{◌≡◌, ◌≢◌, ◌<◌, ◌^◌, true, IfOk, MatchResult, IsPermutation};
 ghost use Rattle.pi_base.specs.Lists.{Each};
 ghost use Rattle.gcd_map.specs.{declared.fault.GcdCause.TheVariants.Memory, AddressSpace.MemorySpace, SpaceMap.Shows};
 ghost use Rattle.gcd_map.specs.HobMap.{resource_at, allocation_at, resources, allocations, MayCome, Comes, came, MayBeTaken, taken, Follow, IsFilled};

@@ -10,8 +10,7 @@ use Rattle.pei_dispatch.specs.{declared.answer.Step.Step, declared.boot.Left.Lef
 use Rattle.pei_dispatch.specs.declared.answer.Turn.TheVariants as T
 use Rattle.pei_core.specs.{declared.pei.Pei.Pei, Standing.StandsFor}
 use Rattle.pei_dispatch.specs.Choices.{TurnsBy, IsTaken}
-use Rattle.pei_dispatch.specs.declared.answer.Step.TheVariants.{Acted, Started}
-use Rattle.pei_dispatch.specs.Turns.{TurnCall}
+use Rattle.pei_dispatch.specs.{declared.answer.Step.TheVariants.Acted, declared.answer.Step.TheVariants.Started, Turns.TurnCall}
 use Rattle.pei_dispatch.specs.Watched.{BootsAlong, BootsKnown, PeiBoot, PeiCourse, RunsAlong, RunsKnown, StandsLeft, WasLast, WasStep}
 use Rattle.pei_dispatch.proofs.ChosenWays.{IsOnWay, comes_on, way_barred, way_over, way_reached}
 

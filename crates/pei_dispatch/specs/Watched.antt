@@ -5,8 +5,8 @@ use Rattle.boot_io.specs.declared.halt.Halt.{Halt}
 use Rattle.mod_catalog.specs.declared.catalogue.Catalog.{Catalog}
 use Rattle.store_model.specs.declared.store_handle.Sweep.{Sweep}
 use Rattle.store_model.specs.StoreState.{Board, StoreState, empty_store}
-use Rattle.boot_model.specs.{declared.phase_end.PeiEnd.PeiEnd, PeiChoice.next_peim, PeiChoice.pei_order}
-use Rattle.boot_model.specs.{PeiMachine.PeiMachine, PeiRun.pei_opening, PeiStep.started}
+use Rattle.boot_model.specs.{declared.phase_end.PeiEnd.PeiEnd, PeiChoice.next_peim, PeiChoice.pei_order, PeiMachine.PeiMachine}
+use Rattle.boot_model.specs.{PeiRun.pei_opening, PeiStep.started}
 use Rattle.boot_laws.specs.{declared.choice.Reached.Reached, PeiAim.with_cursor}
 use Rattle.boot_laws.specs.declared.choice.Reached.TheVariants as R
 use Rattle.pei_core.specs.{declared.pei.Pei.Pei, Standing.IsFor, Standing.StandsFor, Steps.IsEvent, Steps.IsIdle, CoreCall.CoreCall}

@@ -1,7 +1,7 @@
 use Rattle.std.proofs.lemmas.Result.{err_from_is_err_and}
 use Rattle.boot_model.specs.DxeRun.{dxe_opening}
 use Rattle.dxe_dispatch.specs.Choices.{LetsDrivers, NamesDrivers}
-use Rattle.dxe_dispatch.proofs.{Openings.none_ran}
+use Rattle.dxe_dispatch.proofs.Openings.{none_ran}
 use Rattle.dxe_dispatch.proofs.boot.run_with_ledger.Goals as goal
 
 pub watch_dxe-reached-requires-clause-made : goal.watch_dxe-reached-requires-clause-made
