@@ -6,7 +6,7 @@ ghost use Rattle.act_code.specs.declared.fault.WriteFault.TheVariants as write_f
 use pi_base::OutOfMemory;
 
 /// The first fault of a script, in reading order.
-#[derive(Clone, Copy, Debug)]
+#[derive(Clone, Copy, Debug, PartialEq, Eq)]
 pub struct ActFault {
     /// The offset in the script. 0 because memory ran out.
     pub at: u32,
@@ -38,7 +38,7 @@ pub enum ActCause {
 }
 
 /// Why a text could not be written.
-#[derive(Clone, Copy, Debug)]
+#[derive(Clone, Copy, Debug, PartialEq, Eq)]
 pub enum WriteFault {
     /// The text passes its limit.
     TooLong,

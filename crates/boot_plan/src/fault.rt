@@ -26,7 +26,7 @@ pub enum PlanCause {
 }
 
 /// The first fault of a plan.
-#[derive(Clone, Copy, Debug)]
+#[derive(Clone, Copy, Debug, PartialEq, Eq)]
 pub struct PlanFault {
     /// The line that has it, from 1; 0 if memory runs out.
     pub line: u32,

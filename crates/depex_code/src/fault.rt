@@ -5,7 +5,7 @@ ghost use Rattle.depex_code.specs.declared.fault.DepexFault.TheVariants.{Memory}
 use pi_base::OutOfMemory;
 
 /// Why an expression could not be read.
-#[derive(Clone, Copy, Debug)]
+#[derive(Clone, Copy, Debug, PartialEq, Eq)]
 pub enum DepexFault {
     /// The bytes begin with no expression. It has the offset of the first opcode that fails, counted from the first byte that was handed in.
     Malformed(u32),

@@ -5,7 +5,7 @@ ghost use Rattle.dxe_core.specs.Event as E;
 use pi_base::Guid;
 
 /// What an event of the machine did, apart from its lines.
-#[derive(Clone, Copy)]
+#[derive(Clone, Copy, PartialEq, Eq)]
 pub struct Event {
     /// The protocol that it installed or uninstalled.
     pub changed: Option<Guid>,

@@ -10,7 +10,7 @@ use std::alloc::Global;
 use thiserror::Error;
 
 /// Why commands could not be read from a text.
-#[derive(Clone, Copy, Debug, Error)]
+#[derive(Clone, Copy, Debug, PartialEq, Eq, Error)]
 pub enum CommandFault {
     /// The number, from 1, of the first line that is neither skipped nor spells a command.
     #[error("Bad")]

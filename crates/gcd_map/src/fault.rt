@@ -38,7 +38,7 @@ impl Display for GcdCause {
 }
 
 /// What is wrong, and the offset of the HOB: the bytes' length for NoEnd, 0 for NoCpu and Memory.
-#[derive(Clone, Copy, Debug)]
+#[derive(Clone, Copy, Debug, PartialEq, Eq)]
 pub struct GcdFault {
     pub cause: GcdCause,
     pub at: u32,

@@ -2,7 +2,7 @@
 use pi_base::Guid;
 
 /// The hand-off HOB's fields; its Version is 9. PI 1.8, volume 3, `EFI_HOB_HANDOFF_INFO_TABLE`.
-#[derive(Clone, Copy)]
+#[derive(Clone, Copy, PartialEq, Eq)]
 pub struct Handoff {
     /// The boot mode, an `EFI_BOOT_MODE`.
     pub boot_mode: u32,
@@ -19,7 +19,7 @@ pub struct Handoff {
 }
 
 /// A hand-off block. Addresses and lengths are in bytes.
-#[derive(Clone, Copy)]
+#[derive(Clone, Copy, PartialEq, Eq)]
 pub enum Hob<'a> {
     /// PI 1.8, volume 3, `EFI_HOB_HANDOFF_INFO_TABLE`.
     Handoff(Handoff),

@@ -4,7 +4,7 @@ use pi_base::OutOfMemory;
 use thiserror::Error;
 
 /// Why a text is not an MP file.
-#[derive(Clone, Copy, Debug, Error)]
+#[derive(Clone, Copy, Debug, PartialEq, Eq, Error)]
 pub enum MpFault {
     /// The number, from 1, of the first line that is of no form or names what there is not; if there is no first line `mp N C`, the number of lines plus 1.
     #[error("Bad")]

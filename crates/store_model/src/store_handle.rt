@@ -59,7 +59,7 @@ pub enum GuidFrom {
 }
 
 /// The callbacks that a call still has to visit: pairs of a PPI and a callback, in order of PPI and then of registration.
-#[derive(Clone, Copy)]
+#[derive(Clone, Copy, PartialEq, Eq)]
 pub struct Sweep {
     /// The place after the last PPI.
     pub ppi_to: u32,

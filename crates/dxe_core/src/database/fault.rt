@@ -5,7 +5,7 @@ ghost use Rattle.dxe_core.specs.declared.database.fault.HandleFault.TheVariants.
 use pi_base::OutOfMemory;
 
 /// Why a service did not succeed.
-#[derive(Clone, Copy, Debug)]
+#[derive(Clone, Copy, Debug, PartialEq, Eq)]
 pub enum HandleFault {
     /// The handle is not live, or has an interface of the protocol already.
     InvalidParameter,

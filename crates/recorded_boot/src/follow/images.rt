@@ -22,7 +22,7 @@ use pi_base::{OutOfMemory, Seq};
 use std::alloc::Global;
 
 /// Why a boot could not follow an order.
-#[derive(Clone, Copy, Debug)]
+#[derive(Clone, Copy, Debug, PartialEq, Eq)]
 pub enum FollowFault {
     /// The first fault of the images.
     Image(ImageFault),

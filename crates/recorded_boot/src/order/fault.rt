@@ -3,7 +3,7 @@
 use pi_base::OutOfMemory;
 
 /// Why a text is not an order of starts.
-#[derive(Clone, Copy, Debug)]
+#[derive(Clone, Copy, Debug, PartialEq, Eq)]
 pub enum OrderFault {
     /// The number, from 1, of the first line that is of no form or is after `stop`.
     Bad { line: u32 },

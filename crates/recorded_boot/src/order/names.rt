@@ -16,7 +16,7 @@ pub struct Names {
 }
 
 /// Why there are no names.
-#[derive(Clone, Copy, Debug)]
+#[derive(Clone, Copy, Debug, PartialEq, Eq)]
 pub enum NamesFault {
     /// Two modules of a volume have one file name. It is the first such volume.
     Twins {

@@ -22,7 +22,7 @@ use std::alloc::Global;
 use store_model::PeiStore;
 
 /// Why a text could not be checked.
-#[derive(Clone, Copy, Debug)]
+#[derive(Clone, Copy, Debug, PartialEq, Eq)]
 pub enum CheckFault {
     /// The first fault of the images.
     Image(ImageFault),

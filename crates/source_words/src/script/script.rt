@@ -36,7 +36,7 @@ impl Display for ScriptCause {
 }
 
 /// Why a draft is no script.
-#[derive(Clone, Copy, Debug)]
+#[derive(Clone, Copy, Debug, PartialEq, Eq)]
 pub enum ScriptFault {
     /// What is wrong at a line. The place counts the script's lines from 0: each block's own line, and then those of its actions. The end stands behind them all.
     Bad { place: usize, cause: ScriptCause },
