@@ -1,5 +1,5 @@
 // Reads all that a reader of std has left into a list.
-ghost use Rattle.std.specs.Prelude.{◌≡◌, ◌≢◌, ◌++◌, ℕ, List, OnOk, IfErr};
+ghost use Rattle.std.specs.Prelude.{◌≡◌, ◌≤◌, ◌+◌, ◌≢◌, ◌++◌, ℕ, List, OnOk, IfErr};
 ghost use Rattle.std.specs.Io.KnownBytes.{Consumes, IsAtEnd};
 ghost use Rattle.boot_io.specs.{declared.files.FileFault.TheVariants.TooLong, Files.IntoAfter};
 
@@ -75,6 +75,8 @@ pub fn read_within<R: Read + Drop>(
 }
 
 // How many bytes to take room for: those that are likely, within the limit, and one that shows that there are no more.
-fn room_for(likely: u64, limit: usize) -> usize {
+fn room_for(likely: u64, limit: usize) -> usize
+    ensures { result ≤ limit + 1 }
+{
     likely.min(limit as u64).saturating_add(1) as usize
 }
