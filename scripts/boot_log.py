@@ -48,7 +48,7 @@ BEGINNINGS = [
 COLOUR = re.compile(rb"\x1b\[[0-9;:]*m")
 CODE = re.compile(rb"\x1b(?:\[[0-?]*[ -/]*[@-~]|\][^\x07\x1b]*(?:\x07|\x1b\\)|[()][0-9A-Za-z]|[ -Z\\^-~])")
 NOISE = bytes(byte for byte in range(256) if not 0x20 <= byte < 0x7F and byte not in b"\n\t\r")
-# A text of one's own, one start or one install a line (docs/CHECK.md).
+# A text of one's own, one start or one install a line (docs/LOGS.md).
 OWN = re.compile(rf"(pei|dxe|installed)\s+\{{?{GUID}\}}?", re.IGNORECASE)
 
 FFS2_PPI = "8c8ce578-8a3d-4f1c-9935-896185c32dd3"  # the PEI core installs it first of all, and once
