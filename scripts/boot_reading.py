@@ -116,7 +116,7 @@ class Boot:
                 self.heap += HEADER + len(body.replace("-", "")) // 2
             case ["migrate", old, new]:
                 self.moved = [old, new]
-            case ["core", "install", _]:
+            case ["core", "install", "Success"]:
                 self.sweep = self.installs([Descriptor("ppi", MEMORY_PPI)])
                 self.note(CORE)
             case ["handoff", _]:
