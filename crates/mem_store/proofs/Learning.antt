@@ -1,5 +1,5 @@
 -- Nodes of PPIs that are learned one behind another, and what is known of them after a call.
-use Rattle.std.proofs.Common.{◌≡◌, ℕ, zero, suc, ◌+◌, ◌-◌, ◌<◌, ◌≤◌, Bool, true, false, List, [], ◌∷◌, ◌++◌, length, drop, map, Option, Some, None, ap, refl, sym, subst, ◌∙◌, arith, slice_get, option_map, append_assoc, length-append, slice_set}
+use Rattle.std.proofs.Common.{◌≡◌, ℕ, zero, suc, ◌-◌, ◌<◌, ◌≤◌, Bool, true, false, List, [], ◌∷◌, ◌++◌, length, drop, map, Option, Some, None, ap, refl, sym, subst, ◌∙◌, arith, slice_get, option_map, append_assoc, length-append, slice_set}
 use Rattle.std.proofs.lemmas.List.{length-map}
 use Rattle.store_model.specs.{declared.state.Entry.Entry, declared.store_handle.EntryTold.EntryTold}
 use Rattle.store_model.specs.{declared.store_handle.EntryList.TheVariants.Ppis, StoreState.StoreState, StateFacts.IsStoreState}

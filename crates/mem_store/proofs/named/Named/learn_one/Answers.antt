@@ -1,7 +1,6 @@
-use Rattle.std.proofs.Common.{◌≡◌, ◌∙◌, [], ◌∷◌, ◌++◌, ap, length, slice_get, Some, subst, sym}
+use Rattle.std.proofs.Common.{◌∙◌, [], ◌∷◌, ◌++◌, ap, slice_get, subst, sym}
 use Rattle.pi_base.specs.declared.guid.Guid.{Guid}
 use Rattle.store_model.specs.{declared.store_handle.EntryList.TheVariants.Ppis, Service.Reading.entry_behind, StoreCall.IsNodeIn}
-use Rattle.mem_store.specs.{declared.guid_index.index.Indexed.Indexed, Nodes.last_node}
 use Rattle.mem_store.proofs.{Learning.last_at, Learning.learned, Saying.facts_of}
 use Rattle.mem_store.proofs.named.Named.learn_one.Goals as goal
 
