@@ -5,7 +5,7 @@ ghost use Rattle.store_model.specs.{StoreState.StoreState, StoreState.free, Serv
 ghost use Rattle.store_model.specs.Service.{And, OfEach, Performs, Present};
 ghost use Rattle.store_model.specs.Service.Install.{install, install_sweep, node_need, place_of, reinstall, reinstall_sweep, with_ppi};
 ghost use Rattle.store_model.specs.{StateFacts.IsDesc, declared.store_handle.Desc.Desc as OfDesc};
-ghost use Rattle.store_model.specs.StoreCall.{Anything, AreBothDescs, AreDescs, AreFew};
+ghost use Rattle.store_model.specs.StoreCall.{Anything, AreDescs, AreFew};
 ghost use Rattle.pei_heap.specs.Linked.{IsLinked};
 ghost use Rattle.pei_heap.specs.Replaced.{IsFound};
 ghost use Rattle.heap_store.specs.Made.{CanMakePpis, HaveFound, HavePairs, IsMade};
@@ -198,15 +198,5 @@ impl HeapStore {
         ensures { OfEach (StandsFor self.now) Anything (λ s. IsFound s d result) }
     {
         find_ppi(&self.heap, &self.memory, &self.heads, d)
-    }
-
-    /// Puts a PPI in the place of another.
-    pub fn reinstall_ppi(&mut self, old: Desc, new: Desc, by: u32) -> Result<Sweep, StoreFault>
-        requires { Present (StandsFor self.old) (AreBothDescs old new) }
-        ensures { Performs false (And (StandsFor self.old) (AreBothDescs old new)) (StandsFor self.new)
-            (λ s. reinstall s old new by) result }
-    {
-        let found = self.walk_to(old);
-        self.reinstall_found(found, old, new, by)
     }
 }
