@@ -1,0 +1,3 @@
+mod PeimsOnce
+mod PeimLicences
+mod PeiMoves
