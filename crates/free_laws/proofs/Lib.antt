@@ -1,3 +1,8 @@
 mod PeimsOnce
 mod PeimLicences
 mod PeiMoves
+mod DriversOnce
+mod FreeGroups
+mod QueueSteps
+mod DriverLicences
+mod CompanionStarts

@@ -1,1 +1,2 @@
 pub mod FreePei
+pub mod FreeDxe
