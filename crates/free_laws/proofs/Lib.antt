@@ -6,3 +6,4 @@ mod FreeGroups
 mod QueueSteps
 mod DriverLicences
 mod CompanionStarts
+mod LawfulBoots
