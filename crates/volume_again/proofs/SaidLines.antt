@@ -28,7 +28,7 @@ use Rattle.volume_text.specs.Words.{is_length, length_at, number_at, told_at, is
 use Rattle.volume_text.specs.Bytes.{hex_answer, bytes_of as bytes_of_words, guids_of}
 use Rattle.volume_text.specs.Line.{volume_at, name_at, pad_at, file_at, script_at, guids_at, section_at, body_at, ReadsBy, ReadsDepex}
 use Rattle.volume_text.specs.{Volume.SaysLine, Text.is_passed_over}
-use Rattle.volume_print.specs.Spelling.{phase_word, system_word, type_word, fixed_words, alignment_words, attribute_words, number_words, guid_word as told_guid}
+use Rattle.volume_print.specs.Spelling.{phase_word, system_word, core_type_word, type_word, fixed_words, alignment_words, attribute_words, number_words, guid_word as told_guid}
 use Rattle.fv_volume.specs.declared.sections.section_type.TheConstants.{RAW}
 use Rattle.source_words.proofs.LineWords.{IsWord, IsClear, clear_of, both_clear, spaced_clear, word_then, words_spaced, stands_spaced}
 use Rattle.source_words.proofs.Characters.{decimal_word, hexadecimal_word, encoded_inner, encoded_word, guid_word}
@@ -343,13 +343,26 @@ unfolding chosen_at
 chosen_read attributes =
     rw (fixed_there attributes.fixed attributes.alignment, align_by attributes.alignment (alignment_len attributes.alignment == 1) refl) refl
 
+core_is_word : (kind : ℕ) → kind < 256 → IsWord (core_type_word kind)
+unfolding core_type_word
+core_is_word kind fits = by_tests (kind == 3) (kind == 4) (kind == 5) (kind == 9)
+  where
+    by_tests : (a b c d : Bool)
+        → IsWord (if a then codes "security-core" else if b then codes "pei-core" else if c then codes "dxe-core" else if d then codes "application"
+        else encode_lower (kind ∷ []))
+    by_tests true b c d = (omega arith, refl)
+    by_tests false true c d = (omega arith, refl)
+    by_tests false false true d = (omega arith, refl)
+    by_tests false false false true = (omega arith, refl)
+    by_tests false false false false = encoded_word (kind ∷ []) (omega arith) (one_fits kind fits)
+
 type_is_word : (kind : ℕ) → kind < 256 → IsWord (type_word kind)
 unfolding type_word
 type_is_word kind fits = by_tests (kind == 1) (kind == 2) (kind == 6) (kind == 7) (kind == 8) (kind == 11) (kind == 12)
   where
     by_tests : (a b c d e f g : Bool)
         → IsWord (if a then codes "raw" else if b then codes "freeform" else if c then codes "peim" else if d then codes "driver" else if e then codes "combined"
-        else if f then codes "volume-image" else if g then codes "mm-dxe" else encode_lower (kind ∷ []))
+        else if f then codes "volume-image" else if g then codes "mm-dxe" else core_type_word kind)
     by_tests true b c d e f g = (omega arith, refl)
     by_tests false true c d e f g = (omega arith, refl)
     by_tests false false true d e f g = (omega arith, refl)
@@ -357,7 +370,7 @@ type_is_word kind fits = by_tests (kind == 1) (kind == 2) (kind == 6) (kind == 7
     by_tests false false false false true f g = (omega arith, refl)
     by_tests false false false false false true g = (omega arith, refl)
     by_tests false false false false false false true = (omega arith, refl)
-    by_tests false false false false false false false = encoded_word (kind ∷ []) (omega arith) (one_fits kind fits)
+    by_tests false false false false false false false = core_is_word kind fits
 
 file_key : (l : List ℕ) (others : List (List ℕ)) (what : Statement) → Ok what ≡ file_at others → ReadsBy (keyword_of (codes "file")) l others (Ok what)
 unfolding keyword_of

@@ -6,7 +6,7 @@ use Rattle.hex.specs.Hex.{encode_lower}
 use Rattle.pi_base.specs.{declared.guid.Guid.Guid, declared.phase.Phase.Phase}
 use Rattle.pi_base.specs.{declared.phase.Phase.TheVariants.Pei, declared.phase.Phase.TheVariants.Dxe, declared.guid.TheConstants.GUID_LEN}
 use Rattle.pi_base.specs.{Guids.same_guid, WordText.guid_text, WordText.hexadecimal}
-use Rattle.fv_volume.specs.declared.file_type.TheConstants.{RAW, FREEFORM, PEIM, DRIVER, COMBINED_PEIM_DRIVER, VOLUME_IMAGE, COMBINED_MM_DXE, PAD}
+use Rattle.fv_volume.specs.declared.file_type.TheConstants.{RAW, FREEFORM, SECURITY_CORE, PEI_CORE, DXE_CORE, PEIM, DRIVER, COMBINED_PEIM_DRIVER, APPLICATION, VOLUME_IMAGE, COMBINED_MM_DXE, PAD}
 use Rattle.fv_volume.specs.declared.sections.section_type.TheConstants.{RAW as RAW_SECTION, VOLUME_IMAGE as VOLUME_SECTION}
 use Rattle.fv_volume.specs.declared.build.file_system.FileSystem.{FileSystem}
 use Rattle.fv_volume.specs.declared.build.file_system.FileSystem.TheVariants.{Ffs2, Ffs3}
@@ -34,6 +34,15 @@ unfoldable pub system_word : FileSystem → List ℕ
 system_word Ffs2 = codes "ffs2"
 system_word Ffs3 = codes "ffs3"
 
+-- the type of a core or of an application: its name; of another, two hexadecimal digits
+unfoldable pub core_type_word : ℕ → List ℕ
+core_type_word kind =
+    if kind == SECURITY_CORE then codes "security-core"
+    else if kind == PEI_CORE then codes "pei-core"
+    else if kind == DXE_CORE then codes "dxe-core"
+    else if kind == APPLICATION then codes "application"
+    else encode_lower (kind ∷ [])
+
 -- the type of a file: its name, or two hexadecimal digits
 unfoldable pub type_word : ℕ → List ℕ
 type_word kind =
@@ -44,7 +53,7 @@ type_word kind =
     else if kind == COMBINED_PEIM_DRIVER then codes "combined"
     else if kind == VOLUME_IMAGE then codes "volume-image"
     else if kind == COMBINED_MM_DXE then codes "mm-dxe"
-    else encode_lower (kind ∷ [])
+    else core_type_word kind
 
 -- the bytes are an expression of the phase, and nothing behind it
 abbrev pub IsExpressionOf : Phase → List ℕ → Depex → Type 0
