@@ -23,7 +23,7 @@ use Rattle.depex_code.specs.Expression.{Reads, instructions, bytes_of}
 use Rattle.act_code.specs.{declared.script.Script.Script, Script.IsScript}
 use Rattle.mod_catalog.specs.{FileType.a_priori_name, APrioriNames.guids_in}
 use Rattle.asm_text.specs.{ExpressionText.expression_text, ScriptText.line, ScriptText.block_lines}
-use Rattle.volume_text.specs.Open.{depex_type, has_part, is_script_of}
+use Rattle.volume_text.specs.Open.{depex_type, has_part, is_depex_of, is_script_of}
 use Rattle.volume_print.specs.{declared.form.Host.Host, declared.pad.TheConstants.ERASED}
 
 unfoldable pub phase_word : Phase → List ℕ
@@ -59,10 +59,11 @@ type_word kind =
 abbrev pub IsExpressionOf : Phase → List ℕ → Depex → Type 0
 IsExpressionOf phase bytes expression = Reads phase bytes expression × (bytes ≡ bytes_of (instructions expression))
 
--- a section of a file of a type is an expression of a phase
-pub record SaysExpression (kind : ℕ) (section : NewSection) (phase : Phase) (expression : Depex) : Type 0 where
+-- a section of a file of a type is an expression of a phase, the first for its phase behind others
+pub record SaysExpression (kind : ℕ) (before : List NewSection) (section : NewSection) (phase : Phase) (expression : Depex) : Type 0 where
   pub kind_is : section.kind ≡ depex_type phase
   pub part : has_part kind phase ≡ true
+  pub first : list_any (is_depex_of phase) before ≡ false
   pub bytes : IsExpressionOf phase section.body expression
 
 -- a file with the names of the modules that start first (PI 1.8, volumes 1 and 2, the a priori files)
@@ -108,12 +109,12 @@ section_line section = line (codes "section " ++ (encode_lower (section.kind ∷
 -- the text of a section behind others of a file: a volume, an expression, a list of GUIDs or a script where it is one, and its bytes where it is none of them
 pub data IsSectionText (Inner : List ℕ → List ℕ → Type 0) (host : Host) (before : List NewSection) (section : NewSection) (text : List ℕ) : Type 0 where
   as_volume : SaysVolume Inner host section text → IsSectionText Inner host before section text
-  as_expression : (phase : Phase) (expression : Depex) → SaysExpression host.kind section phase expression → text ≡ expression_line phase expression
+  as_expression : (phase : Phase) (expression : Depex) → SaysExpression host.kind before section phase expression → text ≡ expression_line phase expression
       → IsSectionText Inner host before section text
   as_guids : is_guid_list host section ≡ true → text ≡ guids_line section.body → IsSectionText Inner host before section text
   as_script : (script : Script) → SaysScript host before section script → text ≡ script_lines script → IsSectionText Inner host before section text
   as_bytes : ((inner : List ℕ) → SaysVolume Inner host section inner → ⊥)
-      → ((phase : Phase) (expression : Depex) → SaysExpression host.kind section phase expression → ⊥)
+      → ((phase : Phase) (expression : Depex) → SaysExpression host.kind before section phase expression → ⊥)
       → is_guid_list host section ≡ false
       → ((script : Script) → SaysScript host before section script → ⊥) → text ≡ section_line section → IsSectionText Inner host before section text
 

@@ -219,10 +219,10 @@ files_go form _ _ _ (section lines called files old next line kind body say says
     last (Filling below (opened_with form len None [])) (Filling below (opened_with form len called (files ++ old ∷ []))) (Filling below (opened_with form len called (files ++ next ∷ []))) all lines line is
     (λ front front_is. files_go form lines called (files ++ old ∷ []) say below len front front_is)
     (λ number. (Ok (said.Section kind body), says, sym (ap (at number) (section_taken below form len called files old next (section_of kind body) holds))))
-files_go form _ _ _ (depex lines called files old next line phase body say says part holds) below len all is =
+files_go form _ _ _ (depex lines called files old next line phase body say says part unique holds) below len all is =
     last (Filling below (opened_with form len None [])) (Filling below (opened_with form len called (files ++ old ∷ []))) (Filling below (opened_with form len called (files ++ next ∷ []))) all lines line is
     (λ front front_is. files_go form lines called (files ++ old ∷ []) say below len front front_is)
-    (λ number. (Ok (said.Depex phase body), says, rw (last_push files old, part, holds) refl))
+    (λ number. (Ok (said.Depex phase body), says, rw (last_push files old, part, unique, holds) refl))
 files_go form _ _ _ (script lines called files old next line phase inner blocks end body say says part unique wrote ends spelled holds) below len all is =
     let top = opened_with form len called (files ++ old ∷ []) in
     scripted (Filling below (opened_with form len None [])) (Filling below (opened_with form len called (files ++ next ∷ []))) all lines line inner end is (Filling below top)

@@ -14,7 +14,7 @@ use Rattle.volume_text.specs.declared.fault.TextFault.TheVariants as text_fault
 use Rattle.volume_text.specs.{declared.volume.OpenVolume.OpenVolume, declared.step.State.State, declared.fault.Cause.Cause, Line.Reads}
 use Rattle.volume_text.specs.declared.step.State.TheVariants.{Begin, Filling, Writing, Done}
 use Rattle.volume_text.specs.Reading.{◌>>=◌, Stops, Gives, StopsAs, StopsText, Answers, at}
-use Rattle.volume_text.specs.Open.{with_section, depex_type, part_checked, built_of}
+use Rattle.volume_text.specs.Open.{with_section, depex_type, depex_checked, built_of}
 use Rattle.volume_text.specs.Script.{last_block, script_of, with_block, IsScriptBody}
 use Rattle.volume_text.specs.Step.{IsSaidState, section_of, with_top, filling, nested_in, nested, with_depex, last_volume, closed_in, closed, at_line, EndsScript, Takes, Steps}
 use Rattle.volume_text.proofs.Lasts.{last_is}
@@ -95,7 +95,7 @@ filling_said below top section made = gives_said made (filling below top section
 
 pub depex_said : (below : List OpenVolume) (top : OpenVolume) (phase : Phase) (body : List ℕ) (made : Result State Stop) → Gives (λ x. x) made (with_depex below top phase body) → IfOk made IsSaidState
 depex_said below top phase body made =
-    gives_said made (with_depex below top phase body) (part_said below top (section_of (depex_type phase) body) (part_checked phase top))
+    gives_said made (with_depex below top phase body) (part_said below top (section_of (depex_type phase) body) (depex_checked phase top))
 
 pub closed_said : (below : List OpenVolume) (top : OpenVolume) (made : Result State Stop) → Gives (λ x. x) made (closed below top) → IfOk made IsSaidState
 closed_said below top made = gives_said made (closed below top) (built_said below (built_of top))

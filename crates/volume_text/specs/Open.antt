@@ -1,9 +1,9 @@
 -- What is open behind some lines of a text (own): a volume with its files so far, of which the last may get sections.
-use Rattle.std.specs.Prelude.{◌≡◌, ℕ, ◌^◌, Bool, false, ◌&&◌, ◌==◌, not, nat_lt, replicate, take, bytes_eq, if◌then◌else◌, List, [], ◌∷◌, ◌++◌, length, Option, Some, None, Result, Ok, Err}
+use Rattle.std.specs.Prelude.{◌≡◌, ℕ, ◌^◌, Bool, false, ◌&&◌, ◌||◌, ◌==◌, not, nat_lt, replicate, take, bytes_eq, if◌then◌else◌, List, [], ◌∷◌, ◌++◌, length, Option, Some, None, Result, Ok, Err}
 use Rattle.std.specs.{List.list_any, Borrow.Bor}
 use Rattle.pi_base.specs.{declared.guid.Guid.Guid, declared.phase.Phase.Phase}
 use Rattle.pi_base.specs.declared.phase.Phase.TheVariants.{Pei, Dxe}
-use Rattle.fv_volume.specs.declared.file_type.TheConstants.{PEIM, DRIVER, COMBINED_MM_DXE, PAD}
+use Rattle.fv_volume.specs.declared.file_type.TheConstants.{PEIM, DRIVER, COMBINED_PEIM_DRIVER, COMBINED_MM_DXE, PAD}
 use Rattle.fv_volume.specs.declared.sections.section_type.TheConstants.{RAW, PEI_DEPEX, DXE_DEPEX}
 use Rattle.fv_volume.specs.{declared.build.new_file.NewFile.NewFile, declared.build.new_file.NewSection.NewSection}
 use Rattle.fv_volume.specs.declared.build.new_file.Body.{Body}
@@ -98,10 +98,21 @@ abbrev pub depex_type : Phase → ℕ
 depex_type Pei = PEI_DEPEX
 depex_type Dxe = DXE_DEPEX
 
--- a PEIM has a part for PEI alone, a driver and an MM module of DXE one for DXE alone (PI 1.8, volume 3, file types)
+-- a PEIM has a part for PEI, a driver and an MM module of DXE one for DXE, and a PEIM and driver in one file both (PI 1.8, volume 3, file types)
 abbrev pub has_part : ℕ → Phase → Bool
-has_part kind Pei = not (kind == DRIVER) && not (kind == COMBINED_MM_DXE)
-has_part kind Dxe = not (kind == PEIM)
+has_part kind Pei = (kind == PEIM) || (kind == COMBINED_PEIM_DRIVER)
+has_part kind Dxe = (kind == DRIVER) || ((kind == COMBINED_PEIM_DRIVER) || (kind == COMBINED_MM_DXE))
+
+-- the section has the expression for a phase
+abbrev pub is_depex_of : Phase → NewSection → Bool
+is_depex_of phase section = section.kind == depex_type phase
+
+abbrev pub is_depex_in : Phase → Body → Bool
+is_depex_in phase (Sections sections) = list_any (is_depex_of phase) sections
+is_depex_in phase (Bytes bytes) = false
+
+abbrev pub has_depex : Phase → NewFile → Bool
+has_depex phase file = is_depex_in phase file.body
 
 abbrev pub phase_byte : Phase → ℕ
 phase_byte Pei = 1
@@ -148,6 +159,17 @@ only_first phase (Some parts) = only_without_script phase parts.1
 -- the last file may get a script of a phase
 abbrev pub script_checked : Phase → OpenVolume → Result (Unit {0}) Cause
 script_checked phase volume = part_checked phase volume >>= (λ _. only_first phase (last_of volume.files))
+
+abbrev pub only_without_depex : Phase → NewFile → Result (Unit {0}) Cause
+only_without_depex phase file = only_if (not (has_depex phase file)) cause.TwoDepex tt
+
+abbrev pub only_first_depex : Phase → Option (List NewFile × NewFile) → Result (Unit {0}) Cause
+only_first_depex phase None = Err cause.NoFile
+only_first_depex phase (Some parts) = only_without_depex phase parts.1
+
+-- the last file may get an expression for a phase
+abbrev pub depex_checked : Phase → OpenVolume → Result (Unit {0}) Cause
+depex_checked phase volume = part_checked phase volume >>= (λ _. only_first_depex phase (last_of volume.files))
 
 -- what stands against a volume, as what is wrong with its `end`
 abbrev pub stop_of : BuildFault → Stop

@@ -15,7 +15,7 @@ use Rattle.volume_text.specs.declared.statement.Statement.TheVariants as stateme
 use Rattle.volume_text.specs.{declared.volume.OpenVolume.OpenVolume, declared.step.State.State, Line.Reads}
 use Rattle.volume_text.specs.declared.step.State.TheVariants.{Begin, Filling, Writing, Done}
 use Rattle.volume_text.specs.Reading.{◌>>=◌, at, onward}
-use Rattle.volume_text.specs.Open.{last_of, with_section, with_last_body, with_file, with_pad, with_name, depex_type, part_checked, script_checked, built_of}
+use Rattle.volume_text.specs.Open.{last_of, with_section, with_last_body, with_file, with_pad, with_name, depex_type, depex_checked, script_checked, built_of}
 use Rattle.volume_text.specs.Script.{script_of, with_block, with_action, IsScriptBody}
 
 -- the actions of the script that is open are such as lines say
@@ -52,7 +52,7 @@ abbrev pub nested : List OpenVolume → OpenVolume → VolumeForm → ℕ → Re
 nested below top form len = nested_in top.files below top form len
 
 abbrev pub with_depex : List OpenVolume → OpenVolume → Phase → List ℕ → Result State Cause
-with_depex below top phase body = part_checked phase top >>= (λ _. filling below top (section_of (depex_type phase) body))
+with_depex below top phase body = depex_checked phase top >>= (λ _. filling below top (section_of (depex_type phase) body))
 
 abbrev pub with_script : List OpenVolume → OpenVolume → Phase → Result State Cause
 with_script below top phase = script_checked phase top >>= (λ _. Ok (Writing below top (script_of phase []) []))

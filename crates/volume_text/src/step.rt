@@ -9,7 +9,7 @@ use crate::line::read_line;
 use crate::script::{add_action, add_block, script_body};
 use crate::statement::Statement;
 use crate::volume::{
-    OpenVolume, add_file, add_pad, add_section, built_of, depex_type, part_checked, script_checked,
+    OpenVolume, add_file, add_pad, add_section, built_of, depex_checked, depex_type, script_checked,
     set_last_body, set_name,
 };
 use act_code::Script;
@@ -116,7 +116,7 @@ fn with_depex(
 ) -> Result<State, Stop>
     ensures { Gives (λ x. x) result (with_depex below top phase body) }
 {
-    part_checked(&top, phase)?;
+    depex_checked(&top, phase)?;
     let kind = depex_type(phase);
     filling(below, top, NewSection { kind, body })
 }

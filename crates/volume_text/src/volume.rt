@@ -1,14 +1,14 @@
 // What is open behind some lines of a text: volumes, one in a file of the other, and in the last file of the innermost maybe a script.
 ghost use Rattle.std.specs.Prelude.{◌≡◌, ◌<◌, ◌^◌, Ok, IfOk, take};
 ghost use Rattle.volume_text.specs.Reading.{Gives};
-ghost use Rattle.volume_text.specs.Open.{holding, with_bytes, with_section, with_last_body, with_file, pad_file, with_pad, with_name, is_in_range, depex_type, has_part, script_front, is_script_of, has_script, IsLastFile, part_checked, script_checked, stop_of, built_of};
+ghost use Rattle.volume_text.specs.Open.{holding, with_bytes, with_section, with_last_body, with_file, pad_file, with_pad, with_name, is_in_range, depex_type, has_part, has_depex, script_front, is_script_of, has_script, IsLastFile, part_checked, script_checked, depex_checked, stop_of, built_of};
 
 use crate::fault::{Cause, Stop};
 use crate::word::{is_header, is_length};
 use fv_volume::build::{
     Body, BuildFault, FileAttributes, NewFile, NewSection, VolumeForm, VolumeName, build, is_placed,
 };
-use fv_volume::file_type::{COMBINED_MM_DXE, DRIVER, PAD, PEIM};
+use fv_volume::file_type::{COMBINED_MM_DXE, COMBINED_PEIM_DRIVER, DRIVER, PAD, PEIM};
 use fv_volume::sections::section_type::{DXE_DEPEX, PEI_DEPEX, RAW};
 use pi_base::{Guid, OutOfMemory, Phase, Seq};
 use std::alloc::Global;
@@ -150,7 +150,7 @@ pub(crate) fn set_name(volume: &mut OpenVolume, name: VolumeName) -> Result<(), 
 }
 
 /// The type of the section with the expression for a phase.
-pub(crate) fn depex_type(phase: Phase) -> u8
+pub fn depex_type(phase: Phase) -> u8
     ensures { result ≡ depex_type phase }
 {
     match phase {
@@ -164,8 +164,8 @@ pub fn has_part(kind: u8, phase: Phase) -> bool
     ensures { result ≡ has_part kind phase }
 {
     match phase {
-        Phase::Pei => kind != DRIVER && kind != COMBINED_MM_DXE,
-        Phase::Dxe => kind != PEIM,
+        Phase::Pei => kind == PEIM || kind == COMBINED_PEIM_DRIVER,
+        Phase::Dxe => kind == DRIVER || kind == COMBINED_PEIM_DRIVER || kind == COMBINED_MM_DXE,
     }
 }
 
@@ -212,6 +212,21 @@ fn has_script(file: &NewFile, phase: Phase) -> bool
     false
 }
 
+// Whether a file has an expression for a phase.
+fn has_depex(file: &NewFile, phase: Phase) -> bool
+    ensures { result ≡ has_depex phase file.now }
+{
+    let Body::Sections(sections) = &file.body else {
+        return false;
+    };
+    'sections: for section in sections.as_slice() {
+        if section.kind == depex_type(phase) {
+            return true;
+        }
+    }
+    false
+}
+
 // The last of the files.
 fn last_file(files: &[NewFile]) -> Option<&NewFile>
     ensures { IsLastFile result files.now }
@@ -247,6 +262,23 @@ pub(crate) fn script_checked(volume: &OpenVolume, phase: Phase) -> Result<(), St
         Some(last) => {
             if has_script(last, phase) {
                 Err(Stop::Fault(Cause::TwoScripts))
+            } else {
+                Ok(())
+            }
+        }
+        None => Err(Stop::Fault(Cause::NoFile)),
+    }
+}
+
+/// That the last file may get an expression for a phase.
+pub(crate) fn depex_checked(volume: &OpenVolume, phase: Phase) -> Result<(), Stop>
+    ensures { Gives (λ x. x) result (depex_checked phase volume.now) }
+{
+    part_checked(volume, phase)?;
+    match last_file(volume.files.as_slice()) {
+        Some(last) => {
+            if has_depex(last, phase) {
+                Err(Stop::Fault(Cause::TwoDepex))
             } else {
                 Ok(())
             }
