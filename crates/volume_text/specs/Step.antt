@@ -35,9 +35,9 @@ begun (statement.Volume form len) = Ok (Filling [] (new_volume form len))
 begun _ = Err cause.NoVolume
 
 -- the innermost volume as it has become
-abbrev pub with_top : List OpenVolume → OpenVolume → Result (Unit {0}) Stop → Result State Stop
-with_top below top (Ok done) = Ok (Filling below top)
-with_top below top (Err e) = Err e
+abbrev pub filling_with : List OpenVolume → Result OpenVolume Stop → Result State Stop
+filling_with below (Ok top) = Ok (Filling below top)
+filling_with below (Err e) = Err e
 
 -- a section more in the last file
 abbrev pub filling : List OpenVolume → OpenVolume → NewSection → Result State Cause
@@ -72,7 +72,7 @@ closed below top = built_of top >>= (λ bytes. closed_in bytes (last_volume belo
 abbrev pub filled : List OpenVolume → OpenVolume → Statement → Result State Cause
 filled below top (statement.Volume form len) = nested below top form len
 filled below top (statement.Name name) = with_name top name >>= (λ top. Ok (Filling below top))
-filled below top (statement.Pad len) = Ok (Filling below (with_pad top len))
+filled below top (statement.Pad len) = with_pad top len >>= (λ top. Ok (Filling below top))
 filled below top (statement.File kind name attributes) = Ok (Filling below (with_file top kind name attributes))
 filled below top (statement.Body bytes) = with_last_body top bytes >>= (λ top. Ok (Filling below top))
 filled below top (statement.Section kind body) = filling below top (section_of kind body)

@@ -4,6 +4,7 @@
 #![tactic(auto)]
 
 mod bytes;
+mod counted;
 mod fault;
 mod keyword;
 mod law;

@@ -1,7 +1,7 @@
 // What is open behind some lines of a text: volumes, one in a file of the other, and in the last file of the innermost maybe a script.
 ghost use Rattle.std.specs.Prelude.{◌≡◌, ◌<◌, ◌^◌, Ok, IfOk, take};
 ghost use Rattle.volume_text.specs.Reading.{Gives};
-ghost use Rattle.volume_text.specs.Open.{holding, with_bytes, with_section, with_last_body, with_file, pad_file, with_pad, with_name, is_in_range, depex_type, has_part, has_depex, script_front, is_script_of, has_script, IsLastFile, part_checked, script_checked, depex_checked, stop_of, built_of};
+ghost use Rattle.volume_text.specs.Open.{holding, with_bytes, section_added, last_body_set, with_new_file, with_file, pad_file, with_name, is_in_range, depex_type, has_part, has_depex, script_front, is_script_of, has_script, IsLastFile, part_checked, script_checked, depex_checked, stop_of, built_of};
 
 use crate::fault::{Cause, Stop};
 use crate::word::{is_header, is_length};
@@ -56,7 +56,7 @@ fn fill(file: &mut NewFile, bytes: Seq<u8>) -> Result<(), Stop>
 
 /// Gives the last file of a volume one more section.
 pub(crate) fn add_section(volume: &mut OpenVolume, section: NewSection) -> Result<(), Stop>
-    ensures { Gives (λ _. volume.new) result (with_section volume.old section) }
+    ensures { Gives (λ _. volume.new) result (section_added volume.old section) }
 {
     let Some(mut last) = volume.files.pop() else {
         return Err(Stop::Fault(Cause::NoFile));
@@ -75,7 +75,7 @@ pub(crate) fn add_section(volume: &mut OpenVolume, section: NewSection) -> Resul
 
 /// Makes these bytes the body of the last file of a volume.
 pub(crate) fn set_last_body(volume: &mut OpenVolume, bytes: Seq<u8>) -> Result<(), Stop>
-    ensures { Gives (λ _. volume.new) result (with_last_body volume.old bytes) }
+    ensures { Gives (λ _. volume.new) result (last_body_set volume.old bytes) }
 {
     let Some(mut last) = volume.files.pop() else {
         return Err(Stop::Fault(Cause::NoFile));
@@ -128,7 +128,7 @@ fn pad_file(alloc: Global, len: u64) -> Result<NewFile, OutOfMemory>
 
 /// Gives a volume one more pad file.
 pub(crate) fn add_pad(alloc: Global, volume: &mut OpenVolume, len: u64) -> Result<(), Stop>
-    ensures { Gives (λ _. volume.new) result (Ok (with_pad volume.old len)) }
+    ensures { Gives (λ _. volume.new) result (Ok (with_new_file volume.old (pad_file len))) }
 {
     let file = pad_file(alloc, len)?;
     volume.files.push(file)?;
