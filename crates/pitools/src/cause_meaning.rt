@@ -124,7 +124,7 @@ static SOURCE_WORDS: [(&str, &str); 40] = [
     ),
     (
         "NoRoom",
-        "ends a volume that has too few bytes; the last number above is what it needs",
+        "needs more bytes than its volume has; the last number above is what the volume needs so far, and at its end all that it needs",
     ),
 ];
 

@@ -93,12 +93,19 @@ fn depex_phase(kind: u8) -> Option<Phase>
     }
 }
 
-// Whether one of the sections has the expression for a phase, whatever its bytes are.
+// Whether a section has the expression for a phase, whatever its bytes are.
+fn is_depex_of(section: &Section, phase: Phase) -> bool
+    ensures { (stream : List ℕ) → result ≡ is_depex_of phase (section_in stream section.now) }
+{
+    section.kind == depex_type(phase)
+}
+
+// Whether one of the sections has the expression for a phase.
 fn has_depex(sections: &[Section], phase: Phase) -> bool
     ensures { (stream : List ℕ) → result ≡ list_any (is_depex_of phase) (map (section_in stream) sections.now) }
 {
     'sections: for section in sections {
-        if section.kind == depex_type(phase) {
+        if is_depex_of(section, phase) {
             return true;
         }
     }

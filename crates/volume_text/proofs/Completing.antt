@@ -17,7 +17,7 @@ use Rattle.volume_text.specs.Step.{Steps, Takes, section_of, nested_in}
 use Rattle.volume_text.specs.Volume.{SaysLine, SayBlocks, no_block, block, action, SayFiles, no_file, named, padded, file, bodied, section, depex, script, volume}
 use Rattle.volume_text.specs.Text.{numbered, Goes, Says, Leads}
 use Rattle.volume_text.proofs.{Lasts.last_push, Wholeness.none_wrong, Fitting.built_fits}
-use Rattle.volume_text.proofs.Counting.{fits, holding_more, bytes_more, held_push, pad_held, last_held}
+use Rattle.volume_text.proofs.Counting.{has_room, holding_more, bytes_more, held_push, pad_held, last_held}
 
 abbrev pub Lines : Type 0
 Lines = List (ℕ × List ℕ)
@@ -153,7 +153,7 @@ opened_with form len called files = record { form = form; len = len; name = call
 -- a section more in the last file
 section_taken : (below : List OpenVolume) (form : VolumeForm) (len : ℕ) (called : Option VolumeName) (files : List NewFile) (last next : NewFile) (one : NewSection) → holding one last ≡ Ok next → bytes_held (files ++ next ∷ []) ≤ len
     → Rattle.volume_text.specs.Step.filling below (opened_with form len called (files ++ last ∷ [])) one ≡ Ok (Filling below (opened_with form len called (files ++ next ∷ [])))
-section_taken below form len called files last next one holds few = rw (last_push files last, holds, fits (opened_with form len called (files ++ next ∷ [])) few) refl
+section_taken below form len called files last next one holds few = rw (last_push files last, holds, has_room (bytes_held (files ++ next ∷ [])) len few) refl
 
 pub some_file : (files : List NewFile) (last : NewFile) (below : List OpenVolume) (top : OpenVolume) (form : VolumeForm) (len : ℕ)
     → nested_in (files ++ last ∷ []) below top form len ≡ Ok (Filling (below ++ top ∷ []) (opened_with form len None []))
@@ -211,7 +211,7 @@ files_go form _ _ _ (named lines files line name say says placed) below len all 
 files_go form _ _ _ (padded lines called files line size say says) below len all few is =
     last (Filling below (opened_with form len None [])) (Filling below (opened_with form len called files)) (Filling below (opened_with form len called (files ++ pad_file size ∷ []))) all lines line is
     (λ front front_is. files_go form lines called files say below len front (omega (arith, few, pad_held files size)) front_is)
-    (λ number. (Ok (said.Pad size), says, rw (fits (opened_with form len called (files ++ pad_file size ∷ [])) few) refl))
+    (λ number. (Ok (said.Pad size), says, rw (has_room (bytes_held (files ++ pad_file size ∷ [])) len few) refl))
 files_go form _ _ _ (file lines called files line kind name attributes say says) below len all few is =
     last (Filling below (opened_with form len None [])) (Filling below (opened_with form len called files)) (Filling below (opened_with form len called (files ++ new_file kind name attributes ∷ []))) all lines line is
     (λ front front_is. files_go form lines called files say below len front (omega (arith, few, held_push files (new_file kind name attributes))) front_is)
@@ -219,7 +219,7 @@ files_go form _ _ _ (file lines called files line kind name attributes say says)
 files_go form _ _ _ (bodied lines called files old next line body say says holds) below len all few is =
     last (Filling below (opened_with form len None [])) (Filling below (opened_with form len called (files ++ old ∷ []))) (Filling below (opened_with form len called (files ++ next ∷ []))) all lines line is
     (λ front front_is. files_go form lines called (files ++ old ∷ []) say below len front (omega (arith, few, last_held files old next (length body) (bytes_more body old next holds))) front_is)
-    (λ number. (Ok (said.Body body), says, rw (last_push files old, holds, fits (opened_with form len called (files ++ next ∷ [])) few) refl))
+    (λ number. (Ok (said.Body body), says, rw (last_push files old, holds, has_room (bytes_held (files ++ next ∷ [])) len few) refl))
 files_go form _ _ _ (section lines called files old next line kind body say says holds) below len all few is =
     last (Filling below (opened_with form len None [])) (Filling below (opened_with form len called (files ++ old ∷ []))) (Filling below (opened_with form len called (files ++ next ∷ []))) all lines line is
     (λ front front_is. files_go form lines called (files ++ old ∷ []) say below len front (fewer files old next (section_of kind body) len holds few) front_is)
@@ -227,7 +227,7 @@ files_go form _ _ _ (section lines called files old next line kind body say says
 files_go form _ _ _ (depex lines called files old next line phase body say says part unique holds) below len all few is =
     last (Filling below (opened_with form len None [])) (Filling below (opened_with form len called (files ++ old ∷ []))) (Filling below (opened_with form len called (files ++ next ∷ []))) all lines line is
     (λ front front_is. files_go form lines called (files ++ old ∷ []) say below len front (fewer files old next (section_of (depex_type phase) body) len holds few) front_is)
-    (λ number. (Ok (said.Depex phase body), says, rw (last_push files old, part, unique, holds, fits (opened_with form len called (files ++ next ∷ [])) few) refl))
+    (λ number. (Ok (said.Depex phase body), says, rw (last_push files old, part, unique, holds, has_room (bytes_held (files ++ next ∷ [])) len few) refl))
 files_go form _ _ _ (script lines called files old next line phase inner blocks end body say says part unique wrote ends spelled holds) below len all few is =
     let top = opened_with form len called (files ++ old ∷ []) in
     scripted (Filling below (opened_with form len None [])) (Filling below (opened_with form len called (files ++ next ∷ []))) all lines line inner end is (Filling below top)

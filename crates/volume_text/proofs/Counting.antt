@@ -15,17 +15,11 @@ same_Ok : {A E : Type 0} (x y : A) → ◌≡◌ {A = Result A E} (Ok x) (Ok y) 
 same_Ok x y e = cc
 
 -- there is room, or there is none
-pub room_there : (held len : ℕ) → held ≤ len → room_for held len ≡ Ok held
-room_there held len fits = let test : nat_le held len ≡ true = grind (arith, nat_tests) in rw test refl
+pub has_room : (held len : ℕ) → held ≤ len → nat_le held len ≡ true
+has_room held len few = grind (arith, nat_tests)
 
-pub room_not : (held len : ℕ) → len < held → room_for held len ≡ Err (cause.NoRoom (min held (2 ^ 64 - 1)))
-room_not held len over = let test : nat_le held len ≡ false = grind (arith, nat_tests) in rw test refl
-
-pub fits : (volume : OpenVolume) → bytes_held volume.files ≤ volume.len → fitting volume ≡ Ok volume
-fits volume few = ap (λ (r : Result ℕ Cause). r >>= (λ _. Ok volume)) (room_there (bytes_held volume.files) volume.len few)
-
-pub overflows : (volume : OpenVolume) → volume.len < bytes_held volume.files → fitting volume ≡ Err (cause.NoRoom (min (bytes_held volume.files) (2 ^ 64 - 1)))
-overflows volume over = ap (λ (r : Result ℕ Cause). r >>= (λ _. Ok volume)) (room_not (bytes_held volume.files) volume.len over)
+pub has_none : (held len : ℕ) → len < held → nat_le held len ≡ false
+has_none held len over = grind (arith, nat_tests)
 
 -- a volume that fits is the same
 fitted_by : (r : Result ℕ Cause) (volume next : OpenVolume) → (r >>= (λ _. Ok volume)) ≡ Ok next → volume ≡ next
@@ -43,7 +37,7 @@ fitted_of (Err c) next e = absurd cc
 holding_by : (one : NewSection) (last next : NewFile) (body : Body) → last.body ≡ body → held_in one last body ≡ Ok next → bytes_held_in next.body ≡ bytes_held_in last.body + length one.body
 holding_by one last next (Sections sections) is e =
     let same : with_body last (Sections (sections ++ one ∷ [])) ≡ next = same_Ok (with_body last (Sections (sections ++ one ∷ []))) next e in
-    ap (λ (f : NewFile). bytes_held_in f.body) (sym same) ∙ sum_by_push (λ s. length s.body) sections one ∙ ap (λ b. bytes_held_in b + length one.body) (sym is)
+    ap (λ (f : NewFile). bytes_held_in f.body) (sym same) ∙ sum_by_push (λ (s : NewSection). length s.body) sections one ∙ ap (λ b. bytes_held_in b + length one.body) (sym is)
 holding_by one last next (Bytes bytes) is e = absurd cc
 
 pub holding_more : (one : NewSection) (last next : NewFile) → holding one last ≡ Ok next → bytes_held_in next.body ≡ bytes_held_in last.body + length one.body
@@ -67,10 +61,10 @@ bytes_more bytes last next e = bytes_by bytes last next (is_empty last.body) ref
 
 -- a file more
 pub held_push : (files : List NewFile) (file : NewFile) → bytes_held (files ++ file ∷ []) ≡ bytes_held files + bytes_held_in file.body
-held_push files file = sum_by_push (λ f. bytes_held_in f.body) files file
+held_push files file = sum_by_push (λ (f : NewFile). bytes_held_in f.body) files file
 
 pub pad_held : (files : List NewFile) (len : ℕ) → bytes_held (files ++ pad_file len ∷ []) ≡ bytes_held files + len
-pad_held files len = held_push files (pad_file len) ∙ ap (λ n. bytes_held files + n) (length-replicate len 255)
+pad_held files len = let byte : ℕ = 255 in held_push files (pad_file len) ∙ ap (λ n. bytes_held files + n) (length-replicate len byte)
 
 -- the last file as it has become
 pub last_held : (files : List NewFile) (last next : NewFile) (more : ℕ) → bytes_held_in next.body ≡ bytes_held_in last.body + more

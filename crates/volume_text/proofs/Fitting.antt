@@ -1,7 +1,7 @@
 -- A volume that is built has room for the bytes in its files.
 use Rattle.std.proofs.Common.{◌≡◌, ℕ, ◌+◌, ◌≤◌, Bool, true, false, List, [], ◌∷◌, ◌++◌, length, map, Some, None, Result, Ok, Err, refl, arith, min, ◌-◌, ◌^◌, replicate, length-append, length-replicate, nat_lt, if◌then◌else◌}
 use Rattle.std.specs.List.{list_any, sum_by}
-use Rattle.std.proofs.{lemmas.Bool.Decides.nat_tests}
+use Rattle.std.proofs.{lemmas.Bool.Decides.nat_tests, lemmas.List.Sums.sum_by-cons}
 use Rattle.fv_volume.specs.{declared.build.new_file.NewFile.NewFile, declared.build.new_file.NewSection.NewSection}
 use Rattle.fv_volume.specs.declared.build.new_file.Body.{Body}
 use Rattle.fv_volume.specs.declared.build.new_file.Body.TheVariants.{Sections, Bytes}
@@ -18,13 +18,15 @@ laid_long alignment between from [] = omega arith
 laid_long alignment between from (text ∷ texts) =
     let next = laid alignment between (from + gap alignment from + length text) texts in
     let rest = laid_long alignment between (from + gap alignment from + length text) texts in
-    omega (arith, rest, length-append (replicate (gap alignment from) between) (text ++ next), length-append text next)
+    omega (arith, rest, length-append (replicate (gap alignment from) between) (text ++ next), length-append text next, sum_by-cons length text texts)
 
 sections_long : (file_system : FileSystem) (sections : List NewSection) → sum_by (λ section. length section.body) sections ≤ sum_by length (map (section_bytes file_system) sections)
 sections_long file_system [] = omega arith
 sections_long file_system (section ∷ sections) =
     let own = length-append (section_header file_system section.kind (length section.body)) section.body in
-    omega (arith, own, sections_long file_system sections)
+    let bodies = sum_by-cons (λ (s : NewSection). length s.body) section sections in
+    let texts = sum_by-cons length (section_bytes file_system section) (map (section_bytes file_system) sections) in
+    omega (arith, own, bodies, texts, sections_long file_system sections)
 
 body_long : (file_system : FileSystem) (body : Body) → bytes_held_in body ≤ length (bytes_in file_system body)
 body_long file_system (Sections sections) = omega (arith, sections_long file_system sections, laid_long 4 0 0 (map (section_bytes file_system) sections))
@@ -35,7 +37,9 @@ files_long file_system [] = omega arith
 files_long file_system (file ∷ files) =
     let body = bytes_in file_system file.body in
     let own = length-append (file_header (head_of file_system file (length body))) body in
-    omega (arith, own, body_long file_system file.body, files_long file_system files)
+    let bodies = sum_by-cons (λ (f : NewFile). bytes_held_in f.body) file files in
+    let texts = sum_by-cons length (file_bytes file_system file) (map (file_bytes file_system) files) in
+    omega (arith, own, bodies, texts, body_long file_system file.body, files_long file_system files)
 
 -- what is built has room
 room_by : (volume : OpenVolume) (bytes : List ℕ) (range many long short : Bool) (n : ℕ)

@@ -12,7 +12,7 @@ use Rattle.volume_text.specs.{Reading.at, Open.holding, Open.new_file, Open.pad_
 use Rattle.volume_text.specs.{Script.script_of, Step.Steps, Step.section_of, Step.filling, Text.Goes}
 use Rattle.volume_text.specs.Volume.{SayFiles, no_file, named, padded, file, bodied, section, depex, script, volume}
 use Rattle.volume_text.proofs.{Lasts.last_push, Wholeness.none_wrong, Fitting.built_fits}
-use Rattle.volume_text.proofs.Counting.{overflows, holding_more, bytes_more, held_push, pad_held, last_held}
+use Rattle.volume_text.proofs.Counting.{has_none, held_push}
 use Rattle.volume_text.proofs.Completing.{Lines, bare, parts, one, first, both, blocks_go, opened_with, some_file, files_go}
 
 abbrev pub no_room : ℕ → ℕ → Fault
@@ -97,7 +97,7 @@ decided from all held len false is over few = over (grind (arith, nat_tests))
 section_not : (below : List OpenVolume) (form : VolumeForm) (len : ℕ) (called : Option VolumeName) (files : List NewFile) (last next : NewFile) (one : NewSection) → holding one last ≡ Ok next
     → len < bytes_held (files ++ next ∷ [])
     → filling below (opened_with form len called (files ++ last ∷ [])) one ≡ Err (cause.NoRoom (min (bytes_held (files ++ next ∷ [])) (2 ^ 64 - 1)))
-section_not below form len called files last next one holds over = rw (last_push files last, holds, overflows (opened_with form len called (files ++ next ∷ [])) over) refl
+section_not below form len called files last next one holds over = rw (last_push files last, holds, has_none (bytes_held (files ++ next ∷ [])) len over) refl
 
 pub files_over : (form : VolumeForm) (lines : List (List ℕ)) (called : Option VolumeName) (files : List NewFile) → SayFiles form.header_len lines called files → (below : List OpenVolume) (len : ℕ) (all : Lines)
     → len < bytes_held files → bare all ≡ lines → Refuses (Filling below (opened_with form len None [])) all
@@ -111,7 +111,7 @@ files_over form _ _ _ (padded lines called files line size say says) below len a
     (λ more. before_it from all lines (line ∷ []) is (λ front front_is. files_over form lines called files say below len front more front_is))
     (λ few. at_last from (Filling below (opened_with form len called files)) all lines line (min (bytes_held top.files) (2 ^ 64 - 1)) is
     (λ front front_is. files_go form lines called files say below len front few front_is)
-    (λ number. (Ok (said.Pad size), says, rw (overflows top over) refl)))
+    (λ number. (Ok (said.Pad size), says, rw (has_none (bytes_held top.files) len over) refl)))
 files_over form _ _ _ (file lines called files line kind name attributes say says) below len all over is =
     before_it (Filling below (opened_with form len None [])) all lines (line ∷ []) is
     (λ front front_is. files_over form lines called files say below len front (omega (arith, over, held_push files (new_file kind name attributes))) front_is)
@@ -123,7 +123,7 @@ files_over form _ _ _ (bodied lines called files old next line body say says hol
     (λ more. before_it from all lines (line ∷ []) is (λ front front_is. files_over form lines called (files ++ old ∷ []) say below len front more front_is))
     (λ few. at_last from (Filling below (opened_with form len called (files ++ old ∷ []))) all lines line (min (bytes_held top.files) (2 ^ 64 - 1)) is
     (λ front front_is. files_go form lines called (files ++ old ∷ []) say below len front few front_is)
-    (λ number. (Ok (said.Body body), says, rw (last_push files old, holds, overflows top over) refl)))
+    (λ number. (Ok (said.Body body), says, rw (last_push files old, holds, has_none (bytes_held top.files) len over) refl)))
 files_over form _ _ _ (section lines called files old next line kind body say says holds) below len all over is =
     let from = Filling below (opened_with form len None []) in
     let need = min (bytes_held (files ++ next ∷ [])) (2 ^ 64 - 1) in
@@ -141,7 +141,7 @@ files_over form _ _ _ (depex lines called files old next line phase body say say
     (λ more. before_it from all lines (line ∷ []) is (λ front front_is. files_over form lines called (files ++ old ∷ []) say below len front more front_is))
     (λ few. at_last from (Filling below (opened_with form len called (files ++ old ∷ []))) all lines line (min (bytes_held top.files) (2 ^ 64 - 1)) is
     (λ front front_is. files_go form lines called (files ++ old ∷ []) say below len front few front_is)
-    (λ number. (Ok (said.Depex phase body), says, rw (last_push files old, part, unique, holds, overflows top over) refl)))
+    (λ number. (Ok (said.Depex phase body), says, rw (last_push files old, part, unique, holds, has_none (bytes_held top.files) len over) refl)))
 files_over form _ _ _ (script lines called files old next line phase inner blocks end body say says part unique wrote ends spelled holds) below len all over is =
     let from = Filling below (opened_with form len None []) in
     let top = opened_with form len called (files ++ old ∷ []) in

@@ -161,7 +161,7 @@ in_volume lines below top line (said.Name name) to opened says e =
 in_volume lines below top line (said.Pad len) to opened says e =
     let padded_top = with_files top (top.files ++ pad_file len ∷ []) in
     let parts = bound (fitting padded_top) (λ next. Ok (Filling below next)) to e in
-    let is : Ok (Filling below padded_top) ≡ Ok to = ap (λ (v : OpenVolume). Ok (Filling below v)) (fitted padded_top parts.0 parts.1) ∙ parts.2 in
+    let is : ◌≡◌ {A = Result State Cause} (Ok (Filling below padded_top)) (Ok to) = ap (λ (v : OpenVolume). Ok (Filling below v)) (fitted padded_top parts.0 parts.1) ∙ parts.2 in
     subst (λ (s : State). Stands (lines ++ line ∷ []) s) (same_Ok (Filling below padded_top) to is)
     (opened_more lines below top (line ∷ []) top.name (top.files ++ pad_file len ∷ []) opened (λ inner say. padded inner top.name top.files line len say says))
 in_volume lines below top line (said.File kind name attributes) to opened says e =

@@ -1,7 +1,8 @@
 // The laws of texts.
 ghost use Rattle.std.specs.Prelude.{◌≡◌, ℕ, ◌<◌, ◌≤◌, List, None, Ok, Err, All};
 ghost use Rattle.fv_volume.specs.{Files.HasWholeName, Reading.IsReadBack};
-ghost use Rattle.volume_text.specs.{declared.fault.Cause.Cause, declared.fault.Fault.Fault, declared.fault.TextFault.TheVariants.Bad};
+ghost use Rattle.volume_text.specs.{declared.fault.Cause.Cause, declared.fault.Cause.TheVariants.NoRoom};
+ghost use Rattle.volume_text.specs.{declared.fault.Fault.Fault, declared.fault.TextFault.TheVariants.Bad};
 ghost use Rattle.volume_text.specs.{declared.volume.OpenVolume.OpenVolume, Open.bytes_held, Open.built_of};
 ghost use Rattle.volume_text.specs.Text.{Describes, Says, Leads, IsRefused};
 
@@ -27,7 +28,7 @@ pub fn built_or_refused()
         → built_of volume ≡ Err cause
         → (line : ℕ) × IsRefused text (Bad (record { line = line; cause = cause })) }
     ensures early { (text : List ℕ) (volume : OpenVolume) → Describes text volume → volume.len < bytes_held volume.files
-        → (line : ℕ) × (need : ℕ) × IsRefused text (Bad (record { line = line; cause = Cause.NoRoom need })) }
+        → (line : ℕ) × (need : ℕ) × IsRefused text (Bad (record { line = line; cause = NoRoom need })) }
 {}
 
 /// A volume without a name that a text describes is read again: the reader finds the files that the lines say, with their names, types and sections.

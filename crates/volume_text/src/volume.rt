@@ -1,7 +1,7 @@
 // What is open behind some lines of a text: volumes, one in a file of the other, and in the last file of the innermost maybe a script.
 ghost use Rattle.std.specs.Prelude.{◌≡◌, ◌<◌, ◌^◌, Ok, IfOk, take};
 ghost use Rattle.volume_text.specs.Reading.{Gives};
-ghost use Rattle.volume_text.specs.Open.{holding, with_bytes, section_added, last_body_set, with_new_file, with_file, pad_file, with_name, is_in_range, depex_type, has_part, has_depex, script_front, is_script_of, has_script, IsLastFile, part_checked, script_checked, depex_checked, stop_of, built_of};
+ghost use Rattle.volume_text.specs.Open.{holding, with_bytes, section_added, last_body_set, with_new_file, with_file, pad_file, with_name, is_in_range, depex_type, has_part, is_depex_of, has_depex, script_front, is_script_of, has_script, IsLastFile, part_checked, script_checked, depex_checked, stop_of, built_of};
 
 use crate::fault::{Cause, Stop};
 use crate::word::{is_header, is_length};
@@ -212,6 +212,13 @@ fn has_script(file: &NewFile, phase: Phase) -> bool
     false
 }
 
+// Whether a section has the expression for a phase.
+fn is_depex_of(section: &NewSection, phase: Phase) -> bool
+    ensures { result ≡ is_depex_of phase section.now }
+{
+    section.kind == depex_type(phase)
+}
+
 // Whether a file has an expression for a phase.
 fn has_depex(file: &NewFile, phase: Phase) -> bool
     ensures { result ≡ has_depex phase file.now }
@@ -220,7 +227,7 @@ fn has_depex(file: &NewFile, phase: Phase) -> bool
         return false;
     };
     'sections: for section in sections.as_slice() {
-        if section.kind == depex_type(phase) {
+        if is_depex_of(section, phase) {
             return true;
         }
     }
