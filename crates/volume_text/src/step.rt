@@ -53,10 +53,7 @@ fn begun(alloc: Global, statement: &Statement) -> Result<State, Stop>
 }
 
 // The innermost volume as it has become, if it has.
-fn filling_with(
-    below: Seq<CountedVolume>,
-    made: Result<CountedVolume, Stop>,
-) -> Result<State, Stop>
+fn filling_with(below: Seq<CountedVolume>, made: Result<CountedVolume, Stop>) -> Result<State, Stop>
     ensures { result ≡ filling_with below made }
 {
     match made {
