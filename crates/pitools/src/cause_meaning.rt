@@ -1,7 +1,7 @@
 // What the cause of a volume's text means.
 
 // The causes, and what each means for the line at fault.
-static SOURCE_WORDS: [(&str, &str); 39] = [
+static SOURCE_WORDS: [(&str, &str); 40] = [
     (
         "UnknownLine",
         "begins no line of a volume; volume, name, file, pad, depex, script, guids, raw, section, body, end do",
@@ -30,7 +30,7 @@ static SOURCE_WORDS: [(&str, &str); 39] = [
     ),
     (
         "FileType",
-        "has no type of a file: peim, driver, combined, freeform, volume-image, mm-dxe, raw, or two hexadecimal digits",
+        "has no type of a file: peim, driver, combined, security-core, pei-core, dxe-core, application, freeform, volume-image, mm-dxe, raw, or two hexadecimal digits",
     ),
     (
         "SectionType",
@@ -97,7 +97,11 @@ static SOURCE_WORDS: [(&str, &str); 39] = [
     ("InScript", "stands in a script that no line end has ended"),
     (
         "NoPart",
-        "is of a phase for which a file of this type has no part",
+        "is of a phase for which a file of this type has no part; peim and combined have one for PEI, driver, combined and mm-dxe for DXE",
+    ),
+    (
+        "TwoDepex",
+        "is a second expression for the phase in one file",
     ),
     (
         "TwoScripts",
@@ -120,7 +124,7 @@ static SOURCE_WORDS: [(&str, &str); 39] = [
     ),
     (
         "NoRoom",
-        "ends a volume that has too few bytes; the last number above is what it needs",
+        "needs more bytes than its volume has; the last number above is what the volume needs so far, and at its end all that it needs",
     ),
 ];
 

@@ -87,6 +87,7 @@ fn source_word(cause: Cause) -> &'static [u8]
         Cause::NoScript => b"NoScript",
         Cause::InScript => b"InScript",
         Cause::NoPart => b"NoPart",
+        Cause::TwoDepex => b"TwoDepex",
         Cause::TwoScripts => b"TwoScripts",
         Cause::TwoBodies => b"TwoBodies",
         Cause::TwoNames => b"TwoNames",

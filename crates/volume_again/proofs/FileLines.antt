@@ -8,7 +8,7 @@ use Rattle.asm_text.specs.ActionText.{action_text}
 use Rattle.asm_text.specs.ScriptText.{line, block_text, action_line, block_lines}
 use Rattle.source_words.proofs.PrintedActions.{IsGoodAction, action_read}
 use Rattle.fv_volume.specs.{declared.build.new_file.NewFile.NewFile, declared.build.new_file.NewSection.NewSection, Reading.AreEach}
-use Rattle.volume_text.specs.{Open.is_script_of, Script.action_at, Script.said_by}
+use Rattle.volume_text.specs.{Open.is_depex_of, Open.is_script_of, Script.action_at, Script.said_by}
 use Rattle.volume_text.specs.Volume.{SayBlocks, no_block, block, action}
 use Rattle.volume_again.specs.Again.{IsSectionAgain}
 use Rattle.volume_again.proofs.TextLines.{Has, has_none, has_line, has_both}
@@ -76,3 +76,12 @@ same_scripts Inner host phase [] (other ∷ others) each = absurd each
 same_scripts Inner host phase (section ∷ sections) [] each = absurd each
 same_scripts Inner host phase (section ∷ sections) (other ∷ others) each =
     rw (same_script Inner host phase section other each.0, same_scripts Inner host phase sections others each.1) refl
+
+-- nor which have expressions
+pub same_depexes : (Inner : List ℕ → List ℕ → Type 0) (host : NewFile) (phase : Phase) (sections others : List NewSection) → AreEach (IsSectionAgain Inner host) sections others
+    → list_any (is_depex_of phase) others ≡ list_any (is_depex_of phase) sections
+same_depexes Inner host phase [] [] each = refl
+same_depexes Inner host phase [] (other ∷ others) each = absurd each
+same_depexes Inner host phase (section ∷ sections) [] each = absurd each
+same_depexes Inner host phase (section ∷ sections) (other ∷ others) each =
+    rw (each.0.0, same_depexes Inner host phase sections others each.1) refl

@@ -22,7 +22,7 @@ use Rattle.volume_print.specs.Description.{form_in, name_in, pads_of, IsInner}
 use Rattle.volume_again.specs.Again.{IsNameOfBytes, IsOfBytes, IsBodyOfBytes, IsFileOfBytes, IsSectionAgain, IsFileAgain, among, SaysAgain}
 use Rattle.volume_again.proofs.TextLines.{IsLine, Has, has_none, has_line, has_both, has_all, has_own}
 use Rattle.volume_again.proofs.SaidLines.{volume_text, volume_says, name_text, name_says, least_size, file_text, file_says, section_text, section_says, body_says, pad_says, guids_say, depex_says, script_says as script_begins, end_says}
-use Rattle.volume_again.proofs.FileLines.{block_texts, script_says, script_has, same_scripts}
+use Rattle.volume_again.proofs.FileLines.{block_texts, script_says, script_has, same_scripts, same_depexes}
 use Rattle.volume_again.proofs.{Trees.expression_is, GuidRuns.run_is, GuidRuns.guids_are, GoodScripts.good_script}
 use Rattle.volume_again.proofs.ByteRuns.{left_bytes, guid_there}
 use Rattle.volume_again.proofs.PadPieces.{IsGoodPiece, IsGoodPad, erased_pad}
@@ -79,7 +79,7 @@ section_told Inner laws size host attributes before done one lines called files 
       told = one_line text (codes "depex " ++ (phase_word phase ++ (32 ∷ expression_text e))) is l.is;
       again = again;
       is = (sym x.kind_is, ap length (sym x.bytes.1), inl (sym x.bytes.1));
-      say = depex lines called files (file_of host attributes done) (file_of host attributes (done ++ again ∷ [])) (codes "depex " ++ (phase_word phase ++ (32 ∷ expression_text e))) phase (bytes_of (instructions e)) say l.says x.part refl;
+      say = depex lines called files (file_of host attributes done) (file_of host attributes (done ++ again ∷ [])) (codes "depex " ++ (phase_word phase ++ (32 ∷ expression_text e))) phase (bytes_of (instructions e)) say l.says x.part (same_depexes Inner host phase before done each ∙ x.first) refl;
     }
 section_told Inner laws size host attributes before done one lines called files text fits each (as_guids list is) say =
     let raw = and_parts (is_a_priori (host_of host)) ((one.kind == 25) && (length one.body % 16 == 0)) list in

@@ -1,5 +1,5 @@
 -- What the lines of a printed text say.
-use Rattle.std.proofs.Common.{◌≡◌, ℕ, zero, suc, ◌^◌, ◌<◌, ◌≤◌, ◌%◌, Bool, true, false, not, List, [], ◌∷◌, ◌++◌, length, map, flat_map, Some, Result, Ok, refl, sym, ap, ◌∙◌, arith, decimal, subst, append_assoc, nat_le, nat_lt, codes, bytes_eq, ◌==◌, ◌&&◌, if◌then◌else◌, eqb-true, append-nil}
+use Rattle.std.proofs.Common.{◌≡◌, ℕ, zero, suc, ◌^◌, ◌<◌, ◌≤◌, ◌%◌, Bool, true, false, List, [], ◌∷◌, ◌++◌, length, map, flat_map, Some, Result, Ok, refl, sym, ap, ◌∙◌, arith, decimal, subst, append_assoc, nat_le, nat_lt, codes, bytes_eq, ◌==◌, ◌&&◌, if◌then◌else◌, eqb-true, append-nil}
 use Rattle.std.specs.List.{AllByRecursion}
 use Rattle.std.proofs.{lemmas.Bool.and_parts, lemmas.Bool.false≢true, lemmas.Bool.Decides.nat_tests}
 use Rattle.hex.specs.Hex.{IsBytes, encode_with, encode_lower, decode_of}
@@ -28,7 +28,7 @@ use Rattle.volume_text.specs.Words.{is_length, length_at, number_at, told_at, is
 use Rattle.volume_text.specs.Bytes.{hex_answer, bytes_of as bytes_of_words, guids_of}
 use Rattle.volume_text.specs.Line.{volume_at, name_at, pad_at, file_at, script_at, guids_at, section_at, body_at, ReadsBy, ReadsDepex}
 use Rattle.volume_text.specs.{Volume.SaysLine, Text.is_passed_over}
-use Rattle.volume_print.specs.Spelling.{phase_word, system_word, type_word, fixed_words, alignment_words, attribute_words, number_words, guid_word as told_guid}
+use Rattle.volume_print.specs.Spelling.{phase_word, system_word, core_type_word, type_word, fixed_words, alignment_words, attribute_words, number_words, guid_word as told_guid}
 use Rattle.fv_volume.specs.declared.sections.section_type.TheConstants.{RAW}
 use Rattle.source_words.proofs.LineWords.{IsWord, IsClear, clear_of, both_clear, spaced_clear, word_then, words_spaced, stands_spaced}
 use Rattle.source_words.proofs.Characters.{decimal_word, hexadecimal_word, encoded_inner, encoded_word, guid_word}
@@ -42,8 +42,8 @@ one_fits kind fits zero = fits
 one_fits kind fits (suc k) = omega arith
 
 -- a line of words with single spaces between is one that counts
-counts_first : (l word : List ℕ) (others : List (List ℕ)) (byte : ℕ) (rest : List ℕ) → words l ≡ word ∷ others → word ≡ byte ∷ rest → (byte == 35) ≡ false → is_passed_over l ≡ false
-counts_first l word others byte rest is here other = rw (is, here) other
+counts_first : (l word : List ℕ) (others : List (List ℕ)) → words l ≡ word ∷ others → is_passed_over l ≡ false
+counts_first l word others is = rw is refl
 
 -- what a line says, by its first word
 says_by : (l word : List ℕ) (others : List (List ℕ)) (what : Statement) → words l ≡ word ∷ others → ReadsBy (keyword_of word) l others (Ok what) → SaysLine l what
@@ -209,7 +209,7 @@ volume_says form len is fits header =
       says = says_by (volume_text form len) (codes "volume") others (said.Volume form len) split (volume_key (volume_text form len) others (said.Volume form len) (sym (volume_read form len is fits header)));
       is = record {
         clear = subst IsClear (sym same) (line_clear (codes "volume") others (omega arith, refl) all);
-        counts = counts_first (volume_text form len) (codes "volume") others 118 (codes "olume") split refl refl;
+        counts = counts_first (volume_text form len) (codes "volume") others split;
       };
     }
 
@@ -282,7 +282,7 @@ name_says name is near fits least =
       says = says_by text (codes "name") others (said.Name name) split (name_key text others (said.Name name) (sym (name_read name is near fits least)));
       is = record {
         clear = subst IsClear (sym same) (line_clear (codes "name") others (omega arith, refl) all);
-        counts = counts_first text (codes "name") others 110 (codes "ame") split refl refl;
+        counts = counts_first text (codes "name") others split;
       };
     }
 
@@ -343,13 +343,26 @@ unfolding chosen_at
 chosen_read attributes =
     rw (fixed_there attributes.fixed attributes.alignment, align_by attributes.alignment (alignment_len attributes.alignment == 1) refl) refl
 
+core_is_word : (kind : ℕ) → kind < 256 → IsWord (core_type_word kind)
+unfolding core_type_word
+core_is_word kind fits = by_tests (kind == 3) (kind == 4) (kind == 5) (kind == 9)
+  where
+    by_tests : (a b c d : Bool)
+        → IsWord (if a then codes "security-core" else if b then codes "pei-core" else if c then codes "dxe-core" else if d then codes "application"
+        else encode_lower (kind ∷ []))
+    by_tests true b c d = (omega arith, refl)
+    by_tests false true c d = (omega arith, refl)
+    by_tests false false true d = (omega arith, refl)
+    by_tests false false false true = (omega arith, refl)
+    by_tests false false false false = encoded_word (kind ∷ []) (omega arith) (one_fits kind fits)
+
 type_is_word : (kind : ℕ) → kind < 256 → IsWord (type_word kind)
 unfolding type_word
 type_is_word kind fits = by_tests (kind == 1) (kind == 2) (kind == 6) (kind == 7) (kind == 8) (kind == 11) (kind == 12)
   where
     by_tests : (a b c d e f g : Bool)
         → IsWord (if a then codes "raw" else if b then codes "freeform" else if c then codes "peim" else if d then codes "driver" else if e then codes "combined"
-        else if f then codes "volume-image" else if g then codes "mm-dxe" else encode_lower (kind ∷ []))
+        else if f then codes "volume-image" else if g then codes "mm-dxe" else core_type_word kind)
     by_tests true b c d e f g = (omega arith, refl)
     by_tests false true c d e f g = (omega arith, refl)
     by_tests false false true d e f g = (omega arith, refl)
@@ -357,7 +370,7 @@ type_is_word kind fits = by_tests (kind == 1) (kind == 2) (kind == 6) (kind == 7
     by_tests false false false false true f g = (omega arith, refl)
     by_tests false false false false false true g = (omega arith, refl)
     by_tests false false false false false false true = (omega arith, refl)
-    by_tests false false false false false false false = encoded_word (kind ∷ []) (omega arith) (one_fits kind fits)
+    by_tests false false false false false false false = core_is_word kind fits
 
 file_key : (l : List ℕ) (others : List (List ℕ)) (what : Statement) → Ok what ≡ file_at others → ReadsBy (keyword_of (codes "file")) l others (Ok what)
 unfolding keyword_of
@@ -387,7 +400,7 @@ file_says kind name attributes fits is =
       says = says_by text (codes "file") others (said.File kind name attributes) split (file_key text others (said.File kind name attributes) (sym (file_read kind name attributes fits is)));
       is = record {
         clear = subst IsClear (sym same) (line_clear (codes "file") others (omega arith, refl) all);
-        counts = counts_first text (codes "file") others 102 (codes "ile") split refl refl;
+        counts = counts_first text (codes "file") others split;
       };
     }
 
@@ -436,7 +449,7 @@ section_says kind body fits bytes =
       says = says_by text (codes "section") others (said.Section kind body) split (section_key text others (said.Section kind body) (sym (section_read kind body fits bytes)));
       is = record {
         clear = both_clear (codes "section ") (type ++ (32 ∷ encode_lower body)) refl (both_clear type (32 ∷ encode_lower body) (clear_of type type_is.1) (shown_clear body bytes));
-        counts = counts_first text (codes "section") others 115 (codes "ection") split refl refl;
+        counts = counts_first text (codes "section") others split;
       };
     }
 
@@ -455,7 +468,7 @@ body_says body bytes =
     let split : words text ≡ codes "body" ∷ others = word_then (codes "body") (32 ∷ encode_lower body) (omega arith, refl) refl in
     record {
       says = says_by text (codes "body") others (said.Body body) split (body_key text others (said.Body body) (sym (body_read body bytes)));
-      is = record { clear = both_clear (codes "body ") (encode_lower body) refl (shown_clear body bytes); counts = counts_first text (codes "body") others 98 (codes "ody") split refl refl };
+      is = record { clear = both_clear (codes "body ") (encode_lower body) refl (shown_clear body bytes); counts = counts_first text (codes "body") others split };
     }
 
 -- the line of a pad
@@ -484,7 +497,7 @@ pad_says len is =
       says = says_by text (codes "pad") others (said.Pad len) split (pad_key text others (said.Pad len) (sym (pad_read len is)));
       is = record {
         clear = subst IsClear (sym same) (line_clear (codes "pad") others (omega arith, refl) all);
-        counts = counts_first text (codes "pad") others 112 (codes "ad") split refl refl;
+        counts = counts_first text (codes "pad") others split;
       };
     }
 
@@ -519,7 +532,7 @@ guids_say guids all =
       says = says_by text (codes "guids") others (said.Section RAW (flat_map (λ g. g.0) guids)) split (guids_key text others (said.Section RAW (flat_map (λ g. g.0) guids)) (sym (guids_read guids all)));
       is = record {
         clear = subst IsClear (sym same) (line_clear (codes "guids") others (omega arith, refl) (guid_words_are guids));
-        counts = counts_first text (codes "guids") others 103 (codes "uids") split refl refl;
+        counts = counts_first text (codes "guids") others split;
       };
     }
 
@@ -559,7 +572,7 @@ depex_says phase e suits is few =
       says = says_by text (codes "depex") others (said.Depex phase (bytes_of (instructions e))) split (depex_key text others (said.Depex phase (bytes_of (instructions e))) (depex_read phase e suits is few));
       is = record {
         clear = both_clear (codes "depex ") (phase_word phase ++ (32 ∷ expression_text e)) refl (both_clear (phase_word phase) (32 ∷ expression_text e) (clear_of (phase_word phase) (phase_is_word phase).1) (expression_clear e));
-        counts = counts_first text (codes "depex") others 100 (codes "epex") split refl refl;
+        counts = counts_first text (codes "depex") others split;
       };
     }
 
@@ -582,7 +595,7 @@ script_says phase =
       says = says_by text (codes "script") others (said.Script phase) split (script_key text others (said.Script phase) (sym (script_read phase)));
       is = record {
         clear = subst IsClear (sym same) (line_clear (codes "script") others (omega arith, refl) all);
-        counts = counts_first text (codes "script") others 115 (codes "cript") split refl refl;
+        counts = counts_first text (codes "script") others split;
       };
     }
 
@@ -599,39 +612,11 @@ unfolding keyword_of name_of
 no_key code.Set l others = refl
 no_key _ l others = refl
 
-record Begins (name : List ℕ) : Type 0 where
-  first : ℕ
-  rest : List ℕ
-  is : name ≡ first ∷ rest
-  other : (first == 35) ≡ false
-
--- a name begins with another byte than `#`
-abbrev is_begun : List ℕ → Bool
-is_begun [] = false
-is_begun (first ∷ rest) = not (first == 35)
-
-another : (test : Bool) → not test ≡ true → test ≡ false
-another true e = absurd cc
-another false e = refl
-
-begun : (name : List ℕ) → is_begun name ≡ true → Begins name
-begun [] e = absurd cc
-begun (first ∷ rest) e = record { first = first; rest = rest; is = refl; other = another (first == 35) e }
-
-name_begun : (c : Code) → is_begun (name_of c) ≡ true
-unfolding name_of
-name_begun code.Set = refl
-name_begun _ = refl
-
-name_begins : (c : Code) → Begins (name_of c)
-name_begins c = begun (name_of c) (name_begun c)
-
 pub action_says : (phase : Phase) (a : Action) → IsGoodAction phase a → Says (action_text a) (said.Action (action_text a))
 action_says phase a is =
     let shown = action_shown phase a is in
     let name = name_of (code_of_action a) in
-    let begins = name_begins (code_of_action a) in
     record {
       says = says_by (action_text a) name shown.others (said.Action (action_text a)) shown.first (no_key (code_of_action a) (action_text a) shown.others);
-      is = record { clear = shown.clear; counts = counts_first (action_text a) name shown.others begins.first begins.rest shown.first begins.is begins.other };
+      is = record { clear = shown.clear; counts = counts_first (action_text a) name shown.others shown.first };
     }

@@ -8,8 +8,8 @@ use Rattle.line_words.proofs.Comparisons.{same}
 use Rattle.line_words.specs.Number.{value_in, number_of}
 use Rattle.fv_volume.specs.{declared.build.attributes.Alignment.Alignment, declared.build.attributes.Alignment.TheVariants.Byte}
 use Rattle.fv_volume.specs.Attributes.{alignment_len, alignment_of}
-use Rattle.volume_text.specs.Keywords.{below_256, byte_of, file_type_of}
-use Rattle.volume_print.specs.Spelling.{type_word}
+use Rattle.volume_text.specs.Keywords.{below_256, byte_of, core_type_of, file_type_of}
+use Rattle.volume_print.specs.Spelling.{core_type_word, type_word}
 
 -- a digit by its value
 abbrev reads_back : ℕ → Bool
@@ -61,7 +61,7 @@ unlike kind name other =
     false_by (bytes_eq (encode_lower (kind ∷ [])) name) (λ test. other (ap length (sym ((same (encode_lower (kind ∷ [])) name).0 test)) ∙ length-encode_with lower_digits (kind ∷ [])))
 
 digits_read : (kind : ℕ) → kind < 256 → file_type_of (encode_lower (kind ∷ [])) ≡ Some kind
-unfolding file_type_of
+unfolding file_type_of core_type_of
 digits_read kind fits =
     rw (
       unlike kind (codes "raw") (λ e. absurd (omega (arith, e))),
@@ -71,11 +71,29 @@ digits_read kind fits =
       unlike kind (codes "combined") (λ e. absurd (omega (arith, e))),
       unlike kind (codes "volume-image") (λ e. absurd (omega (arith, e))),
       unlike kind (codes "mm-dxe") (λ e. absurd (omega (arith, e))),
+      unlike kind (codes "security-core") (λ e. absurd (omega (arith, e))),
+      unlike kind (codes "pei-core") (λ e. absurd (omega (arith, e))),
+      unlike kind (codes "dxe-core") (λ e. absurd (omega (arith, e))),
+      unlike kind (codes "application") (λ e. absurd (omega (arith, e))),
     ) (byte_read kind fits)
+
+core_named : (kind : ℕ) → (a b c d : Bool) → (kind == 3) ≡ a → (kind == 4) ≡ b → (kind == 5) ≡ c → (kind == 9) ≡ d → kind < 256
+    → file_type_of (if a then codes "security-core" else if b then codes "pei-core" else if c then codes "dxe-core" else if d then codes "application"
+    else encode_lower (kind ∷ [])) ≡ Some kind
+unfolding file_type_of core_type_of
+core_named kind true b c d p q r s fits = ap Some (sym (eqb-true kind 3 p))
+core_named kind false true c d p q r s fits = ap Some (sym (eqb-true kind 4 q))
+core_named kind false false true d p q r s fits = ap Some (sym (eqb-true kind 5 r))
+core_named kind false false false true p q r s fits = ap Some (sym (eqb-true kind 9 s))
+core_named kind false false false false p q r s fits = digits_read kind fits
+
+core_read : (kind : ℕ) → kind < 256 → file_type_of (core_type_word kind) ≡ Some kind
+unfolding core_type_word
+core_read kind fits = core_named kind (kind == 3) (kind == 4) (kind == 5) (kind == 9) refl refl refl refl fits
 
 named : (kind : ℕ) → (a b c d e f g : Bool) → (kind == 1) ≡ a → (kind == 2) ≡ b → (kind == 6) ≡ c → (kind == 7) ≡ d → (kind == 8) ≡ e → (kind == 11) ≡ f → (kind == 12) ≡ g → kind < 256
     → file_type_of (if a then codes "raw" else if b then codes "freeform" else if c then codes "peim" else if d then codes "driver" else if e then codes "combined"
-    else if f then codes "volume-image" else if g then codes "mm-dxe" else encode_lower (kind ∷ [])) ≡ Some kind
+    else if f then codes "volume-image" else if g then codes "mm-dxe" else core_type_word kind) ≡ Some kind
 unfolding file_type_of
 named kind true b c d e f g p q r s t u v fits = ap Some (sym (eqb-true kind 1 p))
 named kind false true c d e f g p q r s t u v fits = ap Some (sym (eqb-true kind 2 q))
@@ -84,7 +102,7 @@ named kind false false false true e f g p q r s t u v fits = ap Some (sym (eqb-t
 named kind false false false false true f g p q r s t u v fits = ap Some (sym (eqb-true kind 8 t))
 named kind false false false false false true g p q r s t u v fits = ap Some (sym (eqb-true kind 11 u))
 named kind false false false false false false true p q r s t u v fits = ap Some (sym (eqb-true kind 12 v))
-named kind false false false false false false false p q r s t u v fits = digits_read kind fits
+named kind false false false false false false false p q r s t u v fits = core_read kind fits
 
 pub type_read : (kind : ℕ) → kind < 256 → file_type_of (type_word kind) ≡ Some kind
 unfolding type_word

@@ -194,7 +194,7 @@ files_whole header_len _ _ _ (bodied lines called files old next line body say s
     let more = files_whole header_len lines called (files ++ old ∷ []) say in (more.0, changed files old next (bytes_name body old next (is_empty old.body) holds) more.1)
 files_whole header_len _ _ _ (section lines called files old next line kind body say says holds) =
     let more = files_whole header_len lines called (files ++ old ∷ []) say in (more.0, changed files old next (held_name _ old next old.body holds) more.1)
-files_whole header_len _ _ _ (depex lines called files old next line phase body say says part holds) =
+files_whole header_len _ _ _ (depex lines called files old next line phase body say says part unique holds) =
     let more = files_whole header_len lines called (files ++ old ∷ []) say in (more.0, changed files old next (held_name _ old next old.body holds) more.1)
 files_whole header_len _ _ _ (script lines called files old next line phase inner blocks end body say says part unique wrote ends spelled holds) =
     let more = files_whole header_len lines called (files ++ old ∷ []) say in (more.0, changed files old next (held_name _ old next old.body holds) more.1)

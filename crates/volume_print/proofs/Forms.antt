@@ -7,7 +7,7 @@ use Rattle.fv_volume.specs.declared.build.new_file.NewSection.{NewSection}
 use Rattle.depex_code.specs.declared.depex.Depex.{Depex}
 use Rattle.depex_code.specs.Expression.{Reads, IsMalformed, instructions, bytes_of}
 use Rattle.act_code.specs.{declared.script.Script.Script, Script.IsScript}
-use Rattle.volume_text.specs.Open.{depex_type, has_part, is_script_of}
+use Rattle.volume_text.specs.Open.{depex_type, has_part, is_depex_of, is_script_of}
 use Rattle.line_words.proofs.Comparisons.{not_same}
 use Rattle.volume_print.specs.{declared.form.Host.Host, Description.IsInner}
 use Rattle.volume_print.specs.Spelling.{IsExpressionOf, SaysExpression, is_guid_list}
@@ -18,8 +18,8 @@ phase_back Pei = refl
 phase_back Dxe = refl
 
 -- the phase of a section that is told as an expression
-pub phase_of : (kind : ℕ) (section : NewSection) (phase : Phase) (expression : Depex) → SaysExpression kind section phase expression → depex_phase section.kind ≡ Some phase
-phase_of kind section phase expression says = ap depex_phase says.kind_is ∙ phase_back phase
+pub phase_of : (kind : ℕ) (before : List NewSection) (section : NewSection) (phase : Phase) (expression : Depex) → SaysExpression kind before section phase expression → depex_phase section.kind ≡ Some phase
+phase_of kind before section phase expression says = ap depex_phase says.kind_is ∙ phase_back phase
 
 first_is : (a b : Bool) → ◌≡◌ {A = Option Phase} (if a then Some Pei else if b then Some Dxe else None) (Some Pei) → a ≡ true
 first_is true b e = refl
@@ -44,22 +44,28 @@ both true e f = absurd cc
 both false e f = absurd cc
 
 -- a section is told as an expression, or as none
-pub no_type : (kind : ℕ) (section : NewSection) → depex_phase section.kind ≡ None → TellsExpression kind section None
-no_type kind section none = λ phase expression says. no_phase section.kind phase none (phase_of kind section phase expression says)
+pub no_type : (kind : ℕ) (before : List NewSection) (section : NewSection) → depex_phase section.kind ≡ None → TellsExpression kind before section None
+no_type kind before section none = λ phase expression says. no_phase section.kind phase none (phase_of kind before section phase expression says)
 
-pub no_part : (kind : ℕ) (section : NewSection) (phase : Phase) → depex_phase section.kind ≡ Some phase → has_part kind phase ≡ false → TellsExpression kind section None
-no_part kind section phase is none = λ other expression says.
-    let same : other ≡ phase = same_Some other phase (sym (phase_of kind section other expression says) ∙ is) in
+pub no_part : (kind : ℕ) (before : List NewSection) (section : NewSection) (phase : Phase) → depex_phase section.kind ≡ Some phase → has_part kind phase ≡ false → TellsExpression kind before section None
+no_part kind before section phase is none = λ other expression says.
+    let same : other ≡ phase = same_Some other phase (sym (phase_of kind before section other expression says) ∙ is) in
     both (has_part kind phase) (ap (has_part kind) (sym same) ∙ says.part) none
 
-pub no_bytes : (kind : ℕ) (section : NewSection) (phase : Phase) → depex_phase section.kind ≡ Some phase → FindsExpression phase section.body None → TellsExpression kind section None
-no_bytes kind section phase is none = λ other expression says.
-    let same : other ≡ phase = same_Some other phase (sym (phase_of kind section other expression says) ∙ is) in
+pub not_first_depex : (kind : ℕ) (before : List NewSection) (section : NewSection) (phase : Phase) → depex_phase section.kind ≡ Some phase → list_any (is_depex_of phase) before ≡ true
+    → TellsExpression kind before section None
+not_first_depex kind before section phase is earlier = λ other expression says.
+    let same : other ≡ phase = same_Some other phase (sym (phase_of kind before section other expression says) ∙ is) in
+    both (list_any (is_depex_of phase) before) earlier (ap (λ p. list_any (is_depex_of p) before) (sym same) ∙ says.first)
+
+pub no_bytes : (kind : ℕ) (before : List NewSection) (section : NewSection) (phase : Phase) → depex_phase section.kind ≡ Some phase → FindsExpression phase section.body None → TellsExpression kind before section None
+no_bytes kind before section phase is none = λ other expression says.
+    let same : other ≡ phase = same_Some other phase (sym (phase_of kind before section other expression says) ∙ is) in
     none expression (subst (λ (p : Phase). IsExpressionOf p section.body expression) same says.bytes)
 
-pub told : (kind : ℕ) (section : NewSection) (phase : Phase) (expression : Depex) → depex_phase section.kind ≡ Some phase → has_part kind phase ≡ true
-    → FindsExpression phase section.body (Some expression) → TellsExpression kind section (Some (phase, expression))
-told kind section phase expression is part found = record { kind_is = type_of section.kind phase is; part = part; bytes = found }
+pub told : (kind : ℕ) (before : List NewSection) (section : NewSection) (phase : Phase) (expression : Depex) → depex_phase section.kind ≡ Some phase → has_part kind phase ≡ true
+    → list_any (is_depex_of phase) before ≡ false → FindsExpression phase section.body (Some expression) → TellsExpression kind before section (Some (phase, expression))
+told kind before section phase expression is part first found = record { kind_is = type_of section.kind phase is; part = part; first = first; bytes = found }
 
 -- bytes are an expression, or none
 pub malformed : (phase : Phase) (bytes : List ℕ) (at : ℕ) → ((p : Phase) (b : List ℕ) (e : Depex) (n : ℕ) → Reads p b e → IsMalformed p b n → ⊥) → IsMalformed phase bytes at

@@ -27,9 +27,9 @@ pub record Laws : Type 0 where
   pub script : (code : List ℕ) (s t : Script) → IsScript code s → IsScript code t → s ≡ t
 
 -- the text of an expression
-one_expression : Laws → (kind : ℕ) (section : NewSection) (p q : Phase) (e f : Depex) → SaysExpression kind section p e → SaysExpression kind section q f → expression_line p e ≡ expression_line q f
-one_expression laws kind section p q e f x y =
-    let phases : p ≡ q = same_Some p q (sym (phase_of kind section p e x) ∙ phase_of kind section q f y) in
+one_expression : Laws → (kind : ℕ) (before : List NewSection) (section : NewSection) (p q : Phase) (e f : Depex) → SaysExpression kind before section p e → SaysExpression kind before section q f → expression_line p e ≡ expression_line q f
+one_expression laws kind before section p q e f x y =
+    let phases : p ≡ q = same_Some p q (sym (phase_of kind before section p e x) ∙ phase_of kind before section q f y) in
     let there : Reads q section.body e = subst (λ (r : Phase). Reads r section.body e) phases x.bytes.0 in
     ap (λ r. expression_line r e) phases ∙ ap (expression_line q) (laws.expression q section.body e f there y.bytes.0)
 
@@ -43,8 +43,8 @@ list_kind host section is =
     let test : (section.kind == 25) ≡ true = (and_parts (section.kind == 25) (length section.body % 16 == 0) raw.1).0 in
     grind (arith, nat_tests)
 
-no_expression : (kind other : ℕ) (section : NewSection) (p : Phase) (e : Depex) → section.kind ≡ other → depex_phase other ≡ None → SaysExpression kind section p e → ⊥
-no_expression kind other section p e is none x = no_phase section.kind p (ap depex_phase is ∙ none) (phase_of kind section p e x)
+no_expression : (kind other : ℕ) (before : List NewSection) (section : NewSection) (p : Phase) (e : Depex) → section.kind ≡ other → depex_phase other ≡ None → SaysExpression kind before section p e → ⊥
+no_expression kind other before section p e is none x = no_phase section.kind p (ap depex_phase is ∙ none) (phase_of kind before section p e x)
 
 differ : (kind : ℕ) → kind ≡ 23 → kind ≡ 25 → ⊥
 differ kind a b = absurd (omega (arith, a, b))
@@ -60,22 +60,22 @@ OneInner Inner = (stream a b : List ℕ) → Inner stream a → Inner stream b �
 section_one : Laws → (Inner : List ℕ → List ℕ → Type 0) → OneInner Inner → (host : Host) (before : List NewSection) (section : NewSection) (a b : List ℕ)
     → IsSectionText Inner host before section a → IsSectionText Inner host before section b → a ≡ b
 section_one laws Inner one host before section a b (as_volume x) (as_volume y) = one section.body a b x.1 y.1
-section_one laws Inner one host before section a b (as_volume x) (as_expression q f y j) = absurd (no_expression host.kind 23 section q f (volume_kind host section.kind x.0) refl y)
+section_one laws Inner one host before section a b (as_volume x) (as_expression q f y j) = absurd (no_expression host.kind 23 before section q f (volume_kind host section.kind x.0) refl y)
 section_one laws Inner one host before section a b (as_volume x) (as_guids y j) = absurd (differ section.kind (volume_kind host section.kind x.0) (list_kind host section y))
 section_one laws Inner one host before section a b (as_volume x) (as_script s y j) = absurd (differ section.kind (volume_kind host section.kind x.0) y.kind_is)
 section_one laws Inner one host before section a b (as_volume x) (as_bytes v n l m j) = absurd (v a x)
-section_one laws Inner one host before section a b (as_expression p e x i) (as_volume y) = absurd (no_expression host.kind 23 section p e (volume_kind host section.kind y.0) refl x)
-section_one laws Inner one host before section a b (as_expression p e x i) (as_expression q f y j) = i ∙ one_expression laws host.kind section p q e f x y ∙ sym j
-section_one laws Inner one host before section a b (as_expression p e x i) (as_guids y j) = absurd (no_expression host.kind 25 section p e (list_kind host section y) refl x)
-section_one laws Inner one host before section a b (as_expression p e x i) (as_script s y j) = absurd (no_expression host.kind 25 section p e y.kind_is refl x)
+section_one laws Inner one host before section a b (as_expression p e x i) (as_volume y) = absurd (no_expression host.kind 23 before section p e (volume_kind host section.kind y.0) refl x)
+section_one laws Inner one host before section a b (as_expression p e x i) (as_expression q f y j) = i ∙ one_expression laws host.kind before section p q e f x y ∙ sym j
+section_one laws Inner one host before section a b (as_expression p e x i) (as_guids y j) = absurd (no_expression host.kind 25 before section p e (list_kind host section y) refl x)
+section_one laws Inner one host before section a b (as_expression p e x i) (as_script s y j) = absurd (no_expression host.kind 25 before section p e y.kind_is refl x)
 section_one laws Inner one host before section a b (as_expression p e x i) (as_bytes v n l m j) = absurd (n p e x)
 section_one laws Inner one host before section a b (as_guids x i) (as_volume y) = absurd (differ section.kind (volume_kind host section.kind y.0) (list_kind host section x))
-section_one laws Inner one host before section a b (as_guids x i) (as_expression q f y j) = absurd (no_expression host.kind 25 section q f (list_kind host section x) refl y)
+section_one laws Inner one host before section a b (as_guids x i) (as_expression q f y j) = absurd (no_expression host.kind 25 before section q f (list_kind host section x) refl y)
 section_one laws Inner one host before section a b (as_guids x i) (as_guids y j) = i ∙ sym j
 section_one laws Inner one host before section a b (as_guids x i) (as_script s y j) = absurd (clash (is_guid_list host section) x y.no_list)
 section_one laws Inner one host before section a b (as_guids x i) (as_bytes v n l m j) = absurd (clash (is_guid_list host section) x l)
 section_one laws Inner one host before section a b (as_script s x i) (as_volume y) = absurd (differ section.kind (volume_kind host section.kind y.0) x.kind_is)
-section_one laws Inner one host before section a b (as_script s x i) (as_expression q f y j) = absurd (no_expression host.kind 25 section q f x.kind_is refl y)
+section_one laws Inner one host before section a b (as_script s x i) (as_expression q f y j) = absurd (no_expression host.kind 25 before section q f x.kind_is refl y)
 section_one laws Inner one host before section a b (as_script s x i) (as_guids y j) = absurd (clash (is_guid_list host section) y x.no_list)
 section_one laws Inner one host before section a b (as_script s x i) (as_script t y j) = i ∙ ap script_lines (laws.script section.body s t x.bytes y.bytes) ∙ sym j
 section_one laws Inner one host before section a b (as_script s x i) (as_bytes v n l m j) = absurd (m s x)

@@ -29,10 +29,10 @@ FindsScript bytes None = (script : Script) → IsScript bytes script → ⊥
 abbrev pub depex_phase : ℕ → Option Phase
 depex_phase kind = if kind == PEI_DEPEX then Some Pei else if kind == DXE_DEPEX then Some Dxe else None
 
--- the expression that a section is told as, or none
-abbrev pub TellsExpression : ℕ → NewSection → Option (Phase × Depex) → Type 0
-TellsExpression kind section (Some told) = SaysExpression kind section told.0 told.1
-TellsExpression kind section None = (phase : Phase) (expression : Depex) → SaysExpression kind section phase expression → ⊥
+-- the expression that a section behind others is told as, or none
+abbrev pub TellsExpression : ℕ → List NewSection → NewSection → Option (Phase × Depex) → Type 0
+TellsExpression kind before section (Some told) = SaysExpression kind before section told.0 told.1
+TellsExpression kind before section None = (phase : Phase) (expression : Depex) → SaysExpression kind before section phase expression → ⊥
 
 -- the script that a section behind others is told as, or none
 abbrev pub TellsScript : Host → List NewSection → NewSection → Option Script → Type 0
@@ -61,12 +61,12 @@ FindsText len text None = (bytes : List ℕ) → Leads text bytes → length byt
 
 -- the form in which a section behind others of a file is told, if it is told as no volume
 abbrev pub IsPlainForm : Host → List NewSection → NewSection → Form → Type 0
-IsPlainForm host before section (form.Expression phase expression) = SaysExpression host.kind section phase expression
+IsPlainForm host before section (form.Expression phase expression) = SaysExpression host.kind before section phase expression
 IsPlainForm host before section (form.Volume text) = ⊥
 IsPlainForm host before section form.Guids = is_guid_list host section ≡ true
 IsPlainForm host before section (form.Script script) = SaysScript host before section script
 IsPlainForm host before section form.Bytes =
-    TellsExpression host.kind section None × (is_guid_list host section ≡ false) × TellsScript host before section None
+    TellsExpression host.kind before section None × (is_guid_list host section ≡ false) × TellsScript host before section None
 
 -- the form in which it is told
 abbrev pub IsForm : (List ℕ → List ℕ → Type 0) → Host → List NewSection → NewSection → Form → Type 0

@@ -6,7 +6,7 @@ use Rattle.hex.specs.Hex.{encode_lower}
 use Rattle.pi_base.specs.{declared.guid.Guid.Guid, declared.phase.Phase.Phase}
 use Rattle.pi_base.specs.{declared.phase.Phase.TheVariants.Pei, declared.phase.Phase.TheVariants.Dxe, declared.guid.TheConstants.GUID_LEN}
 use Rattle.pi_base.specs.{Guids.same_guid, WordText.guid_text, WordText.hexadecimal}
-use Rattle.fv_volume.specs.declared.file_type.TheConstants.{RAW, FREEFORM, PEIM, DRIVER, COMBINED_PEIM_DRIVER, VOLUME_IMAGE, COMBINED_MM_DXE, PAD}
+use Rattle.fv_volume.specs.declared.file_type.TheConstants.{RAW, FREEFORM, SECURITY_CORE, PEI_CORE, DXE_CORE, PEIM, DRIVER, COMBINED_PEIM_DRIVER, APPLICATION, VOLUME_IMAGE, COMBINED_MM_DXE, PAD}
 use Rattle.fv_volume.specs.declared.sections.section_type.TheConstants.{RAW as RAW_SECTION, VOLUME_IMAGE as VOLUME_SECTION}
 use Rattle.fv_volume.specs.declared.build.file_system.FileSystem.{FileSystem}
 use Rattle.fv_volume.specs.declared.build.file_system.FileSystem.TheVariants.{Ffs2, Ffs3}
@@ -23,7 +23,7 @@ use Rattle.depex_code.specs.Expression.{Reads, instructions, bytes_of}
 use Rattle.act_code.specs.{declared.script.Script.Script, Script.IsScript}
 use Rattle.mod_catalog.specs.{FileType.a_priori_name, APrioriNames.guids_in}
 use Rattle.asm_text.specs.{ExpressionText.expression_text, ScriptText.line, ScriptText.block_lines}
-use Rattle.volume_text.specs.Open.{depex_type, has_part, is_script_of}
+use Rattle.volume_text.specs.Open.{depex_type, has_part, is_depex_of, is_script_of}
 use Rattle.volume_print.specs.{declared.form.Host.Host, declared.pad.TheConstants.ERASED}
 
 unfoldable pub phase_word : Phase → List ℕ
@@ -33,6 +33,15 @@ phase_word Dxe = codes "dxe"
 unfoldable pub system_word : FileSystem → List ℕ
 system_word Ffs2 = codes "ffs2"
 system_word Ffs3 = codes "ffs3"
+
+-- the type of a core or of an application: its name; of another, two hexadecimal digits
+unfoldable pub core_type_word : ℕ → List ℕ
+core_type_word kind =
+    if kind == SECURITY_CORE then codes "security-core"
+    else if kind == PEI_CORE then codes "pei-core"
+    else if kind == DXE_CORE then codes "dxe-core"
+    else if kind == APPLICATION then codes "application"
+    else encode_lower (kind ∷ [])
 
 -- the type of a file: its name, or two hexadecimal digits
 unfoldable pub type_word : ℕ → List ℕ
@@ -44,16 +53,17 @@ type_word kind =
     else if kind == COMBINED_PEIM_DRIVER then codes "combined"
     else if kind == VOLUME_IMAGE then codes "volume-image"
     else if kind == COMBINED_MM_DXE then codes "mm-dxe"
-    else encode_lower (kind ∷ [])
+    else core_type_word kind
 
 -- the bytes are an expression of the phase, and nothing behind it
 abbrev pub IsExpressionOf : Phase → List ℕ → Depex → Type 0
 IsExpressionOf phase bytes expression = Reads phase bytes expression × (bytes ≡ bytes_of (instructions expression))
 
--- a section of a file of a type is an expression of a phase
-pub record SaysExpression (kind : ℕ) (section : NewSection) (phase : Phase) (expression : Depex) : Type 0 where
+-- a section of a file of a type is an expression of a phase, the first for its phase behind others
+pub record SaysExpression (kind : ℕ) (before : List NewSection) (section : NewSection) (phase : Phase) (expression : Depex) : Type 0 where
   pub kind_is : section.kind ≡ depex_type phase
   pub part : has_part kind phase ≡ true
+  pub first : list_any (is_depex_of phase) before ≡ false
   pub bytes : IsExpressionOf phase section.body expression
 
 -- a file with the names of the modules that start first (PI 1.8, volumes 1 and 2, the a priori files)
@@ -99,12 +109,12 @@ section_line section = line (codes "section " ++ (encode_lower (section.kind ∷
 -- the text of a section behind others of a file: a volume, an expression, a list of GUIDs or a script where it is one, and its bytes where it is none of them
 pub data IsSectionText (Inner : List ℕ → List ℕ → Type 0) (host : Host) (before : List NewSection) (section : NewSection) (text : List ℕ) : Type 0 where
   as_volume : SaysVolume Inner host section text → IsSectionText Inner host before section text
-  as_expression : (phase : Phase) (expression : Depex) → SaysExpression host.kind section phase expression → text ≡ expression_line phase expression
+  as_expression : (phase : Phase) (expression : Depex) → SaysExpression host.kind before section phase expression → text ≡ expression_line phase expression
       → IsSectionText Inner host before section text
   as_guids : is_guid_list host section ≡ true → text ≡ guids_line section.body → IsSectionText Inner host before section text
   as_script : (script : Script) → SaysScript host before section script → text ≡ script_lines script → IsSectionText Inner host before section text
   as_bytes : ((inner : List ℕ) → SaysVolume Inner host section inner → ⊥)
-      → ((phase : Phase) (expression : Depex) → SaysExpression host.kind section phase expression → ⊥)
+      → ((phase : Phase) (expression : Depex) → SaysExpression host.kind before section phase expression → ⊥)
       → is_guid_list host section ≡ false
       → ((script : Script) → SaysScript host before section script → ⊥) → text ≡ section_line section → IsSectionText Inner host before section text
 

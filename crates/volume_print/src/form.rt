@@ -1,8 +1,8 @@
 // In which form the text tells a section.
-ghost use Rattle.std.specs.Prelude.{◌≡◌, ◌≤◌, ◌+◌, false, length, map, IfOk};
+ghost use Rattle.std.specs.Prelude.{◌≡◌, ◌≤◌, ◌+◌, ℕ, List, false, length, map, IfOk};
 ghost use Rattle.std.specs.List.{list_any};
 ghost use Rattle.fv_volume.specs.Stream.{AreInside};
-ghost use Rattle.volume_text.specs.Open.{is_script_of};
+ghost use Rattle.volume_text.specs.Open.{is_depex_of, is_script_of};
 ghost use Rattle.volume_print.specs.{Description.section_in, Spelling.is_guid_list};
 ghost use Rattle.volume_print.specs.Finding.{depex_phase, FindsExpression, FindsScript, IsPlainForm, TellsExpression, TellsScript};
 
@@ -14,7 +14,7 @@ use fv_volume::sections::section_type::{DXE_DEPEX, PEI_DEPEX, RAW};
 use mod_catalog::{DXE_APRIORI, PEI_APRIORI};
 use pi_base::{GUID_LEN, Guid, OutOfMemory, Phase, Seq};
 use std::alloc::Global;
-use volume_text::{has_part, is_script};
+use volume_text::{depex_type, has_part, is_script};
 
 /// The file that sections stand in.
 #[derive(Clone, Copy)]
@@ -93,23 +93,45 @@ fn depex_phase(kind: u8) -> Option<Phase>
     }
 }
 
-// The expression that a section of a file of a type is told as.
-#[tactic(auto, using(crate::proofs::Forms::no_type, crate::proofs::Forms::no_part, crate::proofs::Forms::no_bytes, crate::proofs::Forms::told))]
+// Whether a section has the expression for a phase, whatever its bytes are.
+fn is_depex_of(section: &Section, phase: Phase) -> bool
+    ensures { (stream : List ℕ) → result ≡ is_depex_of phase (section_in stream section.now) }
+{
+    section.kind == depex_type(phase)
+}
+
+// Whether one of the sections has the expression for a phase.
+fn has_depex(sections: &[Section], phase: Phase) -> bool
+    ensures { (stream : List ℕ) → result ≡ list_any (is_depex_of phase) (map (section_in stream) sections.now) }
+{
+    'sections: for section in sections {
+        if is_depex_of(section, phase) {
+            return true;
+        }
+    }
+    false
+}
+
+// The expression that a section behind others of a file of a type is told as.
+#[tactic(auto, using(crate::proofs::Forms::no_type, crate::proofs::Forms::no_part, crate::proofs::Forms::no_bytes, crate::proofs::Forms::not_first_depex, crate::proofs::Forms::told))]
 fn told_expression(
     alloc: Global,
     kind: u8,
-    section_kind: u8,
-    bytes: &[u8],
+    stream: &[u8],
+    before: &[Section],
+    section: &Section,
 ) -> Result<Option<(Phase, Depex)>, OutOfMemory>
-    ensures { IfOk result (TellsExpression kind (record { kind = section_kind; body = bytes.now })) }
+    requires before { AreInside stream.now before.now }
+    requires inside { section.now.body_at + section.now.body_len ≤ length stream.now }
+    ensures { IfOk result (TellsExpression kind (map (section_in stream.now) before.now) (section_in stream.now section.now)) }
 {
-    let Some(phase) = depex_phase(section_kind) else {
+    let Some(phase) = depex_phase(section.kind) else {
         return Ok(None);
     };
-    if !has_part(kind, phase) {
+    if !has_part(kind, phase) || has_depex(before, phase) {
         return Ok(None);
     }
-    match expression_in(alloc, phase, bytes)? {
+    match expression_in(alloc, phase, body_of(stream, section))? {
         Some(expression) => Ok(Some((phase, expression))),
         None => Ok(None),
     }
@@ -186,7 +208,7 @@ pub(crate) fn plain_form(
     ensures { IfOk result (IsPlainForm host.now (map (section_in stream.now) before.now) (section_in stream.now section.now)) }
 {
     let body = body_of(stream, section);
-    if let Some((phase, expression)) = told_expression(alloc, host.kind, section.kind, body)? {
+    if let Some((phase, expression)) = told_expression(alloc, host.kind, stream, before, section)? {
         return Ok(Form::Expression(phase, expression));
     }
     if is_guid_list(host, section.kind, body) {

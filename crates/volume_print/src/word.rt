@@ -2,11 +2,12 @@
 ghost use Rattle.std.specs.Prelude.{◌≡◌, ◌++◌, decimal, OnOk};
 ghost use Rattle.hex.specs.Hex.{encode_lower};
 ghost use Rattle.pi_base.specs.WordText.{guid_text, hexadecimal};
-ghost use Rattle.volume_print.specs.Spelling.{phase_word, system_word, type_word};
+ghost use Rattle.volume_print.specs.Spelling.{phase_word, system_word, core_type_word, type_word};
 
 use fv_volume::build::FileSystem;
 use fv_volume::file_type::{
-    COMBINED_MM_DXE, COMBINED_PEIM_DRIVER, DRIVER, FREEFORM, PEIM, RAW, VOLUME_IMAGE,
+    APPLICATION, COMBINED_MM_DXE, COMBINED_PEIM_DRIVER, DRIVER, DXE_CORE, FREEFORM, PEI_CORE, PEIM,
+    RAW, SECURITY_CORE, VOLUME_IMAGE,
 };
 use pi_base::{DECIMAL_LEN, Guid, HEXADECIMAL_LEN, OutOfMemory, Phase, Seq, decimal, hexadecimal};
 
@@ -69,6 +70,20 @@ pub(crate) fn system_word(file_system: FileSystem) -> &'static [u8]
     }
 }
 
+// Adds the type of a core or of an application by its name, and another by two hexadecimal digits.
+#[tactic(auto, unfolding(crate::specs::Spelling::core_type_word))]
+fn put_core_type(out: &mut Seq<u8>, kind: u8) -> Result<(), OutOfMemory>
+    ensures { OnOk result (out.new ≡ out.old ++ core_type_word kind) }
+{
+    match kind {
+        SECURITY_CORE => out.append(b"security-core"),
+        PEI_CORE => out.append(b"pei-core"),
+        DXE_CORE => out.append(b"dxe-core"),
+        APPLICATION => out.append(b"application"),
+        other => put_bytes(out, &[other]),
+    }
+}
+
 /// Adds the type of a file: its name, or two hexadecimal digits.
 #[tactic(auto, unfolding(crate::specs::Spelling::type_word))]
 pub(crate) fn put_type(out: &mut Seq<u8>, kind: u8) -> Result<(), OutOfMemory>
@@ -82,6 +97,6 @@ pub(crate) fn put_type(out: &mut Seq<u8>, kind: u8) -> Result<(), OutOfMemory>
         COMBINED_PEIM_DRIVER => out.append(b"combined"),
         VOLUME_IMAGE => out.append(b"volume-image"),
         COMBINED_MM_DXE => out.append(b"mm-dxe"),
-        other => put_bytes(out, &[other]),
+        other => put_core_type(out, other),
     }
 }

@@ -14,9 +14,9 @@ use Rattle.volume_text.specs.declared.fault.TextFault.TheVariants as text_fault
 use Rattle.volume_text.specs.{declared.volume.OpenVolume.OpenVolume, declared.step.State.State, declared.fault.Cause.Cause, Line.Reads}
 use Rattle.volume_text.specs.declared.step.State.TheVariants.{Begin, Filling, Writing, Done}
 use Rattle.volume_text.specs.Reading.{◌>>=◌, Stops, Gives, StopsAs, StopsText, Answers, at}
-use Rattle.volume_text.specs.Open.{with_section, depex_type, part_checked, built_of}
+use Rattle.volume_text.specs.Open.{with_section, depex_type, depex_checked, built_of}
 use Rattle.volume_text.specs.Script.{last_block, script_of, with_block, IsScriptBody}
-use Rattle.volume_text.specs.Step.{IsSaidState, section_of, with_top, filling, nested_in, nested, with_depex, last_volume, closed_in, closed, at_line, EndsScript, Takes, Steps}
+use Rattle.volume_text.specs.Step.{IsSaidState, section_of, filling_with, filling, nested_in, nested, with_depex, last_volume, closed_in, closed, at_line, EndsScript, Takes, Steps}
 use Rattle.volume_text.proofs.Lasts.{last_is}
 
 -- the last of a list, and the others
@@ -52,15 +52,15 @@ goes_on_said below top (Filling b t) e = tt
 goes_on_said below top (Done bytes) e = tt
 
 -- what is made of a volume as it has become
-pub topped : (below : List OpenVolume) (top : OpenVolume) (done : Result (Unit {0}) Stop) (read : Result OpenVolume Cause) → Gives (λ _. top) done read
-    → Gives (λ x. x) (with_top below top done) (read >>= (λ last. Ok (Filling below last)))
-topped below top (Ok done) read told = ap (λ (r : Result OpenVolume Cause). r >>= (λ last. Ok (Filling below last))) told
-topped below top (Err stop.Memory) read told = tt
-topped below top (Err (stop.Fault cause)) read told = ap (λ (r : Result OpenVolume Cause). r >>= (λ last. Ok (Filling below last))) told
+pub topped : (below : List OpenVolume) (made : Result OpenVolume Stop) (read : Result OpenVolume Cause) → Gives (λ x. x) made read
+    → Gives (λ x. x) (filling_with below made) (read >>= (λ last. Ok (Filling below last)))
+topped below (Ok top) read told = ap (λ (r : Result OpenVolume Cause). r >>= (λ last. Ok (Filling below last))) told
+topped below (Err stop.Memory) read told = tt
+topped below (Err (stop.Fault cause)) read told = ap (λ (r : Result OpenVolume Cause). r >>= (λ last. Ok (Filling below last))) told
 
-pub topped_said : (below : List OpenVolume) (top : OpenVolume) (done : Result (Unit {0}) Stop) → IfOk (with_top below top done) IsSaidState
-topped_said below top (Ok done) = tt
-topped_said below top (Err e) = tt
+pub topped_said : (below : List OpenVolume) (made : Result OpenVolume Stop) → IfOk (filling_with below made) IsSaidState
+topped_said below (Ok top) = tt
+topped_said below (Err e) = tt
 
 -- what a call returned is said where the definition's state is
 gives_said : (made : Result State Stop) (read : Result State Cause) → IfOk read IsSaidState → Gives (λ x. x) made read → IfOk made IsSaidState
@@ -95,7 +95,7 @@ filling_said below top section made = gives_said made (filling below top section
 
 pub depex_said : (below : List OpenVolume) (top : OpenVolume) (phase : Phase) (body : List ℕ) (made : Result State Stop) → Gives (λ x. x) made (with_depex below top phase body) → IfOk made IsSaidState
 depex_said below top phase body made =
-    gives_said made (with_depex below top phase body) (part_said below top (section_of (depex_type phase) body) (part_checked phase top))
+    gives_said made (with_depex below top phase body) (part_said below top (section_of (depex_type phase) body) (depex_checked phase top))
 
 pub closed_said : (below : List OpenVolume) (top : OpenVolume) (made : Result State Stop) → Gives (λ x. x) made (closed below top) → IfOk made IsSaidState
 closed_said below top made = gives_said made (closed below top) (built_said below (built_of top))

@@ -2,6 +2,8 @@ mod LastFile
 mod Lasts
 mod GuidLists
 mod Building
+mod Counting
+mod Fitting
 mod Going
 mod Saying
 mod Expressions
@@ -11,4 +13,5 @@ mod OneText
 mod ReadBack
 mod Wholeness
 mod Completing
+mod Overflowing
 mod Closing

@@ -12,12 +12,12 @@ use Rattle.volume_text.specs.declared.statement.Statement.TheVariants as said
 use Rattle.volume_text.specs.{declared.volume.OpenVolume.OpenVolume, declared.step.State.State, Line.Reads}
 use Rattle.volume_text.specs.declared.step.State.TheVariants.{Begin, Filling, Writing, Done}
 use Rattle.volume_text.specs.Reading.{◌>>=◌, at, onward, only_if}
-use Rattle.volume_text.specs.Open.{last_of, holding, with_bytes, with_parts, with_files, with_last, new_file, pad_file, named_over, with_name, depex_type, has_part, has_script, only_part, part_checked, only_first, script_checked, built_of}
+use Rattle.volume_text.specs.Open.{last_of, fitting, holding, with_bytes, with_parts, with_files, with_last, new_file, pad_file, named_over, with_name, depex_type, has_part, has_depex, has_script, only_part, part_checked, only_first, only_first_depex, depex_checked, script_checked, built_of}
 use Rattle.volume_text.specs.Script.{script_of, into_last, action_at, IsScriptBody}
 use Rattle.volume_text.specs.Step.{section_of, new_volume, begun, filling, nested_in, closed_in, filled, written, goes_on, TakesInScript, Takes, TakesRead}
 use Rattle.volume_text.specs.Volume.{SaysLine, SayBlocks, no_block, block, action, SayFiles, no_file, named, padded, file, bodied, section, depex, script, volume, SaysVolume}
 use Rattle.volume_text.specs.Text.{numbered, Goes, Says}
-use Rattle.volume_text.proofs.Lasts.{last_push, last_is}
+use Rattle.volume_text.proofs.{Lasts.last_push, Lasts.last_is, Counting.fitted, Counting.fitted_of}
 
 -- volumes that are open behind lines, the innermost apart
 data Opened : List (List ℕ) → List OpenVolume → OpenVolume → Type 0 where
@@ -80,13 +80,13 @@ held top next changed (Some parts) is e =
     (parts.0, parts.1, new.0, last_is top.files parts is, new.1, same_Ok (with_files top (parts.0 ++ new.0 ∷ [])) next new.2)
 
 changed_more : (lines more : List (List ℕ)) (below : List OpenVolume) (top : OpenVolume) (changed : NewFile → Result NewFile Cause) (to : State) → Opened lines below top
-    → (with_last top changed (last_of top.files) >>= (λ next. Ok (Filling below next))) ≡ Ok to
+    → ((with_last top changed (last_of top.files) >>= fitting) >>= (λ next. Ok (Filling below next))) ≡ Ok to
     → ((inner : List (List ℕ)) (files : List NewFile) (last new : NewFile) → top.files ≡ files ++ last ∷ [] → changed last ≡ Ok new → SayFiles top.form.header_len inner top.name (files ++ last ∷ [])
     → SayFiles top.form.header_len (inner ++ more) top.name (files ++ new ∷ []))
     → Stands (lines ++ more) to
 changed_more lines more below top changed to opened e on =
-    let with_it = bound (with_last top changed (last_of top.files)) (λ next. Ok (Filling below next)) to e in
-    let parts = held top with_it.0 changed (last_of top.files) refl with_it.1 in
+    let with_it = bound (with_last top changed (last_of top.files) >>= fitting) (λ next. Ok (Filling below next)) to e in
+    let parts = held top with_it.0 changed (last_of top.files) refl (fitted_of (with_last top changed (last_of top.files)) with_it.0 with_it.1) in
     let files = parts.0 ++ parts.2 ∷ [] in
     let told : Opened (lines ++ more) below (with_files top files) =
     opened_more lines below top more top.name files opened
@@ -111,6 +111,12 @@ first_script : (top : OpenVolume) (files : List NewFile) (last : NewFile) (phase
 first_script top files last phase x is e =
     let found : last_of top.files ≡ Some (files, last) = ap last_of is ∙ last_push files last in
     not_true (has_script phase last) (passes (not (has_script phase last)) cause.TwoScripts x (ap (only_first phase) (sym found) ∙ e))
+
+first_depex : (top : OpenVolume) (files : List NewFile) (last : NewFile) (phase : Phase) (x : Unit {0}) → top.files ≡ files ++ last ∷ [] → only_first_depex phase (last_of top.files) ≡ Ok x
+    → has_depex phase last ≡ false
+first_depex top files last phase x is e =
+    let found : last_of top.files ≡ Some (files, last) = ap last_of is ∙ last_push files last in
+    not_true (has_depex phase last) (passes (not (has_depex phase last)) cause.TwoDepex x (ap (only_first_depex phase) (sym found) ∙ e))
 
 -- a statement more in a volume
 ends : (lines : List (List ℕ)) (below : List OpenVolume) (top : OpenVolume) (line bytes : List ℕ) (to : State) → Opened lines below top → SaysLine line said.End → built_of top ≡ Ok bytes
@@ -153,7 +159,10 @@ in_volume lines below top line (said.Name name) to opened says e =
     let there : Opened (lines ++ line ∷ []) below parts.0 = subst (λ (v : OpenVolume). Opened (lines ++ line ∷ []) below v) is.2 told in
     subst (λ (s : State). Stands (lines ++ line ∷ []) s) (same_Ok (Filling below parts.0) to parts.2) there
 in_volume lines below top line (said.Pad len) to opened says e =
-    subst (λ (s : State). Stands (lines ++ line ∷ []) s) (same_Ok (Filling below (with_files top (top.files ++ pad_file len ∷ []))) to e)
+    let padded_top = with_files top (top.files ++ pad_file len ∷ []) in
+    let parts = bound (fitting padded_top) (λ next. Ok (Filling below next)) to e in
+    let is : ◌≡◌ {A = Result State Cause} (Ok (Filling below padded_top)) (Ok to) = ap (λ (v : OpenVolume). Ok (Filling below v)) (fitted padded_top parts.0 parts.1) ∙ parts.2 in
+    subst (λ (s : State). Stands (lines ++ line ∷ []) s) (same_Ok (Filling below padded_top) to is)
     (opened_more lines below top (line ∷ []) top.name (top.files ++ pad_file len ∷ []) opened (λ inner say. padded inner top.name top.files line len say says))
 in_volume lines below top line (said.File kind name attributes) to opened says e =
     subst (λ (s : State). Stands (lines ++ line ∷ []) s) (same_Ok (Filling below (with_files top (top.files ++ new_file kind name attributes ∷ []))) to e)
@@ -163,9 +172,11 @@ in_volume lines below top line (said.Body body) to opened says e =
 in_volume lines below top line (said.Section kind body) to opened says e =
     filled_more lines (line ∷ []) below top (section_of kind body) to opened e (λ inner files last new is holds say. section inner top.name files last new line kind body say says holds)
 in_volume lines below top line (said.Depex phase body) to opened says e =
-    let parts = bound (part_checked phase top) (λ _. filling below top (section_of (depex_type phase) body)) to e in
+    let parts = bound (depex_checked phase top) (λ _. filling below top (section_of (depex_type phase) body)) to e in
+    let both = bound (part_checked phase top) (λ _. only_first_depex phase (last_of top.files)) parts.0 parts.1 in
     filled_more lines (line ∷ []) below top (section_of (depex_type phase) body) to opened parts.2
-    (λ inner files last new is holds say. depex inner top.name files last new line phase body say says (has_it top files last phase parts.0 is parts.1) holds)
+    (λ inner files last new is holds say. depex inner top.name files last new line phase body say says (has_it top files last phase both.0 is both.1)
+    (first_depex top files last phase parts.0 is both.2) holds)
 in_volume lines below top line (said.Script phase) to opened says e =
     let parts = bound (script_checked phase top) (λ _. Ok (Writing below top (script_of phase []) [])) to e in
     subst (λ (s : State). Stands (lines ++ line ∷ []) s) (same_Ok (Writing below top (script_of phase []) []) to parts.2)

@@ -2,7 +2,7 @@
 use Rattle.std.specs.Prelude.{ℕ, nat_lt, bytes_eq, if◌then◌else◌, codes, List, [], ◌∷◌, Option, Some, None, option_and_then}
 use Rattle.line_words.specs.Number.{number_of}
 use Rattle.pi_base.specs.{declared.phase.Phase.Phase, declared.phase.Phase.TheVariants.Pei, declared.phase.Phase.TheVariants.Dxe}
-use Rattle.fv_volume.specs.declared.file_type.TheConstants.{RAW, FREEFORM, PEIM, DRIVER, COMBINED_PEIM_DRIVER, VOLUME_IMAGE, COMBINED_MM_DXE}
+use Rattle.fv_volume.specs.declared.file_type.TheConstants.{RAW, FREEFORM, SECURITY_CORE, PEI_CORE, DXE_CORE, PEIM, DRIVER, COMBINED_PEIM_DRIVER, APPLICATION, VOLUME_IMAGE, COMBINED_MM_DXE}
 use Rattle.volume_text.specs.declared.keyword.Keyword.{Keyword}
 use Rattle.volume_text.specs.declared.keyword.Keyword.TheVariants as keyword
 use Rattle.fv_volume.specs.declared.build.file_system.FileSystem.{FileSystem}
@@ -42,6 +42,15 @@ unfoldable pub byte_of : List ℕ → Option ℕ
 byte_of (high ∷ low ∷ []) = option_and_then below_256 (number_of (48 ∷ (120 ∷ (high ∷ (low ∷ [])))))
 byte_of _ = None
 
+-- the type of a core or of an application, or one that two hexadecimal digits spell
+unfoldable pub core_type_of : List ℕ → Option ℕ
+core_type_of word =
+    if bytes_eq word (codes "security-core") then Some SECURITY_CORE
+    else if bytes_eq word (codes "pei-core") then Some PEI_CORE
+    else if bytes_eq word (codes "dxe-core") then Some DXE_CORE
+    else if bytes_eq word (codes "application") then Some APPLICATION
+    else byte_of word
+
 -- the type of a file
 unfoldable pub file_type_of : List ℕ → Option ℕ
 file_type_of word =
@@ -52,4 +61,4 @@ file_type_of word =
     else if bytes_eq word (codes "combined") then Some COMBINED_PEIM_DRIVER
     else if bytes_eq word (codes "volume-image") then Some VOLUME_IMAGE
     else if bytes_eq word (codes "mm-dxe") then Some COMBINED_MM_DXE
-    else byte_of word
+    else core_type_of word

@@ -1,9 +1,9 @@
 -- What is open behind some lines of a text (own): a volume with its files so far, of which the last may get sections.
-use Rattle.std.specs.Prelude.{◌≡◌, ℕ, ◌^◌, Bool, false, ◌&&◌, ◌==◌, not, nat_lt, replicate, take, bytes_eq, if◌then◌else◌, List, [], ◌∷◌, ◌++◌, length, Option, Some, None, Result, Ok, Err}
-use Rattle.std.specs.{List.list_any, Borrow.Bor}
+use Rattle.std.specs.Prelude.{◌≡◌, ℕ, ◌-◌, ◌^◌, Bool, false, ◌&&◌, ◌||◌, ◌==◌, not, nat_le, nat_lt, min, replicate, take, bytes_eq, if◌then◌else◌, List, [], ◌∷◌, ◌++◌, length, Option, Some, None, Result, Ok, Err}
+use Rattle.std.specs.{List.list_any, List.sum_by, Borrow.Bor}
 use Rattle.pi_base.specs.{declared.guid.Guid.Guid, declared.phase.Phase.Phase}
 use Rattle.pi_base.specs.declared.phase.Phase.TheVariants.{Pei, Dxe}
-use Rattle.fv_volume.specs.declared.file_type.TheConstants.{PEIM, DRIVER, COMBINED_MM_DXE, PAD}
+use Rattle.fv_volume.specs.declared.file_type.TheConstants.{PEIM, DRIVER, COMBINED_PEIM_DRIVER, COMBINED_MM_DXE, PAD}
 use Rattle.fv_volume.specs.declared.sections.section_type.TheConstants.{RAW, PEI_DEPEX, DXE_DEPEX}
 use Rattle.fv_volume.specs.{declared.build.new_file.NewFile.NewFile, declared.build.new_file.NewSection.NewSection}
 use Rattle.fv_volume.specs.declared.build.new_file.Body.{Body}
@@ -54,18 +54,41 @@ with_parts volume name files = record { form = volume.form; len = volume.len; na
 abbrev pub with_files : OpenVolume → List NewFile → OpenVolume
 with_files volume files = with_parts volume volume.name files
 
+-- the bytes in a body: its own, or those of its sections
+abbrev pub bytes_held_in : Body → ℕ
+bytes_held_in (Sections sections) = sum_by (λ section. length section.body) sections
+bytes_held_in (Bytes bytes) = length bytes
+
+-- the bytes in all bodies of files, without the files' headers and without what stands between them
+abbrev pub bytes_held : List NewFile → ℕ
+bytes_held files = sum_by (λ file. bytes_held_in file.body) files
+
+-- so many bytes, where a volume of this length has room for them
+abbrev pub room_for : ℕ → ℕ → Result ℕ Cause
+room_for held len = only_if (nat_le held len) (cause.NoRoom (min held (2 ^ 64 - 1))) held
+
+-- the volume, where the bodies of its files hold no more bytes than it has
+abbrev pub fitting : OpenVolume → Result OpenVolume Cause
+fitting volume = room_for (bytes_held volume.files) volume.len >>= (λ _. Ok volume)
+
 -- the volume with its last file changed
 abbrev pub with_last : OpenVolume → (NewFile → Result NewFile Cause) → Option (List NewFile × NewFile) → Result OpenVolume Cause
 with_last volume changed None = Err cause.NoFile
 with_last volume changed (Some parts) = changed parts.1 >>= (λ last. Ok (with_files volume (parts.0 ++ last ∷ [])))
 
+abbrev pub section_added : OpenVolume → NewSection → Result OpenVolume Cause
+section_added volume section = with_last volume (holding section) (last_of volume.files)
+
 -- the volume with one more section in its last file
 abbrev pub with_section : OpenVolume → NewSection → Result OpenVolume Cause
-with_section volume section = with_last volume (holding section) (last_of volume.files)
+with_section volume section = section_added volume section >>= fitting
+
+abbrev pub last_body_set : OpenVolume → List ℕ → Result OpenVolume Cause
+last_body_set volume bytes = with_last volume (with_bytes bytes) (last_of volume.files)
 
 -- the volume with these bytes as its last file's body
 abbrev pub with_last_body : OpenVolume → List ℕ → Result OpenVolume Cause
-with_last_body volume bytes = with_last volume (with_bytes bytes) (last_of volume.files)
+with_last_body volume bytes = last_body_set volume bytes >>= fitting
 
 abbrev pub new_file : ℕ → Guid → FileAttributes → NewFile
 new_file kind name attributes = record { name = name; kind = kind; attributes = attributes; body = Sections [] }
@@ -82,8 +105,8 @@ with_file volume kind name attributes = with_new_file volume (new_file kind name
 abbrev pub pad_file : ℕ → NewFile
 pad_file len = record { name = record { 0 = replicate 16 ERASED }; kind = PAD; attributes = plain_attributes; body = Bytes (replicate len ERASED) }
 
-abbrev pub with_pad : OpenVolume → ℕ → OpenVolume
-with_pad volume len = with_new_file volume (pad_file len)
+abbrev pub with_pad : OpenVolume → ℕ → Result OpenVolume Cause
+with_pad volume len = fitting (with_new_file volume (pad_file len))
 
 abbrev pub named_over : OpenVolume → VolumeName → Option VolumeName → Result OpenVolume Cause
 named_over volume name None = only_if (is_placed volume.form.header_len (Some name)) cause.Range (with_parts volume (Some name) volume.files)
@@ -98,10 +121,21 @@ abbrev pub depex_type : Phase → ℕ
 depex_type Pei = PEI_DEPEX
 depex_type Dxe = DXE_DEPEX
 
--- a PEIM has a part for PEI alone, a driver and an MM module of DXE one for DXE alone (PI 1.8, volume 3, file types)
+-- a PEIM has a part for PEI, a driver and an MM module of DXE one for DXE, and a PEIM and driver in one file both (PI 1.8, volume 3, file types)
 abbrev pub has_part : ℕ → Phase → Bool
-has_part kind Pei = not (kind == DRIVER) && not (kind == COMBINED_MM_DXE)
-has_part kind Dxe = not (kind == PEIM)
+has_part kind Pei = (kind == PEIM) || (kind == COMBINED_PEIM_DRIVER)
+has_part kind Dxe = (kind == DRIVER) || ((kind == COMBINED_PEIM_DRIVER) || (kind == COMBINED_MM_DXE))
+
+-- the section has the expression for a phase
+abbrev pub is_depex_of : Phase → NewSection → Bool
+is_depex_of phase section = section.kind == depex_type phase
+
+abbrev pub is_depex_in : Phase → Body → Bool
+is_depex_in phase (Sections sections) = list_any (is_depex_of phase) sections
+is_depex_in phase (Bytes bytes) = false
+
+abbrev pub has_depex : Phase → NewFile → Bool
+has_depex phase file = is_depex_in phase file.body
 
 abbrev pub phase_byte : Phase → ℕ
 phase_byte Pei = 1
@@ -148,6 +182,17 @@ only_first phase (Some parts) = only_without_script phase parts.1
 -- the last file may get a script of a phase
 abbrev pub script_checked : Phase → OpenVolume → Result (Unit {0}) Cause
 script_checked phase volume = part_checked phase volume >>= (λ _. only_first phase (last_of volume.files))
+
+abbrev pub only_without_depex : Phase → NewFile → Result (Unit {0}) Cause
+only_without_depex phase file = only_if (not (has_depex phase file)) cause.TwoDepex tt
+
+abbrev pub only_first_depex : Phase → Option (List NewFile × NewFile) → Result (Unit {0}) Cause
+only_first_depex phase None = Err cause.NoFile
+only_first_depex phase (Some parts) = only_without_depex phase parts.1
+
+-- the last file may get an expression for a phase
+abbrev pub depex_checked : Phase → OpenVolume → Result (Unit {0}) Cause
+depex_checked phase volume = part_checked phase volume >>= (λ _. only_first_depex phase (last_of volume.files))
 
 -- what stands against a volume, as what is wrong with its `end`
 abbrev pub stop_of : BuildFault → Stop

@@ -15,7 +15,7 @@ use Rattle.volume_text.specs.declared.statement.Statement.TheVariants as stateme
 use Rattle.volume_text.specs.{declared.volume.OpenVolume.OpenVolume, declared.step.State.State, Line.Reads}
 use Rattle.volume_text.specs.declared.step.State.TheVariants.{Begin, Filling, Writing, Done}
 use Rattle.volume_text.specs.Reading.{◌>>=◌, at, onward}
-use Rattle.volume_text.specs.Open.{last_of, with_section, with_last_body, with_file, with_pad, with_name, depex_type, part_checked, script_checked, built_of}
+use Rattle.volume_text.specs.Open.{last_of, with_section, with_last_body, with_file, with_pad, with_name, depex_type, depex_checked, script_checked, built_of}
 use Rattle.volume_text.specs.Script.{script_of, with_block, with_action, IsScriptBody}
 
 -- the actions of the script that is open are such as lines say
@@ -35,9 +35,9 @@ begun (statement.Volume form len) = Ok (Filling [] (new_volume form len))
 begun _ = Err cause.NoVolume
 
 -- the innermost volume as it has become
-abbrev pub with_top : List OpenVolume → OpenVolume → Result (Unit {0}) Stop → Result State Stop
-with_top below top (Ok done) = Ok (Filling below top)
-with_top below top (Err e) = Err e
+abbrev pub filling_with : List OpenVolume → Result OpenVolume Stop → Result State Stop
+filling_with below (Ok top) = Ok (Filling below top)
+filling_with below (Err e) = Err e
 
 -- a section more in the last file
 abbrev pub filling : List OpenVolume → OpenVolume → NewSection → Result State Cause
@@ -52,7 +52,7 @@ abbrev pub nested : List OpenVolume → OpenVolume → VolumeForm → ℕ → Re
 nested below top form len = nested_in top.files below top form len
 
 abbrev pub with_depex : List OpenVolume → OpenVolume → Phase → List ℕ → Result State Cause
-with_depex below top phase body = part_checked phase top >>= (λ _. filling below top (section_of (depex_type phase) body))
+with_depex below top phase body = depex_checked phase top >>= (λ _. filling below top (section_of (depex_type phase) body))
 
 abbrev pub with_script : List OpenVolume → OpenVolume → Phase → Result State Cause
 with_script below top phase = script_checked phase top >>= (λ _. Ok (Writing below top (script_of phase []) []))
@@ -72,7 +72,7 @@ closed below top = built_of top >>= (λ bytes. closed_in bytes (last_volume belo
 abbrev pub filled : List OpenVolume → OpenVolume → Statement → Result State Cause
 filled below top (statement.Volume form len) = nested below top form len
 filled below top (statement.Name name) = with_name top name >>= (λ top. Ok (Filling below top))
-filled below top (statement.Pad len) = Ok (Filling below (with_pad top len))
+filled below top (statement.Pad len) = with_pad top len >>= (λ top. Ok (Filling below top))
 filled below top (statement.File kind name attributes) = Ok (Filling below (with_file top kind name attributes))
 filled below top (statement.Body bytes) = with_last_body top bytes >>= (λ top. Ok (Filling below top))
 filled below top (statement.Section kind body) = filling below top (section_of kind body)

@@ -1,5 +1,5 @@
 -- A text: its lines that count, the volume that they say, and the line at fault where they say none (own).
-use Rattle.std.specs.Prelude.{◌≡◌, ◌⊎◌, ℕ, ◌+◌, ⊤, Bool, true, false, ◌==◌, if◌then◌else◌, List, [], ◌∷◌, ◌++◌, length, map, Result, Ok, Err}
+use Rattle.std.specs.Prelude.{◌≡◌, ◌⊎◌, ℕ, ◌+◌, ⊤, Bool, true, false, if◌then◌else◌, List, [], ◌∷◌, ◌++◌, length, map, Result, Ok, Err}
 use Rattle.line_words.specs.Line.{lines}
 use Rattle.source_words.specs.Words.{words}
 use Rattle.volume_text.specs.{declared.fault.Cause.Cause, declared.fault.Cause.TheVariants.NoVolume, declared.fault.Cause.TheVariants.NoEnd}
@@ -8,15 +8,11 @@ use Rattle.volume_text.specs.declared.fault.TextFault.TheVariants as text_fault
 use Rattle.volume_text.specs.{declared.step.State.TheVariants.Begin, declared.step.State.TheVariants.Done, Step.Steps}
 use Rattle.volume_text.specs.{declared.volume.OpenVolume.OpenVolume, Volume.SaysOpen, Volume.SaysVolume}
 
-abbrev pub is_comment : List ℕ → Bool
-is_comment [] = true
-is_comment (first ∷ rest) = first == 35
-
 abbrev pub passes_over : List (List ℕ) → Bool
 passes_over [] = true
-passes_over (word ∷ words) = is_comment word
+passes_over (word ∷ words) = false
 
--- a line that has no word, or whose first one begins with `#`
+-- a line that has no word: blanks, or a comment
 abbrev pub is_passed_over : List ℕ → Bool
 is_passed_over line = passes_over (words line)
 

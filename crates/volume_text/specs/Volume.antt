@@ -7,7 +7,7 @@ use Rattle.fv_volume.specs.{declared.build.new_file.NewFile.NewFile, declared.bu
 use Rattle.act_code.specs.{declared.action.Action.Action, Script.IsScript}
 use Rattle.volume_text.specs.{declared.statement.Statement.Statement, declared.volume.OpenVolume.OpenVolume, Line.Reads}
 use Rattle.volume_text.specs.declared.statement.Statement.TheVariants.{Volume, Name, File, Pad, Body, Section, Depex, Script, Block, End, Action as ActionLine}
-use Rattle.volume_text.specs.Open.{holding, with_bytes, new_file, pad_file, depex_type, has_part, has_script, built_of}
+use Rattle.volume_text.specs.Open.{holding, with_bytes, new_file, pad_file, depex_type, has_part, has_depex, has_script, built_of}
 use Rattle.volume_text.specs.{Script.action_at, Script.script_of, Step.section_of}
 
 -- the line says this
@@ -44,7 +44,7 @@ pub data SayFiles : ℕ → List (List ℕ) → Option VolumeName → List NewFi
       → SayFiles header_len lines called (files ++ last ∷ []) → SaysLine line (Section kind body) → holding (section_of kind body) last ≡ Ok next
       → SayFiles header_len (lines ++ line ∷ []) called (files ++ next ∷ [])
   depex : {header_len : ℕ} (lines : List (List ℕ)) (called : Option VolumeName) (files : List NewFile) (last next : NewFile) (line : List ℕ) (phase : Phase) (body : List ℕ)
-      → SayFiles header_len lines called (files ++ last ∷ []) → SaysLine line (Depex phase body) → has_part last.kind phase ≡ true
+      → SayFiles header_len lines called (files ++ last ∷ []) → SaysLine line (Depex phase body) → has_part last.kind phase ≡ true → has_depex phase last ≡ false
       → holding (section_of (depex_type phase) body) last ≡ Ok next
       → SayFiles header_len (lines ++ line ∷ []) called (files ++ next ∷ [])
   script : {header_len : ℕ} (lines : List (List ℕ)) (called : Option VolumeName) (files : List NewFile) (last next : NewFile) (line : List ℕ) (phase : Phase)

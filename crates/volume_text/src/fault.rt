@@ -52,6 +52,8 @@ pub enum Cause {
     InScript,
     /// A file of this type has no expressions and scripts of the phase.
     NoPart,
+    /// The file has an expression for the phase already.
+    TwoDepex,
     /// The file has a script of the phase already.
     TwoScripts,
     /// The file has a body or sections already, and cannot have both, nor two bodies.

@@ -1,10 +1,11 @@
 // The first words of lines, and the words for phases, file systems and types.
 ghost use Rattle.std.specs.Prelude.{◌≡◌};
-ghost use Rattle.volume_text.specs.Keywords.{plain_keyword_of, keyword_of, phase_of, system_of, byte_of, file_type_of};
+ghost use Rattle.volume_text.specs.Keywords.{plain_keyword_of, keyword_of, phase_of, system_of, byte_of, core_type_of, file_type_of};
 
 use fv_volume::build::FileSystem;
 use fv_volume::file_type::{
-    COMBINED_MM_DXE, COMBINED_PEIM_DRIVER, DRIVER, FREEFORM, PEIM, RAW, VOLUME_IMAGE,
+    APPLICATION, COMBINED_MM_DXE, COMBINED_PEIM_DRIVER, DRIVER, DXE_CORE, FREEFORM, PEI_CORE, PEIM,
+    RAW, SECURITY_CORE, VOLUME_IMAGE,
 };
 use line_words::number_of;
 use pi_base::Phase;
@@ -112,6 +113,24 @@ pub(crate) fn byte_of(word: &[u8]) -> Option<u8>
     }
 }
 
+// The type of a core or of an application that a word names, or the one that two hexadecimal digits spell.
+#[tactic(auto, unfolding(crate::specs::Keywords::core_type_of))]
+fn core_type_of(word: &[u8]) -> Option<u8>
+    ensures { result ≡ core_type_of word.now }
+{
+    if word == b"security-core".as_slice() {
+        Some(SECURITY_CORE)
+    } else if word == b"pei-core".as_slice() {
+        Some(PEI_CORE)
+    } else if word == b"dxe-core".as_slice() {
+        Some(DXE_CORE)
+    } else if word == b"application".as_slice() {
+        Some(APPLICATION)
+    } else {
+        byte_of(word)
+    }
+}
+
 /// The type of a file that a word names, or that two hexadecimal digits spell.
 #[tactic(auto, unfolding(crate::specs::Keywords::file_type_of))]
 pub(crate) fn file_type_of(word: &[u8]) -> Option<u8>
@@ -132,6 +151,6 @@ pub(crate) fn file_type_of(word: &[u8]) -> Option<u8>
     } else if word == b"mm-dxe".as_slice() {
         Some(COMBINED_MM_DXE)
     } else {
-        byte_of(word)
+        core_type_of(word)
     }
 }

@@ -1,8 +1,9 @@
 // The laws of texts.
-ghost use Rattle.std.specs.Prelude.{◌≡◌, ℕ, List, None, Ok, Err, All};
+ghost use Rattle.std.specs.Prelude.{◌≡◌, ℕ, ◌<◌, ◌≤◌, List, None, Ok, Err, All};
 ghost use Rattle.fv_volume.specs.{Files.HasWholeName, Reading.IsReadBack};
-ghost use Rattle.volume_text.specs.{declared.fault.Cause.Cause, declared.fault.Fault.Fault, declared.fault.TextFault.TheVariants.Bad};
-ghost use Rattle.volume_text.specs.{declared.volume.OpenVolume.OpenVolume, Open.built_of};
+ghost use Rattle.volume_text.specs.{declared.fault.Cause.Cause, declared.fault.Cause.TheVariants.NoRoom};
+ghost use Rattle.volume_text.specs.{declared.fault.Fault.Fault, declared.fault.TextFault.TheVariants.Bad};
+ghost use Rattle.volume_text.specs.{declared.volume.OpenVolume.OpenVolume, Open.bytes_held, Open.built_of};
 ghost use Rattle.volume_text.specs.Text.{Describes, Says, Leads, IsRefused};
 
 /// A text describes one volume, or has one first line at fault with one cause, and never both.
@@ -19,11 +20,15 @@ pub fn said_is_read()
 {}
 
 /// Of a volume that a text describes, what is answered is what can be built of it: its bytes, or what stands against it, at the line of its `end`.
+/// Where its files hold more bytes than it has, a line is refused for want of room.
 pub fn built_or_refused()
     ensures built { (text : List ℕ) (volume : OpenVolume) (bytes : List ℕ) → Describes text volume → Leads text bytes
         → built_of volume ≡ Ok bytes }
-    ensures refused { (text : List ℕ) (volume : OpenVolume) (cause : Cause) → Describes text volume → built_of volume ≡ Err cause
+    ensures refused { (text : List ℕ) (volume : OpenVolume) (cause : Cause) → Describes text volume → bytes_held volume.files ≤ volume.len
+        → built_of volume ≡ Err cause
         → (line : ℕ) × IsRefused text (Bad (record { line = line; cause = cause })) }
+    ensures early { (text : List ℕ) (volume : OpenVolume) → Describes text volume → volume.len < bytes_held volume.files
+        → (line : ℕ) × (need : ℕ) × IsRefused text (Bad (record { line = line; cause = NoRoom need })) }
 {}
 
 /// A volume without a name that a text describes is read again: the reader finds the files that the lines say, with their names, types and sections.

@@ -4,6 +4,7 @@
 #![tactic(auto)]
 
 mod bytes;
+mod counted;
 mod fault;
 mod keyword;
 mod law;
@@ -19,4 +20,4 @@ pub use fault::{Cause, Fault, TextFault};
 pub use law::{again, built_or_refused, one_volume, said_is_read};
 pub use statement::Statement;
 pub use text::volume_of;
-pub use volume::{has_part, is_script};
+pub use volume::{depex_type, has_part, is_script};

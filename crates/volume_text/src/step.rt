@@ -1,17 +1,15 @@
 // One line more of a text.
 ghost use Rattle.std.specs.Prelude.{◌≡◌, IfOk, OnOk};
 ghost use Rattle.volume_text.specs.Reading.{Gives, Answers};
-ghost use Rattle.volume_text.specs.Step.{IsSaidState, begun, with_top, filling, nested, with_depex, with_script, closed, filled, written, at_line, EndsScript, goes_on, outside, Takes, Steps};
+ghost use Rattle.volume_text.specs.Step.{IsSaidState, begun, filling_with, filling, nested, with_depex, with_script, closed, filled, written, at_line, EndsScript, goes_on, outside, Takes, Steps};
 ghost use Rattle.source_words.specs.Script.{AreSaid};
 
+use crate::counted::{CountedVolume, opened};
 use crate::fault::{Cause, Fault, Stop, TextFault};
 use crate::line::read_line;
 use crate::script::{add_action, add_block, script_body};
 use crate::statement::Statement;
-use crate::volume::{
-    OpenVolume, add_file, add_pad, add_section, built_of, depex_type, part_checked, script_checked,
-    set_last_body, set_name,
-};
+use crate::volume::{built_of, depex_checked, depex_type, script_checked};
 use act_code::Script;
 use fv_volume::build::{NewSection, VolumeForm};
 use fv_volume::sections::section_type::{RAW, VOLUME_IMAGE};
@@ -25,13 +23,13 @@ pub(crate) enum State {
     Begin,
     /// Volumes, each in the last file of the one before. `top` is the innermost.
     Filling {
-        below: Seq<OpenVolume>,
-        top: OpenVolume,
+        below: Seq<CountedVolume>,
+        top: CountedVolume,
     },
     /// A script in the last file of the innermost volume, and the text's lines that it has so far.
     Writing {
-        below: Seq<OpenVolume>,
-        top: OpenVolume,
+        below: Seq<CountedVolume>,
+        top: CountedVolume,
         script: Script,
         lines: Seq<u64>,
     },
@@ -48,26 +46,20 @@ fn begun(alloc: Global, statement: &Statement) -> Result<State, Stop>
     match statement {
         Statement::Volume { form, len } => Ok(State::Filling {
             below: Seq::new(alloc),
-            top: OpenVolume {
-                form: *form,
-                len: *len,
-                name: None,
-                files: Seq::new(alloc),
-            },
+            top: opened(alloc, *form, *len),
         }),
         _ => Err(Stop::Fault(Cause::NoVolume)),
     }
 }
 
 // The innermost volume as it has become, if it has.
-fn with_top(below: Seq<OpenVolume>, top: OpenVolume, done: Result<(), Stop>) -> Result<State, Stop>
-    ensures { result ≡ with_top below top done }
+fn filling_with(below: Seq<CountedVolume>, made: Result<CountedVolume, Stop>) -> Result<State, Stop>
+    ensures { result ≡ filling_with below made }
 {
-    match done {
-        Ok(()) => Ok(State::Filling { below, top }),
+    match made {
+        Ok(top) => Ok(State::Filling { below, top }),
         Err(stop) => {
             drop(below);
-            drop(top);
             Err(stop)
         }
     }
@@ -75,48 +67,46 @@ fn with_top(below: Seq<OpenVolume>, top: OpenVolume, done: Result<(), Stop>) -> 
 
 // A section more in the last file.
 #[tactic(auto, using(crate::proofs::Ending::topped))]
-fn filling(below: Seq<OpenVolume>, mut top: OpenVolume, section: NewSection) -> Result<State, Stop>
+fn filling(
+    below: Seq<CountedVolume>,
+    top: CountedVolume,
+    section: NewSection,
+) -> Result<State, Stop>
     ensures { Gives (λ x. x) result (filling below top section) }
 {
-    let added = add_section(&mut top, section);
-    with_top(below, top, added)
+    filling_with(below, top.with_section(section))
 }
 
 // A volume in the last file begins.
 fn nested(
     alloc: Global,
-    mut below: Seq<OpenVolume>,
-    top: OpenVolume,
+    mut below: Seq<CountedVolume>,
+    top: CountedVolume,
     form: VolumeForm,
     len: u64,
 ) -> Result<State, Stop>
     ensures { Gives (λ x. x) result (nested below top form len) }
 {
-    if top.files.is_empty() {
+    if top.volume().files.is_empty() {
         return Err(Stop::Fault(Cause::NoFile));
     }
     below.push(top)?;
     Ok(State::Filling {
         below,
-        top: OpenVolume {
-            form,
-            len,
-            name: None,
-            files: Seq::new(alloc),
-        },
+        top: opened(alloc, form, len),
     })
 }
 
 // The expression of the last file for a phase.
 fn with_depex(
-    below: Seq<OpenVolume>,
-    top: OpenVolume,
+    below: Seq<CountedVolume>,
+    top: CountedVolume,
     phase: Phase,
     body: Seq<u8>,
 ) -> Result<State, Stop>
     ensures { Gives (λ x. x) result (with_depex below top phase body) }
 {
-    part_checked(&top, phase)?;
+    depex_checked(top.volume(), phase)?;
     let kind = depex_type(phase);
     filling(below, top, NewSection { kind, body })
 }
@@ -124,14 +114,14 @@ fn with_depex(
 // A script of the last file begins.
 fn with_script(
     alloc: Global,
-    below: Seq<OpenVolume>,
-    top: OpenVolume,
+    below: Seq<CountedVolume>,
+    top: CountedVolume,
     phase: Phase,
 ) -> Result<State, Stop>
     ensures made { Gives (λ x. x) result (with_script below top phase) }
     ensures said { IfOk result IsSaidState }
 {
-    script_checked(&top, phase)?;
+    script_checked(top.volume(), phase)?;
     Ok(State::Writing {
         below,
         top,
@@ -145,10 +135,10 @@ fn with_script(
 
 // The innermost volume ends.
 #[tactic(auto, using(crate::proofs::Lasts::last_push))]
-fn closed(alloc: Global, mut below: Seq<OpenVolume>, top: &OpenVolume) -> Result<State, Stop>
+fn closed(alloc: Global, mut below: Seq<CountedVolume>, top: &CountedVolume) -> Result<State, Stop>
     ensures { Gives (λ x. x) result (closed below top.now) }
 {
-    let bytes = built_of(alloc, top)?;
+    let bytes = built_of(alloc, top.volume())?;
     match below.pop() {
         None => Ok(State::Done { bytes }),
         Some(top) => filling(
@@ -165,8 +155,8 @@ fn closed(alloc: Global, mut below: Seq<OpenVolume>, top: &OpenVolume) -> Result
 // A line more in a volume.
 fn filled(
     alloc: Global,
-    below: Seq<OpenVolume>,
-    mut top: OpenVolume,
+    below: Seq<CountedVolume>,
+    top: CountedVolume,
     statement: Statement,
 ) -> Result<State, Stop>
     ensures made { Gives (λ x. x) result (filled below top statement) }
@@ -174,26 +164,14 @@ fn filled(
 {
     match statement {
         Statement::Volume { form, len } => nested(alloc, below, top, form, len),
-        Statement::Name { name } => {
-            let named = set_name(&mut top, name);
-            with_top(below, top, named)
-        }
-        Statement::Pad { len } => {
-            let added = add_pad(alloc, &mut top, len);
-            with_top(below, top, added)
-        }
+        Statement::Name { name } => filling_with(below, top.with_name(name)),
+        Statement::Pad { len } => filling_with(below, top.with_pad(alloc, len)),
         Statement::File {
             kind,
             name,
             attributes,
-        } => {
-            let added = add_file(alloc, &mut top, kind, name, attributes);
-            with_top(below, top, added)
-        }
-        Statement::Body { bytes } => {
-            let filled = set_last_body(&mut top, bytes);
-            with_top(below, top, filled)
-        }
+        } => filling_with(below, top.with_file(alloc, kind, name, attributes)),
+        Statement::Body { bytes } => filling_with(below, top.with_last_body(bytes)),
         Statement::Section { kind, body } => filling(below, top, NewSection { kind, body }),
         Statement::Depex { phase, body } => with_depex(below, top, phase, body),
         Statement::Script { phase } => with_script(alloc, below, top, phase),
@@ -232,8 +210,8 @@ fn at(number: u64, stop: Stop) -> TextFault
 // A script in the last file of the innermost volume.
 #[derive(Drop)]
 struct OpenScript {
-    below: Seq<OpenVolume>,
-    top: OpenVolume,
+    below: Seq<CountedVolume>,
+    top: CountedVolume,
     script: Script,
     lines: Seq<u64>,
 }

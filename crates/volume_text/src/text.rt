@@ -11,14 +11,11 @@ use pi_base::Seq;
 use source_words::next_word;
 use std::alloc::Global;
 
-// Whether a line is passed over: it has no word, or its first one begins with `#`.
+// Whether a line is passed over: it has no word.
 fn is_passed_over(line: &[u8]) -> bool
     ensures { result ≡ is_passed_over line.now }
 {
-    match next_word(line) {
-        Some(([first, ..], _)) => *first == b'#',
-        _ => true,
-    }
+    next_word(line).is_none()
 }
 
 // What is open behind a line more, which may be passed over.
@@ -59,8 +56,8 @@ fn ends_open(alloc: Global, text: &[u8]) -> Result<(State, u64), TextFault>
 
 /// The bytes of the volume that a text describes.
 ///
-/// Spaces and tabs stand in front of lines and between words, and a carriage return before a line feed is dropped. Lines without a word, and those
-/// whose first word begins with `#`, are passed over.
+/// Spaces and tabs stand in front of lines and between words, and a carriage return before a line feed is dropped. A `#` begins a comment, but in the text
+/// of a `log`. Lines without a word are passed over.
 #[tactic(auto, using(crate::proofs::Saying::says, crate::proofs::Going::leads, crate::proofs::Going::cut_short))]
 pub fn volume_of(alloc: Global, text: &[u8]) -> Result<Seq<u8>, TextFault>
     requires { length text.now < 2 ^ 63 }

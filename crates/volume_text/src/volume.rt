@@ -1,14 +1,14 @@
 // What is open behind some lines of a text: volumes, one in a file of the other, and in the last file of the innermost maybe a script.
 ghost use Rattle.std.specs.Prelude.{◌≡◌, ◌<◌, ◌^◌, Ok, IfOk, take};
 ghost use Rattle.volume_text.specs.Reading.{Gives};
-ghost use Rattle.volume_text.specs.Open.{holding, with_bytes, with_section, with_last_body, with_file, pad_file, with_pad, with_name, is_in_range, depex_type, has_part, script_front, is_script_of, has_script, IsLastFile, part_checked, script_checked, stop_of, built_of};
+ghost use Rattle.volume_text.specs.Open.{holding, with_bytes, section_added, last_body_set, with_new_file, with_file, pad_file, with_name, is_in_range, depex_type, has_part, is_depex_of, has_depex, script_front, is_script_of, has_script, IsLastFile, part_checked, script_checked, depex_checked, stop_of, built_of};
 
 use crate::fault::{Cause, Stop};
 use crate::word::{is_header, is_length};
 use fv_volume::build::{
     Body, BuildFault, FileAttributes, NewFile, NewSection, VolumeForm, VolumeName, build, is_placed,
 };
-use fv_volume::file_type::{COMBINED_MM_DXE, DRIVER, PAD, PEIM};
+use fv_volume::file_type::{COMBINED_MM_DXE, COMBINED_PEIM_DRIVER, DRIVER, PAD, PEIM};
 use fv_volume::sections::section_type::{DXE_DEPEX, PEI_DEPEX, RAW};
 use pi_base::{Guid, OutOfMemory, Phase, Seq};
 use std::alloc::Global;
@@ -56,7 +56,7 @@ fn fill(file: &mut NewFile, bytes: Seq<u8>) -> Result<(), Stop>
 
 /// Gives the last file of a volume one more section.
 pub(crate) fn add_section(volume: &mut OpenVolume, section: NewSection) -> Result<(), Stop>
-    ensures { Gives (λ _. volume.new) result (with_section volume.old section) }
+    ensures { Gives (λ _. volume.new) result (section_added volume.old section) }
 {
     let Some(mut last) = volume.files.pop() else {
         return Err(Stop::Fault(Cause::NoFile));
@@ -75,7 +75,7 @@ pub(crate) fn add_section(volume: &mut OpenVolume, section: NewSection) -> Resul
 
 /// Makes these bytes the body of the last file of a volume.
 pub(crate) fn set_last_body(volume: &mut OpenVolume, bytes: Seq<u8>) -> Result<(), Stop>
-    ensures { Gives (λ _. volume.new) result (with_last_body volume.old bytes) }
+    ensures { Gives (λ _. volume.new) result (last_body_set volume.old bytes) }
 {
     let Some(mut last) = volume.files.pop() else {
         return Err(Stop::Fault(Cause::NoFile));
@@ -127,8 +127,8 @@ fn pad_file(alloc: Global, len: u64) -> Result<NewFile, OutOfMemory>
 }
 
 /// Gives a volume one more pad file.
-pub(crate) fn add_pad(alloc: Global, volume: &mut OpenVolume, len: u64) -> Result<(), Stop>
-    ensures { Gives (λ _. volume.new) result (Ok (with_pad volume.old len)) }
+pub(crate) fn add_pad(alloc: Global, volume: &mut OpenVolume, len: u64) -> Result<(), OutOfMemory>
+    ensures { IfOk result (λ _. volume.new ≡ with_new_file volume.old (pad_file len)) }
 {
     let file = pad_file(alloc, len)?;
     volume.files.push(file)?;
@@ -150,7 +150,7 @@ pub(crate) fn set_name(volume: &mut OpenVolume, name: VolumeName) -> Result<(), 
 }
 
 /// The type of the section with the expression for a phase.
-pub(crate) fn depex_type(phase: Phase) -> u8
+pub fn depex_type(phase: Phase) -> u8
     ensures { result ≡ depex_type phase }
 {
     match phase {
@@ -164,8 +164,8 @@ pub fn has_part(kind: u8, phase: Phase) -> bool
     ensures { result ≡ has_part kind phase }
 {
     match phase {
-        Phase::Pei => kind != DRIVER && kind != COMBINED_MM_DXE,
-        Phase::Dxe => kind != PEIM,
+        Phase::Pei => kind == PEIM || kind == COMBINED_PEIM_DRIVER,
+        Phase::Dxe => kind == DRIVER || kind == COMBINED_PEIM_DRIVER || kind == COMBINED_MM_DXE,
     }
 }
 
@@ -212,6 +212,28 @@ fn has_script(file: &NewFile, phase: Phase) -> bool
     false
 }
 
+// Whether a section has the expression for a phase.
+fn is_depex_of(section: &NewSection, phase: Phase) -> bool
+    ensures { result ≡ is_depex_of phase section.now }
+{
+    section.kind == depex_type(phase)
+}
+
+// Whether a file has an expression for a phase.
+fn has_depex(file: &NewFile, phase: Phase) -> bool
+    ensures { result ≡ has_depex phase file.now }
+{
+    let Body::Sections(sections) = &file.body else {
+        return false;
+    };
+    'sections: for section in sections.as_slice() {
+        if is_depex_of(section, phase) {
+            return true;
+        }
+    }
+    false
+}
+
 // The last of the files.
 fn last_file(files: &[NewFile]) -> Option<&NewFile>
     ensures { IsLastFile result files.now }
@@ -247,6 +269,23 @@ pub(crate) fn script_checked(volume: &OpenVolume, phase: Phase) -> Result<(), St
         Some(last) => {
             if has_script(last, phase) {
                 Err(Stop::Fault(Cause::TwoScripts))
+            } else {
+                Ok(())
+            }
+        }
+        None => Err(Stop::Fault(Cause::NoFile)),
+    }
+}
+
+/// That the last file may get an expression for a phase.
+pub(crate) fn depex_checked(volume: &OpenVolume, phase: Phase) -> Result<(), Stop>
+    ensures { Gives (λ x. x) result (depex_checked phase volume.now) }
+{
+    part_checked(volume, phase)?;
+    match last_file(volume.files.as_slice()) {
+        Some(last) => {
+            if has_depex(last, phase) {
+                Err(Stop::Fault(Cause::TwoDepex))
             } else {
                 Ok(())
             }

@@ -257,7 +257,7 @@ const AUDIT_MAIN_FRONT: [u8; 1254] = [
 ];
 
 /// Texts with a mistake, its line and its cause.
-static MISTAKES: [(&str, u64, Cause); 74] = [
+static MISTAKES: [(&str, u64, Cause); 85] = [
     ("", 1, Cause::NoVolume), // no line
     ("\n# nothing\n", 3, Cause::NoVolume), // comments alone
     (
@@ -322,6 +322,31 @@ static MISTAKES: [(&str, u64, Cause); 74] = [
         3,
         Cause::NoPart,
     ), // a script for DXE in a PEIM
+    (
+        "volume 4096\nfile freeform 00000001-0000-4000-8000-000000000001\ndepex pei true\n",
+        3,
+        Cause::NoPart,
+    ), // an expression in a file that is no module
+    (
+        "volume 4096\nfile volume-image 00000001-0000-4000-8000-000000000001\nscript dxe\n",
+        3,
+        Cause::NoPart,
+    ), // a script in one
+    (
+        "volume 4096\nfile pei-core 00000001-0000-4000-8000-000000000001\nscript pei\n",
+        3,
+        Cause::NoPart,
+    ), // a script in a core
+    (
+        "volume 4096\nfile combined 00000001-0000-4000-8000-000000000001\ndepex pei true\ndepex dxe true\ndepex pei true\n",
+        5,
+        Cause::TwoDepex,
+    ), // a second expression for a phase
+    (
+        "volume 4096\nfile peim 00000001-0000-4000-8000-000000000001\nsection 1b 0608\ndepex pei true\n",
+        4,
+        Cause::TwoDepex,
+    ), // a second one, behind one by its bytes
     (
         "volume 4096\nfile peim 00000001-0000-4000-8000-000000000001\ndepex smm true\n",
         3,
@@ -427,6 +452,36 @@ static MISTAKES: [(&str, u64, Cause); 74] = [
         4,
         Cause::NoRoom { need: 101 },
     ), // too small a volume
+    (
+        "volume 4096\npad 4000\npad 96\npad 1\npad 1\n",
+        4,
+        Cause::NoRoom { need: 4097 },
+    ), // more bytes than the volume has, without the files' headers
+    (
+        "volume 4096\npad 4000\npad 96\nend\n",
+        4,
+        Cause::NoRoom { need: 4216 },
+    ), // as many: no room at the end
+    (
+        "volume 72\nfile raw 00000001-0000-4000-8000-000000000001\nbody 00000000000000000000000000000000000000000000000000000000000000000000000000000000000000000000000000000000000000000000000000000000000000000000000000\n",
+        3,
+        Cause::NoRoom { need: 73 },
+    ), // a body that is longer than the volume
+    (
+        "volume 96\nfile peim 00000001-0000-4000-8000-000000000001\nraw 00000000000000000000000000000000000000000000000000000000000000000000000000000000000000000000000000000000000000000000000000000000000000000000000000\ndepex pei (true and true) and ((true and true) and (true and true))\nraw 000000000000000000000000\n",
+        5,
+        Cause::NoRoom { need: 97 },
+    ), // sections that are longer than it, with an expression of 12 bytes
+    (
+        "volume 128\nfile volume-image 00000001-0000-4000-8000-000000000001\nvolume 96\nend\nvolume 96\nend\n",
+        6,
+        Cause::NoRoom { need: 192 },
+    ), // volumes that are longer than the one that they stand in
+    (
+        "volume 4096\npad 0xffffe6\n",
+        2,
+        Cause::NoRoom { need: 0xffffe6 },
+    ), // a pad that is longer than the volume
     (
         "volume 4096\nname 00000001-0000-4000-8000-000000000001\nname 00000001-0000-4000-8000-000000000001\n",
         3,
@@ -576,7 +631,7 @@ fn each_mistake_is_told_with_its_line_and_cause(rt: HostRuntime) {
 }
 
 /// Texts that make the same volume.
-static SAME: [(&str, &str); 2] = [
+static SAME: [(&str, &str); 3] = [
     (
         "volume 512 ffs2 # all of it\nfile peim 00000001-0000-4000-8000-000000000001 # the first\n  # before\ndepex pei memory-ppi#\nscript pei#\nblock # 0\nlog a # b\nret Success # it went well\nend # of the script\nend # of all\n# behind\n",
         "volume 512\nfile peim 00000001-0000-4000-8000-000000000001\ndepex pei memory-ppi\nscript pei\nblock\nlog a # b\nret Success\nend\nend\n",
@@ -585,6 +640,10 @@ static SAME: [(&str, &str); 2] = [
         "volume 512\nfile raw 00000001-0000-4000-8000-000000000001\nbody 0102 # 03\nfile freeform pei-apriori#1\nguids memory-ppi # dxe-ipl-ppi\nend\n",
         "volume 512\nfile raw 00000001-0000-4000-8000-000000000001\nbody 0102\nfile freeform pei-apriori\nguids memory-ppi\nend\n",
     ), // comments behind lists
+    (
+        "volume 512\nfile security-core 00000001-0000-4000-8000-000000000001\nfile pei-core 00000001-0000-4000-8000-000000000002\nfile dxe-core 00000001-0000-4000-8000-000000000003\nfile application 00000001-0000-4000-8000-000000000004\nend\n",
+        "volume 512\nfile 03 00000001-0000-4000-8000-000000000001\nfile 04 00000001-0000-4000-8000-000000000002\nfile 05 00000001-0000-4000-8000-000000000003\nfile 09 00000001-0000-4000-8000-000000000004\nend\n",
+    ), // types by their words
 ];
 
 // Whether two texts make one volume.
@@ -599,7 +658,7 @@ fn make_one(alloc: Global, text: &str, other: &str) -> bool {
 }
 
 #[test]
-fn comments_change_nothing(rt: HostRuntime) {
+fn comments_and_words_for_types_change_nothing(rt: HostRuntime) {
     for (text, other) in &SAME {
         assert!(rt; make_one(rt.alloc(), text, other));
     }

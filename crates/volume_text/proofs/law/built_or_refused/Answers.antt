@@ -6,3 +6,6 @@ returns-clause-built c = A.built
 
 pub returns-clause-refused : goal.returns-clause-refused
 returns-clause-refused c = A.refused
+
+pub returns-clause-early : goal.returns-clause-early
+returns-clause-early c = A.early
