@@ -1,9 +1,6 @@
 // Reports to a person on a run: what is at fault, and what to do.
 use crate::forms::PROGRAM;
 use boot_core::Status;
-use boot_core::plan_files::{Job, read_job};
-use boot_io::MemFiles;
-use mod_catalog::catalog;
 use program_edge::{Heard, starts_in};
 
 // The words that have no form.
@@ -27,11 +24,11 @@ fn tell_usage(rt: &HostRuntime, words: &[String]) {
 }
 
 // How many starts were of modules that have no script.
-fn tell_starts(rt: &HostRuntime, plan: &str, heard: &mut Heard<'_>) -> Option<()> {
-    let text = heard.text?;
-    let Job { plan, images } = read_job(rt.alloc(), plan, &mut heard.files).ok()?;
-    let catalog = catalog(rt.alloc(), &plan, images.as_slice()).ok()?;
-    let starts = starts_in(&catalog, text);
+fn tell_starts(rt: &HostRuntime, heard: &Heard) -> Option<()> {
+    let Some(noted) = &heard.noted else {
+        return None;
+    };
+    let starts = starts_in(noted.as_slice(), heard.boot()?);
     let (all, scriptless) = (starts.all, starts.scriptless);
     if scriptless > 0 {
         let _ = eprintln!(rt;
@@ -42,20 +39,17 @@ fn tell_starts(rt: &HostRuntime, plan: &str, heard: &mut Heard<'_>) -> Option<()
 }
 
 // Why a boot ended before the hand-off.
-fn no_handoff(text: Option<&[u8]>) -> &'static str {
-    match text {
-        Some(text) if text.ends_with(b"result NoIpl\n".as_slice()) => {
-            "memory was installed, but no module installed the DXE IPL PPI 0ae8ce5d-e448-4437-a8d7-ebf5f194f731, so there is no hand-off to DXE"
-        }
-        _ =>
-            "no module installed permanent memory (the action `memory` of a script), so there is no hand-off to DXE; the lines `waiting` say who never started",
+fn no_handoff(last: Option<&str>) -> &'static str {
+    if last == Some("result NoIpl") {
+        "memory was installed, but no module installed the DXE IPL PPI 0ae8ce5d-e448-4437-a8d7-ebf5f194f731, so there is no hand-off to DXE"
+    } else {
+        "no module installed permanent memory (the action `memory` of a script), so there is no hand-off to DXE; the lines `waiting` say who never started"
     }
 }
 
 // The fuel of a plan, used up.
-fn tell_spent(rt: &HostRuntime, plan: &str, files: &mut MemFiles) -> Option<()> {
-    let job = read_job(rt.alloc(), plan, files).ok()?;
-    let fuel = job.plan.fuel;
+fn tell_spent(rt: &HostRuntime, plan: &str, heard: &Heard) -> Option<()> {
+    let fuel = PROGRAM.plan_in(rt, plan, heard)?.fuel;
     let _ = eprintln!(rt;
         "piboot: {plan}: the boot took all {fuel} actions of its fuel; a line `fuel N` in the plan gives it up to 1000000"
     );
@@ -71,11 +65,11 @@ fn plan_of(words: &[String]) -> &str {
 }
 
 // Reports on a status that the plan or a volume explains, if these were kept.
-fn tell_fault(rt: &HostRuntime, plan: &str, status: Status, files: &mut MemFiles) -> Option<()> {
+fn tell_fault(rt: &HostRuntime, plan: &str, status: Status, heard: &Heard) -> Option<()> {
     match status {
-        Status::PlanRefused => PROGRAM.tell_plan(rt, plan, files),
-        Status::ImageRefused => PROGRAM.tell_image(rt, plan, files),
-        Status::Spent => tell_spent(rt, plan, files),
+        Status::PlanRefused => PROGRAM.tell_plan(rt, plan, heard),
+        Status::ImageRefused => PROGRAM.tell_image(rt, plan, heard),
+        Status::Spent => tell_spent(rt, plan, heard),
         _ => None,
     }
 }
@@ -99,42 +93,41 @@ fn meaning_of(status: Status) -> &'static str {
     }
 }
 
-/// Whether the report on a run needs its files.
-pub(crate) fn tells_of_files(words: &[String], status: Status) -> bool {
-    is_booted(words, status) || matches!(status, Status::PlanRefused | Status::ImageRefused)
-}
-
 /// Tells what came of a run: a line for each status but Done, and once how many started modules have no script.
-pub(crate) fn tell(rt: &HostRuntime, words: &[String], status: Status, heard: &mut Heard<'_>) {
+pub(crate) fn tell(rt: &HostRuntime, words: &[String], status: Status, heard: &Heard) {
     let plan = plan_of(words);
     match status {
         Status::Done => {}
         Status::Usage => tell_usage(rt, words),
         Status::FileFault => PROGRAM.tell_file(rt, &heard.refused, false),
         Status::TooLong => PROGRAM.tell_file(rt, &heard.refused, true),
-        Status::NoHandoff => PROGRAM.put(rt, plan, no_handoff(heard.text)),
+        Status::NoHandoff => PROGRAM.put(rt, plan, no_handoff(heard.last())),
         Status::SinkFault => PROGRAM.tell_output(rt),
         _ => {
-            if tell_fault(rt, plan, status, &mut heard.files).is_none() {
+            if tell_fault(rt, plan, status, heard).is_none() {
                 PROGRAM.put(rt, plan, meaning_of(status));
             }
         }
     }
     if is_booted(words, status) {
-        // If the files were not kept, nothing is reported about them.
-        let _ = tell_starts(rt, plan, heard);
+        // If the lines were not kept, nothing is reported about them.
+        let _ = tell_starts(rt, heard);
     }
 }
 
 // Whether a boot was printed, whole or up to its end.
 fn is_booted(words: &[String], status: Status) -> bool {
-    let boots = match words {
-        [verb, _] => verb.as_str() == "boot",
-        _ => false,
-    };
-    boots
+    is_boot(words)
         && matches!(
             status,
             Status::Done | Status::NoHandoff | Status::Spent | Status::Deep
         )
+}
+
+/// Whether the words ask for the boot of a plan.
+pub(crate) fn is_boot(words: &[String]) -> bool {
+    match words {
+        [verb, _] => verb.as_str() == "boot",
+        _ => false,
+    }
 }

@@ -9,9 +9,9 @@ mod order_meaning;
 mod source_meaning;
 
 use crate::forms::PROGRAM;
-use crate::meaning::{tell, tells_of_files};
+use crate::meaning::{shown_file, tell};
 use boot_io::{PatientWriter, RealFiles};
-use program_edge::{Call, Heard, Keeping, KeptFiles, KeptText, has_text};
+use program_edge::{Call, Heard, Keeping, KeptFiles, KeptText};
 use std::io;
 use std::process::ExitCode;
 use tools_core::{ToolStatus, tools_and_print};
@@ -28,10 +28,10 @@ fn run(rt: &HostRuntime, call: &Call) -> ToolStatus {
     );
     let (output, status) = tools_and_print(alloc, words, &mut files, to);
     if call.keeping() != Keeping::Nothing {
-        if has_text(&output) && tells_of_files(words, status) {
-            files.read_again(rt);
+        if let Some(name) = shown_file(words, status) {
+            files.read_again(rt, name);
         }
-        tell(rt, words, status, &mut Heard::new(alloc, files, &output));
+        tell(rt, words, status, &Heard::new(files, output, None));
     }
     status
 }

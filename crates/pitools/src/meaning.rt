@@ -1,16 +1,10 @@
 // Reports to a person on a run: what is at fault, and what to do.
 use crate::cause_meaning::{source_words, words_for};
 use crate::forms::PROGRAM;
-use crate::order_meaning::{LINE_FORMS, against_words, boot_words, last_lines};
+use crate::order_meaning::{LINE_FORMS, against_words, boot_words};
 use crate::source_meaning::tell_readings;
-use boot_core::plan_files::read_file;
-use boot_io::MemFiles;
 use program_edge::{Heard, line_at, text_of};
-use std::str;
 use tools_core::ToolStatus;
-
-// The most bytes of a file of which a line is shown.
-const SHOWN_LIMIT: usize = 0x400_0000;
 
 // The most bytes of a line that is shown.
 const SHOWN_LEN: usize = 60;
@@ -66,12 +60,11 @@ fn tell_usage(rt: &HostRuntime, words: &[String]) {
 fn tell_numbered(
     rt: &HostRuntime,
     name: &str,
-    files: &mut MemFiles,
+    heard: &Heard,
     number: u32,
     why: &str,
 ) -> Option<()> {
-    let content = read_file(rt.alloc(), name, SHOWN_LIMIT, files).ok()?;
-    match line_at(content.as_slice(), number) {
+    match line_at(heard.content(name)?, number) {
         Some(line) => {
             let shown = match line.get(..SHOWN_LEN) {
                 Some(front) => front,
@@ -90,25 +83,33 @@ fn tell_numbered(
 }
 
 // The line of a file that a refusal names last, and why it is refused.
-fn tell_line(rt: &HostRuntime, name: &str, heard: &mut Heard<'_>, why: &str) -> Option<()> {
-    let refusal = str::from_utf8(heard.text?).ok()?;
-    let number = refusal.split_whitespace().last()?.parse::<u32>().ok()?;
-    tell_numbered(rt, name, &mut heard.files, number, why)
+fn tell_line(rt: &HostRuntime, name: &str, heard: &Heard, why: &str) -> Option<()> {
+    let number = heard
+        .last()?
+        .split_whitespace()
+        .last()?
+        .parse::<u32>()
+        .ok()?;
+    tell_numbered(rt, name, heard, number, why)
 }
 
 // Reports the line of an order that its boot refuses, and why its start is not possible.
-fn tell_start(rt: &HostRuntime, name: &str, heard: &mut Heard<'_>) -> Option<()> {
-    let (refusal, against) = last_lines(str::from_utf8(heard.text?).ok()?);
-    let number = refusal.split_whitespace().last()?.parse::<u32>().ok()?;
-    tell_numbered(rt, name, &mut heard.files, number, against_words(against))
+fn tell_start(rt: &HostRuntime, name: &str, heard: &Heard) -> Option<()> {
+    let number = heard
+        .before_last()?
+        .split_whitespace()
+        .last()?
+        .parse::<u32>()
+        .ok()?;
+    tell_numbered(rt, name, heard, number, against_words(heard.last()?))
 }
 
 // The line of a volume's text that a refusal names before its cause.
-fn tell_source(rt: &HostRuntime, name: &str, heard: &mut Heard<'_>) -> Option<()> {
-    let mut words = str::from_utf8(heard.text?).ok()?.split_whitespace().skip(2);
+fn tell_source(rt: &HostRuntime, name: &str, heard: &Heard) -> Option<()> {
+    let mut words = heard.last()?.split_whitespace().skip(2);
     let number = words.next()?.parse::<u32>().ok()?;
     let why = source_words(words.next()?);
-    tell_numbered(rt, name, &mut heard.files, number, why)
+    tell_numbered(rt, name, heard, number, why)
 }
 
 // The causes of a HOB list, and what each means.
@@ -166,8 +167,8 @@ static BYTE_WORDS: [(&str, &str); 8] = [
 ];
 
 // The offset of a file that a refusal names last, after its cause.
-fn tell_place(rt: &HostRuntime, name: &str, text: Option<&[u8]>, of_hobs: bool) -> Option<()> {
-    let mut words = str::from_utf8(text?).ok()?.split_whitespace().skip(2);
+fn tell_place(rt: &HostRuntime, name: &str, heard: &Heard, of_hobs: bool) -> Option<()> {
+    let mut words = heard.last()?.split_whitespace().skip(2);
     let cause = words.next()?;
     let at = words.next()?;
     let why = if of_hobs {
@@ -188,15 +189,15 @@ fn tell_place(rt: &HostRuntime, name: &str, text: Option<&[u8]>, of_hobs: bool) 
 }
 
 // A text or bytes that are refused: a text by its line, unless it is too long, and bytes by their offset.
-fn tell_text(rt: &HostRuntime, words: &[String], heard: &mut Heard<'_>) -> Option<()> {
+fn tell_text(rt: &HostRuntime, words: &[String], heard: &Heard) -> Option<()> {
     if word_at(words, 0) == "volume" {
         return tell_source(rt, word_at(words, 1), heard);
     }
     let name = word_at(words, 2);
     if word_at(words, 0) == "dis" {
-        return tell_place(rt, name, heard.text, false);
+        return tell_place(rt, name, heard, false);
     }
-    if heard.text == Some(b"refused text long\n".as_slice()) {
+    if heard.last() == Some("refused text long") {
         PROGRAM.put(
             rt,
             name,
@@ -222,17 +223,12 @@ fn command_words(words: &[String]) -> &'static str {
 }
 
 // Reports on a status that names a place of a file, if the files and the text were kept.
-fn tell_fault(
-    rt: &HostRuntime,
-    words: &[String],
-    status: ToolStatus,
-    heard: &mut Heard<'_>,
-) -> Option<()> {
+fn tell_fault(rt: &HostRuntime, words: &[String], status: ToolStatus, heard: &Heard) -> Option<()> {
     let first = word_at(words, 1);
     match status {
-        ToolStatus::PlanRefused => PROGRAM.tell_plan(rt, first, &mut heard.files),
+        ToolStatus::PlanRefused => PROGRAM.tell_plan(rt, first, heard),
         ToolStatus::ImageRefused if word_at(words, 0) == "text" => None,
-        ToolStatus::ImageRefused => PROGRAM.tell_image(rt, first, &mut heard.files),
+        ToolStatus::ImageRefused => PROGRAM.tell_image(rt, first, heard),
         ToolStatus::No if word_at(words, 0) == "follow" => tell_start(rt, word_at(words, 2), heard),
         ToolStatus::OrderRefused => tell_line(rt, word_at(words, 2), heard, LINE_FORMS),
         ToolStatus::No => tell_line(
@@ -241,7 +237,7 @@ fn tell_fault(
             heard,
             "is printed there by no boot of the plan that the rules allow; docs/CHECK.md says how to read it",
         ),
-        ToolStatus::HobsRefused => tell_place(rt, first, heard.text, true),
+        ToolStatus::HobsRefused => tell_place(rt, first, heard, true),
         ToolStatus::CommandRefused => {
             let name = if word_at(words, 0) == "mp" {
                 first
@@ -278,21 +274,30 @@ fn meaning_of(words: &[String], status: ToolStatus) -> &'static str {
 }
 
 // Reports on a run that succeeded: how the expressions of a volume's text are read. If the text was not kept, nothing is reported.
-fn tell_done(rt: &HostRuntime, words: &[String], files: &mut MemFiles) {
+fn tell_done(rt: &HostRuntime, words: &[String], heard: &Heard) {
     if word_at(words, 0) == "volume" {
-        let _ = tell_readings(rt, word_at(words, 1), files);
+        let _ = tell_readings(rt, word_at(words, 1), heard);
     }
 }
 
-/// Whether the report on a run needs its files.
-pub(crate) fn tells_of_files(words: &[String], status: ToolStatus) -> bool {
-    status != ToolStatus::Done || word_at(words, 0) == "volume"
+/// The file of which the report on a run shows lines.
+pub(crate) fn shown_file(words: &[String], status: ToolStatus) -> Option<&str> {
+    let verb = word_at(words, 0);
+    let place = match status {
+        ToolStatus::Done if verb == "volume" => 1,
+        ToolStatus::No | ToolStatus::OrderRefused => 2,
+        ToolStatus::CommandRefused | ToolStatus::TextRefused if verb == "mp" || verb == "volume" =>
+            1,
+        ToolStatus::CommandRefused | ToolStatus::TextRefused if verb != "dis" => 2,
+        _ => return None,
+    };
+    Some(word_at(words, place))
 }
 
 /// Tells what came of a run: a line for each status but Done, and for Done how expressions are read that mix AND and OR.
-pub(crate) fn tell(rt: &HostRuntime, words: &[String], status: ToolStatus, heard: &mut Heard<'_>) {
+pub(crate) fn tell(rt: &HostRuntime, words: &[String], status: ToolStatus, heard: &Heard) {
     match status {
-        ToolStatus::Done => tell_done(rt, words, &mut heard.files),
+        ToolStatus::Done => tell_done(rt, words, heard),
         ToolStatus::Usage => tell_usage(rt, words),
         ToolStatus::FileFault => PROGRAM.tell_file(rt, &heard.refused, false),
         ToolStatus::TooLong => PROGRAM.tell_file(rt, &heard.refused, true),

@@ -5,17 +5,6 @@ use tools_core::ToolStatus;
 pub(crate) const LINE_FORMS: &str =
     "is none of: pei V GUID, dxe V GUID, with the number of a volume and the name of its file; or it is no `stop` behind which nothing follows";
 
-/// The line of a printed text that refuses a start, and the last one, which says why.
-pub(crate) fn last_lines(text: &str) -> (&str, &str) {
-    let mut refusal = "";
-    let mut against = "";
-    for line in text.lines() {
-        refusal = against;
-        against = line;
-    }
-    (refusal, against)
-}
-
 /// The meaning of the reason why a start is not possible.
 pub(crate) fn against_words(against: &str) -> &'static str {
     if against == "unknown" {

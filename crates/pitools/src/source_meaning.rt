@@ -1,15 +1,11 @@
 // How the expressions of a volume's text are read, for a person.
 use asm_text::print_depex;
-use boot_core::plan_files::read_file;
-use boot_io::MemFiles;
 use pi_base::{OutOfMemory, Phase, Seq};
+use program_edge::Heard;
 use source_words::depex::read_expression;
 use source_words::{is_keyword, next_word};
 use std::alloc::Global;
 use std::str;
-
-// The most bytes of a text whose expressions are reported.
-const TOLD_LIMIT: usize = 0x400_0000;
 
 // Whether AND and OR are next to each other in one pair of brackets, or outside of all brackets.
 fn mixes(alloc: Global, text: &[u8]) -> Result<bool, OutOfMemory> {
@@ -68,9 +64,8 @@ fn reading_of(alloc: Global, line: &[u8]) -> Option<Seq<u8>> {
 }
 
 /// Tells how each expression is read that mixes AND and OR without brackets.
-pub(crate) fn tell_readings(rt: &HostRuntime, name: &str, files: &mut MemFiles) -> Option<()> {
-    let content = read_file(rt.alloc(), name, TOLD_LIMIT, files).ok()?;
-    let text = str::from_utf8(content.as_slice()).ok()?;
+pub(crate) fn tell_readings(rt: &HostRuntime, name: &str, heard: &Heard) -> Option<()> {
+    let text = str::from_utf8(heard.content(name)?).ok()?;
     for (index, line) in text.lines().enumerate() {
         if let Some(reading) = reading_of(rt.alloc(), line.as_bytes()) {
             let number = index as u64 + 1;

@@ -1,3 +1,5 @@
 pub mod Lacking
+pub mod Noting
+pub mod Passed
 pub mod Passing
 mod LimitMistakes

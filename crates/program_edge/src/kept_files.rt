@@ -1,4 +1,4 @@
-// Files that are kept as they are read.
+// What is kept of the files that a program reads.
 ghost use Rattle.std.specs.Prelude.{◌≡◌};
 
 use boot_io::{FileFault, Files, NamedFile};
@@ -9,13 +9,17 @@ use std::{fs, str};
 /// What the program keeps of a run.
 #[derive(Clone, Copy, PartialEq, Eq)]
 pub enum Keeping {
-    /// Copies of the files that it reads, and all that it prints.
-    Copies,
-    /// The names of the files, so that a file is read once more for a report, and the printed text if it is short.
-    Names,
+    /// What the words on standard error need.
+    Words,
     /// Nothing.
     Nothing,
 }
+
+// How many files a command line names. They are read before all others.
+const NAMED_FILES: usize = 2;
+
+// The most bytes of a file that is copied. A longer one is read once more for a report on it.
+const SHORT_FILE: usize = 0x1_0000;
 
 /// A file that was asked for.
 #[derive(Drop)]
@@ -26,12 +30,13 @@ pub struct AskedFile {
     pub limit: usize,
 }
 
-/// Files that keep a copy of what is read of the files below them. If memory runs out for a copy or a name, it is not kept.
+/// Files that keep copies of the short ones and the names of the long ones among the files that a command line names. If memory runs out, a file is not kept.
 #[derive(Drop)]
 pub struct KeptFiles<F: Files + Drop> {
     files: F,
     keeping: Keeping,
-    asked: Seq<AskedFile>,
+    count: usize,
+    long: Seq<AskedFile>,
     kept: Seq<NamedFile>,
     refused: Option<AskedFile>,
 }
@@ -43,8 +48,8 @@ fn copy_of(alloc: Global, bytes: &[u8]) -> Result<Seq<u8>, OutOfMemory> {
     Ok(copy)
 }
 
-// Keeps a file that was read.
-fn keep(kept: &mut Seq<NamedFile>, name: &str, content: &[u8]) -> Result<(), OutOfMemory> {
+// Keeps a copy of a file that was read.
+fn keep_copy(kept: &mut Seq<NamedFile>, name: &str, content: &[u8]) -> Result<(), OutOfMemory> {
     let alloc = kept.alloc();
     let name = copy_of(alloc, name.as_bytes())?;
     let content = copy_of(alloc, content)?;
@@ -57,15 +62,23 @@ fn asked_of(alloc: Global, name: &str, limit: usize) -> Result<AskedFile, OutOfM
     Ok(AskedFile { name, limit })
 }
 
-// Reads a file once more. What came through a pipe or from a device cannot be read again.
-fn read_again<F: Files>(
+/// Whether a file of a name can be read again. What came through a pipe or from a device cannot.
+pub(crate) fn is_lasting(rt: &HostRuntime, name: &str) -> bool {
+    match fs::metadata(rt, name) {
+        Ok(found) => found.is_file(),
+        Err(_) => false,
+    }
+}
+
+// Reads a file once more.
+fn read_once_more<F: Files>(
     rt: &HostRuntime,
     files: &mut F,
     asked: &AskedFile,
     kept: &mut Seq<NamedFile>,
 ) -> Option<()> {
     let name = str::from_utf8(asked.name.as_slice()).ok()?;
-    if !fs::metadata(rt, name).ok()?.is_file() {
+    if !is_lasting(rt, name) {
         return None;
     }
     let mut content = Seq::new(kept.alloc());
@@ -82,37 +95,42 @@ impl<F: Files + Drop> KeptFiles<F> {
         KeptFiles {
             files,
             keeping,
-            asked: Seq::new(alloc),
+            count: 0,
+            long: Seq::new(alloc),
             kept: Seq::new(alloc),
             refused: None,
         }
     }
 
-    /// Reads again the files whose names were kept.
-    pub fn read_again(&mut self, rt: &HostRuntime) {
-        for asked in self.asked.as_slice() {
-            // What cannot be read again is left out.
-            let _ = read_again(rt, &mut self.files, asked, &mut self.kept);
+    /// Reads a long file of this name once more, and keeps it.
+    pub fn read_again(&mut self, rt: &HostRuntime, name: &str) {
+        for asked in self.long.as_slice() {
+            if asked.name.as_slice() == name.as_bytes() {
+                // What cannot be read again is left out.
+                let _ = read_once_more(rt, &mut self.files, asked, &mut self.kept);
+                return;
+            }
         }
     }
 
-    /// The copies in the order of reading, and the last file that was not read.
+    /// The contents that are kept, and the last file that was not read.
     pub fn into_kept(self) -> (Seq<NamedFile>, Option<AskedFile>) {
         (self.kept, self.refused)
     }
 
-    // Keeps a file that was read.
+    // Keeps a file that was read, if it is one that the command line names.
     fn keep(&mut self, name: &str, limit: usize, content: &[u8]) -> Result<(), OutOfMemory>
         ensures { self.new.files ≡ self.old.files }
     {
-        match self.keeping {
-            Keeping::Copies => keep(&mut self.kept, name, content),
-            Keeping::Names => {
-                let asked = asked_of(self.asked.alloc(), name, limit)?;
-                self.asked.push(asked)
-            }
-            Keeping::Nothing => Ok(()),
+        if self.keeping == Keeping::Nothing || self.count >= NAMED_FILES {
+            return Ok(());
         }
+        self.count += 1;
+        if content.len() <= SHORT_FILE {
+            return keep_copy(&mut self.kept, name, content);
+        }
+        let asked = asked_of(self.long.alloc(), name, limit)?;
+        self.long.push(asked)
     }
 
     // Keeps what is known of a file that was not read.

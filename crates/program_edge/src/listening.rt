@@ -27,14 +27,13 @@ fn is_driven(rt: &HostRuntime) -> Option<bool> {
     Some(are_between(input.to_str()?, output.to_str()?, error.to_str()?))
 }
 
-/// What is kept. Copies, for a person at a terminal, or if `PIBOOT_WORDS` is set to a text. Nothing, if that is set to an empty text, or if a program drives
-/// this one. Names in all other cases.
+/// What is kept: what words need, unless `PIBOOT_WORDS` is set to an empty text, or a program drives this one and `PIBOOT_WORDS` is not set.
 pub(crate) fn keeping_for(rt: &HostRuntime) -> Keeping {
     match env::var(rt, "PIBOOT_WORDS") {
         Ok(asked) if asked.is_empty() => Keeping::Nothing,
-        Ok(_) => Keeping::Copies,
-        Err(_) if rt.stderr().is_terminal() => Keeping::Copies,
+        Ok(_) => Keeping::Words,
+        Err(_) if rt.stderr().is_terminal() => Keeping::Words,
         Err(_) if is_driven(rt) == Some(true) => Keeping::Nothing,
-        Err(_) => Keeping::Names,
+        Err(_) => Keeping::Words,
     }
 }

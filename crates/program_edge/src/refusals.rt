@@ -1,12 +1,26 @@
 // Reports on files, plans and images that are refused, and on an output that failed.
+use crate::heard::Heard;
 use crate::image::image_words;
 use crate::kept_files::AskedFile;
 use crate::plan_mistake::mistake_in;
 use crate::program::{Program, text_of};
-use boot_core::plan_files::{Job, PLAN_LIMIT, read_file, read_job};
-use boot_io::MemFiles;
-use boot_plan::read_plan;
-use mod_catalog::catalog;
+use boot_model::Line;
+use boot_plan::{Plan, read_plan};
+use std::alloc::Global;
+use trace_reader::read_trace;
+
+// The longest plan, in bytes.
+const PLAN_LIMIT: usize = 0x1_0000;
+
+// The printed line that a refusal is.
+fn refusal_in(alloc: Global, line: &str) -> Option<Line> {
+    let line = line.as_bytes();
+    if line.len() > PLAN_LIMIT {
+        return None;
+    }
+    let mut lines = read_trace(alloc, line).ok()?;
+    lines.pop()
+}
 
 impl Program {
     /// Reports the file that could not be read.
@@ -29,9 +43,8 @@ impl Program {
     }
 
     /// Reports the line of a plan that is at fault, if the plan was kept.
-    pub fn tell_plan(&self, rt: &HostRuntime, plan: &str, files: &mut MemFiles) -> Option<()> {
-        let text = read_file(rt.alloc(), plan, PLAN_LIMIT, files).ok()?;
-        let text = text.as_slice();
+    pub fn tell_plan(&self, rt: &HostRuntime, plan: &str, heard: &Heard) -> Option<()> {
+        let text = heard.content(plan)?;
         if text.len() > PLAN_LIMIT {
             return None;
         }
@@ -43,14 +56,24 @@ impl Program {
         Some(())
     }
 
-    /// Reports the place of a volume's file that is at fault, if the plan and its volumes were kept.
-    pub fn tell_image(&self, rt: &HostRuntime, plan: &str, files: &mut MemFiles) -> Option<()> {
-        let Job { plan, images } = read_job(rt.alloc(), plan, files).ok()?;
-        let fault = catalog(rt.alloc(), &plan, images.as_slice()).err()?;
-        let volume = plan.volumes.as_slice().get(fault.volume as usize)?;
+    /// The plan of a name, if it was kept and is one.
+    pub fn plan_in(&self, rt: &HostRuntime, plan: &str, heard: &Heard) -> Option<Plan> {
+        let text = heard.content(plan)?;
+        if text.len() > PLAN_LIMIT {
+            return None;
+        }
+        read_plan(rt.alloc(), text).ok()
+    }
+
+    /// Reports the place of a volume's file that is at fault, as the last printed line has it, if the plan was kept.
+    pub fn tell_image(&self, rt: &HostRuntime, plan: &str, heard: &Heard) -> Option<()> {
+        let Line::RefusedImage { volume, at, cause } = refusal_in(rt.alloc(), heard.last()?)? else {
+            return None;
+        };
+        let plan = self.plan_in(rt, plan, heard)?;
+        let volume = plan.volumes.as_slice().get(volume as usize)?;
         let name = text_of(volume.name.as_slice());
-        let at = fault.at;
-        let why = image_words(fault.cause);
+        let why = image_words(cause);
         let program = self.name;
         let _ = eprintln!(rt; "{program}: {name}: at {at}: {why}");
         Some(())
