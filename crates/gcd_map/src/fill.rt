@@ -35,7 +35,11 @@ fn allocation_cause(word: GcdWord) -> GcdCause
 }
 
 // The resources, in order of base.
-fn by_base(alloc: Global, bytes: &[u8], places: &[HobPlace]) -> Result<Vec<HobStretch>, OutOfMemory>
+fn resources_by_base(
+    alloc: Global,
+    bytes: &[u8],
+    places: &[HobPlace],
+) -> Result<Vec<HobStretch>, OutOfMemory>
     ensures { IfOk result (λ sorted. IsPermutation (resources bytes.now places.now) sorted.items) }
 {
     let mut sorted = Seq::new(alloc);
@@ -51,6 +55,27 @@ fn by_base(alloc: Global, bytes: &[u8], places: &[HobPlace]) -> Result<Vec<HobSt
     Ok(sorted)
 }
 
+// The allocations, in order of base.
+fn allocations_by_base(
+    alloc: Global,
+    bytes: &[u8],
+    places: &[HobPlace],
+) -> Result<Vec<HobStretch>, OutOfMemory>
+    ensures { IfOk result (λ sorted. IsPermutation (allocations bytes.now places.now) sorted.items) }
+{
+    let mut sorted = Seq::new(alloc);
+    let mut rest = places;
+    'places: while let Some((place, after)) = rest.split_first() {
+        if let Some(allocation) = allocation_at(bytes, place.at) {
+            sorted.push(allocation)?;
+        }
+        rest = after;
+    }
+    let mut sorted = sorted.into_vec();
+    sorted.sort_unstable_by_key(|allocation| allocation.base);
+    Ok(sorted)
+}
+
 // Adds resources, until one cannot come; whether all came.
 fn add_each(map: &mut GcdMap, stretches: &[HobStretch]) -> bool
     ensures { result ≡ true → (space : MemorySpace) → Shows map.old space
@@ -59,6 +84,24 @@ fn add_each(map: &mut GcdMap, stretches: &[HobStretch]) -> bool
     let mut rest = stretches;
     'stretches: while let Some((stretch, after)) = rest.split_first() {
         if map.add(stretch.kind, stretch.base, stretch.len).is_err() {
+            return false;
+        }
+        rest = after;
+    }
+    true
+}
+
+// Allocates stretches, until one cannot be taken; whether all were.
+fn take_each(map: &mut GcdMap, stretches: &[HobStretch]) -> bool
+    ensures { result ≡ true → (space : MemorySpace) → Shows map.old space
+        → (end : MemorySpace) × Follow MayBeTaken taken space stretches.now end × Shows map.new end }
+{
+    let mut rest = stretches;
+    'stretches: while let Some((stretch, after)) = rest.split_first() {
+        if map
+            .allocate(GcdKind::System, stretch.base, stretch.len)
+            .is_err()
+        {
             return false;
         }
         rest = after;
@@ -128,7 +171,7 @@ fn add_resources(map: &mut GcdMap, bytes: &[u8], places: &[HobPlace]) -> Result<
         (λ _. (end : MemorySpace) × Follow MayCome came space (resources bytes.now places.now) end × Shows map.new end)
         (λ fault. fault.cause ≢ Memory → Stops MayCome came ComesNot space (resources bytes.now places.now) fault) }
 {
-    let sorted = by_base(map.alloc(), bytes, places)?;
+    let sorted = resources_by_base(map.alloc(), bytes, places)?;
     let mut trial = map.copy()?;
     if add_each(&mut trial, sorted.as_slice()) {
         *map = trial;
@@ -137,8 +180,8 @@ fn add_resources(map: &mut GcdMap, bytes: &[u8], places: &[HobPlace]) -> Result<
     add_in_order(map, bytes, places)
 }
 
-// Allocates the allocations in order.
-fn take_allocations(map: &mut GcdMap, bytes: &[u8], places: &[HobPlace]) -> Result<(), GcdFault>
+// Allocates the allocations in order, up to the first that cannot be taken.
+fn take_in_order(map: &mut GcdMap, bytes: &[u8], places: &[HobPlace]) -> Result<(), GcdFault>
     requires near { Each IsNear places.now }
     ensures { (space : MemorySpace) → Shows map.old space
         → MatchResult result
@@ -153,7 +196,24 @@ fn take_allocations(map: &mut GcdMap, bytes: &[u8], places: &[HobPlace]) -> Resu
     Ok(())
 }
 
-// Adds the resources in order, and then allocates the allocations in order.
+// Allocates the allocations, in order of base as the resources are added.
+fn take_allocations(map: &mut GcdMap, bytes: &[u8], places: &[HobPlace]) -> Result<(), GcdFault>
+    requires near { Each IsNear places.now }
+    ensures { (space : MemorySpace) → Shows map.old space
+        → MatchResult result
+        (λ _. (end : MemorySpace) × Follow MayBeTaken taken space (allocations bytes.now places.now) end × Shows map.new end)
+        (λ fault. fault.cause ≢ Memory → Stops MayBeTaken taken IsNotTaken space (allocations bytes.now places.now) fault) }
+{
+    let sorted = allocations_by_base(map.alloc(), bytes, places)?;
+    let mut trial = map.copy()?;
+    if take_each(&mut trial, sorted.as_slice()) {
+        *map = trial;
+        return Ok(());
+    }
+    take_in_order(map, bytes, places)
+}
+
+// Adds the resources, and then allocates the allocations.
 pub(crate) fn fill(map: &mut GcdMap, bytes: &[u8], places: &[HobPlace]) -> Result<(), GcdFault>
     requires near { Each IsNear places.now }
     ensures { (space : MemorySpace) → Shows map.old space

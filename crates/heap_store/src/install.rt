@@ -5,9 +5,10 @@ ghost use Rattle.store_model.specs.{StoreState.StoreState, StoreState.free, Serv
 ghost use Rattle.store_model.specs.Service.{And, OfEach, Performs, Present};
 ghost use Rattle.store_model.specs.Service.Install.{install, install_sweep, node_need, place_of, reinstall, reinstall_sweep, with_ppi};
 ghost use Rattle.store_model.specs.{StateFacts.IsDesc, declared.store_handle.Desc.Desc as OfDesc};
-ghost use Rattle.store_model.specs.StoreCall.{Anything, AreBothDescs, AreDescs, AreFew};
+ghost use Rattle.store_model.specs.StoreCall.{Anything, AreDescs, AreFew};
 ghost use Rattle.pei_heap.specs.Linked.{IsLinked};
-ghost use Rattle.heap_store.specs.Made.{CanMakePpis, HavePairs, IsMade};
+ghost use Rattle.pei_heap.specs.Replaced.{IsFound};
+ghost use Rattle.heap_store.specs.Made.{CanMakePpis, HaveFound, HavePairs, IsMade};
 
 use crate::store::HeapStore;
 use hob_codec::HEADER_LEN;
@@ -152,17 +153,23 @@ impl HeapStore {
         }
     }
 
-    /// Puts a PPI in the place of another.
-    pub fn reinstall_ppi(&mut self, old: Desc, new: Desc, by: u32) -> Result<Sweep, StoreFault>
-        requires { Present (StandsFor self.old) (AreBothDescs old new) }
-        ensures { Performs false (And (StandsFor self.old) (AreBothDescs old new)) (StandsFor self.new)
+    /// Puts a PPI in the place of the first that names another descriptor, which the caller found. The list of PPIs is not walked.
+    pub fn reinstall_found(
+        &mut self,
+        found: Option<PpiFound>,
+        old: Desc,
+        new: Desc,
+        by: u32,
+    ) -> Result<Sweep, StoreFault>
+        requires { Present (StandsFor self.old) (HaveFound old new found) }
+        ensures { Performs false (And (StandsFor self.old) (HaveFound old new found)) (StandsFor self.new)
             (λ s. reinstall s old new by) result }
     {
         entries_are_told();
         if !self.is_ppi(new) {
             return Err(StoreFault::Bad);
         }
-        let found = match find_ppi(&self.heap, &self.memory, &self.heads, old) {
+        let found = match found {
             Some(found) => found,
             None => return Err(StoreFault::Missing),
         };
@@ -183,5 +190,13 @@ impl HeapStore {
             pairs,
         );
         Ok(sweep)
+    }
+
+    /// The first PPI that names a descriptor, found by walking the list. None where none names it.
+    pub fn walk_to(&self, d: Desc) -> Option<PpiFound>
+        requires { Present (StandsFor self.now) Anything }
+        ensures { OfEach (StandsFor self.now) Anything (λ s. IsFound s d result) }
+    {
+        find_ppi(&self.heap, &self.memory, &self.heads, d)
     }
 }

@@ -37,6 +37,7 @@ core_rows stay s t state are =
           ∙ ap (λ (guid : Guid). rows_of s s.ppis ++ record { guid = guid; at = next_body s } ∷ []) told;
       callbacks = are.callbacks ∙ first.callbacks;
       dispatches = are.dispatches ∙ first.dispatches;
+      named = are.named;
     }
 
 core_on : BodiesStay → (s : StoreState) (full : Bool) → IsStoreState s → Keeps (cond full (Err F.Full) (Ok (core_desc s, with_core s)))

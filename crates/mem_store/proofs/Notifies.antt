@@ -11,7 +11,7 @@ use Rattle.store_model.specs.Service.Descriptor.{descriptors, is_callback, is_pp
 use Rattle.store_model.specs.Service.Install.{node_need, with_pending}
 use Rattle.store_model.specs.Service.Notify.{new_callbacks, new_dispatches, note_entry, notified, notify, notify_pairs, notify_sweep, with_note, with_note_of}
 use Rattle.store_laws.specs.Bodies.{BodiesStay, IsGrown}
-use Rattle.mem_store.specs.{Rows.row_at, Rows.rows_of, Serving.After, Serving.RowsNotified}
+use Rattle.mem_store.specs.{Nodes.named_row, Rows.row_at, Rows.rows_of, Serving.After, Serving.RowsNotified}
 use Rattle.mem_store.proofs.KeepingRows.{grown_rows}
 use Rattle.mem_store.proofs.Descs.{descs_stay, kind_in, picked_rows}
 use Rattle.mem_store.proofs.Services.{joined, made_in_room, map_append, nothing_more}
@@ -93,6 +93,7 @@ noted_rows s t list state there noted =
       dispatches = ap (map (row_at t)) noted.more_dispatches ∙ map_append (row_at t) (descriptors s.dispatches) (new_dispatches s list)
           ∙ ap (λ l. l ++ map (row_at t) (new_dispatches s list)) are.dispatches
           ∙ ap (λ l. rows_of s s.dispatches ++ l) (picked_rows s t (λ place. not (is_callback (kind_at s place))) list noted.bodies there);
+      named = ap (map named_row) noted.ppis;
     }
 
 notify_on : BodiesStay → (s : StoreState) (list : List Desc) (by : ℕ) (b : Bool) → IsStoreState s → Each (IsDesc s) list

@@ -1,5 +1,5 @@
 -- What an index says of the state behind a call that puts entries.
-use Rattle.std.proofs.Common.{◌≡◌, ℕ, Bool, true, false, not, cond, List, [], ◌∷◌, ◌++◌, length, ap, refl, sym, ◌∙◌, Option, Some, Ok, Err, filter, map, nat_lt, option_map, slice_get, slice_set, unwrap_or}
+use Rattle.std.proofs.Common.{◌≡◌, ℕ, Bool, true, false, not, cond, List, [], ◌∷◌, ◌++◌, length, ap, refl, sym, subst, ◌∙◌, Option, Some, Ok, Err, filter, map, nat_lt, option_map, slice_get, slice_set, unwrap_or}
 use Rattle.std.proofs.lemmas.Slice.Eq.{bytes_eq-Decides}
 use Rattle.pi_base.specs.{declared.guid.Guid.Guid, declared.known_guid.TheConstants.MEMORY_PPI, Guids.same_guid}
 use Rattle.mem_store.specs.{declared.guid_index.index.Indexed.Indexed, Entries.entries_of, Entries.has_guid, Answering.RowsAnswer}
@@ -12,26 +12,28 @@ use Rattle.store_model.specs.Service.Install as I
 use Rattle.store_model.specs.{Service.Notify.new_callbacks, Service.Notify.new_dispatches, Service.Reading.nth_ppi}
 use Rattle.mem_store.specs.Rows.{row_at, rows_of, told_row}
 use Rattle.mem_store.specs.Serving.{RowsInstalled, RowsNotified, RowsOfCore, RowsReplaced}
-use Rattle.mem_store.specs.declared.index.Index.{Index}
+use Rattle.mem_store.specs.{declared.index.Index.Index, Nodes.Follows, Nodes.NamesOther}
 use Rattle.mem_store.specs.Indexed.{Becomes, BecomesCore, HasCore, Says, all_rows, held}
+use Rattle.mem_store.proofs.Learning.{grown, other, still}
 use Rattle.mem_store.proofs.Saying.{becomes_says, three}
 
-pub installed_says : (old new : Index) (s t : StoreState) (list : List Desc) → RowsInstalled s t list
+pub installed_says : (old new : Index) (s t : StoreState) (list : List Desc) → RowsInstalled s t list → new.named ≡ old.named
     → Becomes old new (record (held old) { ppis = old.ppis ++ map (row_at t) (offsets list) }) → Says old s → Says new t
-installed_says old new s t list rows becomes says =
+installed_says old new s t list rows named becomes says =
     becomes_says old new s t (record (held old) { ppis = old.ppis ++ map (row_at t) (offsets list) }) becomes
     (λ e. three _ _ _ _ _ _
     (ap (λ r. r.ppis ++ map (row_at t) (offsets list)) e ∙ ap (λ l. rows_of s s.ppis ++ l) rows.descs.rows ∙ sym rows.ppis)
     (ap (λ r. r.callbacks) e ∙ sym rows.callbacks)
     (ap (λ r. r.dispatches) e ∙ sym rows.dispatches))
+    (grown old.named new.named s t named rows.named says.named)
     says
 
-pub notified_says : (old new : Index) (s t : StoreState) (list : List Desc) → RowsNotified s t list
+pub notified_says : (old new : Index) (s t : StoreState) (list : List Desc) → RowsNotified s t list → new.named ≡ old.named
     → Becomes old new (record (held old) {
       callbacks = old.callbacks ++ map (row_at t) (new_callbacks t list);
       dispatches = old.dispatches ++ map (row_at t) (new_dispatches t list);
     }) → Says old s → Says new t
-notified_says old new s t list rows becomes says =
+notified_says old new s t list rows named becomes says =
     becomes_says old new s t (record (held old) {
       callbacks = old.callbacks ++ map (row_at t) (new_callbacks t list);
       dispatches = old.dispatches ++ map (row_at t) (new_dispatches t list);
@@ -40,16 +42,19 @@ notified_says old new s t list rows becomes says =
     (ap (λ r. r.ppis) e ∙ sym rows.ppis)
     (ap (λ r. r.callbacks ++ map (row_at t) (new_callbacks t list)) e ∙ ap (λ l. rows_of s s.callbacks ++ l) rows.descs.callbacks ∙ sym rows.callbacks)
     (ap (λ r. r.dispatches ++ map (row_at t) (new_dispatches t list)) e ∙ ap (λ l. rows_of s s.dispatches ++ l) rows.descs.dispatches ∙ sym rows.dispatches))
+    (subst (λ n. Follows n t) (sym named) (still old.named s t rows.named says.named))
     says
 
 pub replaced_says : (old new : Index) (s t : StoreState) (place at : ℕ) (row : Indexed) (d : Desc) → place ≡ at → row ≡ row_at s d.offset → RowsReplaced s t at d
+    → NamesOther old.named new.named place row.at
     → Becomes old new (record (held old) { ppis = slice_set old.ppis place row }) → Says old s → Says new t
-replaced_says old new s t place at row d here is rows becomes says =
+replaced_says old new s t place at row d here is rows named becomes says =
     becomes_says old new s t (record (held old) { ppis = slice_set old.ppis place row }) becomes
     (λ e. three _ _ _ _ _ _
     (ap (λ r. slice_set r.ppis place row) e ∙ ap (λ p. slice_set (rows_of s s.ppis) p row) here ∙ ap (slice_set (rows_of s s.ppis) at) is ∙ sym rows.ppis)
     (ap (λ r. r.callbacks) e ∙ sym rows.callbacks)
     (ap (λ r. r.dispatches) e ∙ sym rows.dispatches))
+    (other old.named new.named s t place row.at at d.offset here (ap (λ (r : Indexed). r.at) is) rows.named named says.named)
     says
 
 -- a service that answers was not refused
@@ -114,13 +119,16 @@ core_is answer old new s t rows says has =
     ∙ ap (λ l. option_map (told_row t) (slice_get l (length others))) all ∙ ap (option_map (told_row t)) (get_last others (core_row s)) in
     same_row has.row.guid MEMORY_PPI has.row.at (next_body s) has.guid_is (ap points told)
 
-pub core_says : RowsAnswer → (old new : Index) (s t : StoreState) → RowsOfCore s t → BecomesCore old new t → Says old s → Says new t
-core_says answer old new s t rows becomes says right =
-    let has = becomes right in
-    let e = says has.was in
-    let row = core_is answer old new s t rows e has in
-    has.rows
-    ∙ three _ _ _ _ _ _
-    (ap (λ r. r.ppis ++ has.row ∷ []) e ∙ ap (λ r. rows_of s s.ppis ++ r ∷ []) row ∙ sym rows.ppis)
-    (ap (λ r. r.callbacks) e ∙ sym rows.callbacks)
-    (ap (λ r. r.dispatches) e ∙ sym rows.dispatches)
+pub core_says : RowsAnswer → (old new : Index) (s t : StoreState) → RowsOfCore s t → new.named ≡ old.named → BecomesCore old new t → Says old s → Says new t
+core_says answer old new s t rows named becomes says = record {
+  rows = λ right.
+      let has = becomes right in
+      let e = says.rows has.was in
+      let row = core_is answer old new s t rows e has in
+      has.rows
+      ∙ three _ _ _ _ _ _
+      (ap (λ r. r.ppis ++ has.row ∷ []) e ∙ ap (λ r. rows_of s s.ppis ++ r ∷ []) row ∙ sym rows.ppis)
+      (ap (λ r. r.callbacks) e ∙ sym rows.callbacks)
+      (ap (λ r. r.dispatches) e ∙ sym rows.dispatches);
+  named = grown old.named new.named s t named rows.named says.named;
+}

@@ -1,5 +1,5 @@
 -- A PPI in the place of another.
-use Rattle.std.proofs.Common.{◌≡◌, ℕ, suc, ◌+◌, Bool, true, false, not, cond, List, [], ◌∷◌, length, ap, refl, sym, ◌∙◌, arith, Ok, Err, fold, slice_set, ◌==◌}
+use Rattle.std.proofs.Common.{◌≡◌, ℕ, suc, ◌+◌, Bool, true, false, not, cond, List, [], ◌∷◌, length, ap, refl, sym, ◌∙◌, arith, Ok, Err, fold, map, slice_set, ◌==◌}
 use Rattle.store_model.specs.{declared.state.Body.TheVariants.Node, declared.state.Entry.Entry, declared.store_handle.Desc.Desc}
 use Rattle.store_model.specs.{declared.store_handle.DescKind.DescKind, StoreState.StoreState, StoreState.pool_of, Service.in_room}
 use Rattle.store_model.specs.declared.store_handle.DescKind.TheVariants.{Ppi, Callback, Dispatch}
@@ -9,7 +9,7 @@ use Rattle.store_model.specs.Service.Descriptor.{is_ppi, kind_at}
 use Rattle.store_model.specs.Service.Install as I
 use Rattle.store_model.specs.Service.Install.{renamed, place_of, reinstall_pairs, with_pending}
 use Rattle.store_laws.specs.{Bodies.BodiesStay, Bodies.IsGrown, Steps.StepsKeepFacts}
-use Rattle.mem_store.specs.{Rows.row_at, Rows.rows_of, Serving.After, Serving.RowsReplaced}
+use Rattle.mem_store.specs.{Nodes.named_row, Nodes.with_other, Rows.row_at, Rows.rows_of, Serving.After, Serving.RowsReplaced}
 use Rattle.mem_store.proofs.{Descs.kind_in, KeepingRows.grown_rows, Services.made_in_room, Services.refused_or}
 
 kind_ppi : (kind : DescKind) → is_ppi kind ≡ true → kind ≡ Ppi
@@ -47,6 +47,17 @@ renamed_rows : (s : StoreState) (entries : List Entry) (old new : ℕ) → rows_
 renamed_rows s [] old new = refl
 renamed_rows s (e ∷ es) old new = rename_on s (e.descriptor == old) e es (renamed es old new) (place_of es old) new (renamed_rows s es old new)
 
+nodes_on : (b : Bool) (e : Entry) (es rest : List Entry) (place new : ℕ) → map named_row rest ≡ with_other (map named_row es) place new
+    → map named_row (cond b (record e { descriptor = new } ∷ es) (e ∷ rest)) ≡ with_other (named_row e ∷ map named_row es) (cond b 0 (1 + place)) new
+nodes_on true e es rest place new h = refl
+nodes_on false e es rest place new h =
+    let more : suc place ≡ 1 + place = omega arith in
+    ap (λ l. named_row e ∷ l) h ∙ ap (λ n. with_other (named_row e ∷ map named_row es) n new) more
+
+renamed_nodes : (entries : List Entry) (old new : ℕ) → map named_row (renamed entries old new) ≡ with_other (map named_row entries) (place_of entries old) new
+renamed_nodes [] old new = refl
+renamed_nodes (e ∷ es) old new = nodes_on (e.descriptor == old) e es (renamed es old new) (place_of es old) new (renamed_nodes es old new)
+
 reinstalled_rows : BodiesStay → StepsKeepFacts → (s : StoreState) (old new : Desc) (by : ℕ) → IsStoreState s → IsDescOf s Ppi new
     → RowsReplaced s (I.reinstalled s old new by) (place_of s.ppis old.offset) new
 reinstalled_rows stay steps s old new by state is =
@@ -59,6 +70,7 @@ reinstalled_rows stay steps s old new by state is =
       ppis = ap (rows_of t) queued.ppis ∙ are.ppis ∙ renamed_rows s s.ppis old.offset new.offset;
       callbacks = ap (rows_of t) queued.callbacks ∙ are.callbacks;
       dispatches = ap (rows_of t) queued.dispatches ∙ are.dispatches;
+      named = ap (map named_row) queued.ppis ∙ renamed_nodes s.ppis old.offset new.offset;
     }
 
 reinstall_on : BodiesStay → StepsKeepFacts → (s : StoreState) (old new : Desc) (by : ℕ) (b : Bool) → IsStoreState s → IsDesc s new → is_ppi (kind_at s new.offset) ≡ b

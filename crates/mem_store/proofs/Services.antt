@@ -21,7 +21,8 @@ use Rattle.store_model.specs.Service.Install as I
 use Rattle.store_model.specs.Service.Memory as M
 use Rattle.store_model.specs.Service.Pool as P
 use Rattle.store_laws.specs.Bodies.{BodiesStay, IsGrown, KeepsLength, changed}
-use Rattle.mem_store.specs.Rows.{row_at, rows_of}
+use Rattle.mem_store.specs.{declared.guid_index.index.Indexed.Indexed, Rows.row_at, Rows.rows_of}
+use Rattle.mem_store.specs.Nodes.{Begins, named_row, named_rows}
 use Rattle.mem_store.specs.Serving.{After, RowsInstalled, RowsSame}
 use Rattle.mem_store.proofs.Descs.{descs_rows, descs_stay}
 use Rattle.mem_store.proofs.KeepingRows.{changed_rows, grown_rows, moved_rows}
@@ -40,7 +41,7 @@ made_in_room s P need answer t h = refused_or P (nat_lt (free s) need) F.Full (O
 pub appended_same : BodiesStay → (s : StoreState) (hob : HobEntry) → IsStoreState s → RowsSame s (appended s hob)
 appended_same stay s hob state =
     let are = grown_rows s (appended s hob) state (stay.grown s hob) in
-    record { ppis = are.ppis; callbacks = are.callbacks; dispatches = are.dispatches }
+    record { ppis = are.ppis; callbacks = are.callbacks; dispatches = are.dispatches; named = refl }
 
 pub pool_keeps : BodiesStay → (s : StoreState) (size : ℕ) → IsStoreState s → After (RowsSame s) (P.pool s size)
 pool_keeps stay s size state =
@@ -66,7 +67,7 @@ hob_keeps stay s hob state =
 planned_same : (s : StoreState) (to : Option Range) → IsStoreState s → RowsSame s (record s { planned = to })
 planned_same s to state =
     let are = grown_rows s (record s { planned = to }) state (λ place body e. e) in
-    record { ppis = are.ppis; callbacks = are.callbacks; dispatches = are.dispatches }
+    record { ppis = are.ppis; callbacks = are.callbacks; dispatches = are.dispatches; named = refl }
 
 pub set_memory_keeps : (s : StoreState) (begin len : ℕ) → IsStoreState s → After (RowsSame s) (M.set_memory s begin len)
 set_memory_keeps s begin len state =
@@ -77,12 +78,12 @@ set_memory_keeps s begin len state =
 pub boot_mode_keeps : (s : StoreState) (mode : ℕ) → IsStoreState s → RowsSame s (M.with_boot_mode s mode)
 boot_mode_keeps s mode state =
     let are = grown_rows s (M.with_boot_mode s mode) state (λ place body e. e) in
-    record { ppis = are.ppis; callbacks = are.callbacks; dispatches = are.dispatches }
+    record { ppis = are.ppis; callbacks = are.callbacks; dispatches = are.dispatches; named = refl }
 
 taken_same : BodiesStay → (s : StoreState) (memory_type len : ℕ) → IsStoreState s → RowsSame s (M.with_pages s memory_type len)
 taken_same stay s memory_type len state =
     let are = grown_rows s (M.with_pages s memory_type len) state (λ place body e. stay.grown s (M.allocation_hob memory_type len (s.taken + len)) place body e) in
-    record { ppis = are.ppis; callbacks = are.callbacks; dispatches = are.dispatches }
+    record { ppis = are.ppis; callbacks = are.callbacks; dispatches = are.dispatches; named = refl }
 
 pub pages_keep : BodiesStay → (s : StoreState) (memory_type count : ℕ) → IsStoreState s → After (RowsSame s) (M.pages s memory_type count)
 pages_keep stay s memory_type count state =
@@ -121,7 +122,7 @@ store_on stay s to at bytes false state pool is =
     let wide = pool.2 in
     let keeps : KeepsLength (P.written at bytes) s to.offset (Bytes pool.0) = record { there = pool.1; len = written_len at bytes pool.0 (omega (arith, room, wide)) } in
     let are = changed_rows stay (P.written at bytes) s to.offset (Bytes pool.0) state keeps (bytes_other pool.0) in
-    record { ppis = are.ppis; callbacks = are.callbacks; dispatches = are.dispatches }
+    record { ppis = are.ppis; callbacks = are.callbacks; dispatches = are.dispatches; named = refl }
 
 pub store_keeps : BodiesStay → (s : StoreState) (to : Pool) (at : ℕ) (bytes : List ℕ) → IsStoreState s → IsPool s to → IfSome (P.store s to at bytes) (RowsSame s)
 store_keeps stay s to at bytes state pool = store_on stay s to at bytes (nat_lt to.size (at + length bytes)) state pool refl
@@ -131,14 +132,14 @@ pop_keeps stay s [] state there = tt
 pop_keeps stay s (first ∷ rest) state there =
     let keeps : KeepsLength zeroed s first.node Node = record { there = there.0.0; len = refl } in
     let are = changed_rows stay zeroed s first.node Node state keeps node_other in
-    record { ppis = are.ppis; callbacks = are.callbacks; dispatches = are.dispatches }
+    record { ppis = are.ppis; callbacks = are.callbacks; dispatches = are.dispatches; named = refl }
 
 move_on : BodiesStay → (s : StoreState) (b : Bool) (to : Option Range) → IsStoreState s → IfSome (cond b None (option_map (migrated_to s) to)) (RowsSame s)
 move_on stay s true to state = tt
 move_on stay s false None state = tt
 move_on stay s false (Some to) state =
     let are = moved_rows stay s to state in
-    record { ppis = are.ppis; callbacks = are.callbacks; dispatches = are.dispatches }
+    record { ppis = are.ppis; callbacks = are.callbacks; dispatches = are.dispatches; named = refl }
 
 pub move_keeps : BodiesStay → (s : StoreState) → IsStoreState s → IfSome (migration s) (RowsSame s)
 move_keeps stay s state = move_on stay s s.moved s.planned state
@@ -147,6 +148,7 @@ move_keeps stay s state = move_on stay s s.moved s.planned state
 record IsLonger (s t : StoreState) (more : List ℕ) : Type 0 where
   bodies : IsGrown s t
   ppis : descriptors t.ppis ≡ descriptors s.ppis ++ more
+  named : Begins (named_rows s) (named_rows t)
   callbacks : t.callbacks ≡ s.callbacks
   dispatches : t.dispatches ≡ s.dispatches
 
@@ -163,13 +165,23 @@ nothing_more [] = refl
 nothing_more (x ∷ xs) = ap (λ l. x ∷ l) (nothing_more xs)
 
 ppis_longer : BodiesStay → (by : ℕ) (list : List Desc) (s : StoreState) → IsLonger s (fold (with_ppi by) s list) (offsets list)
-ppis_longer stay by [] s = record { bodies = λ place body e. e; ppis = sym (nothing_more (descriptors s.ppis)); callbacks = refl; dispatches = refl }
+ppis_longer stay by [] s = record {
+  bodies = λ place body e. e;
+  ppis = sym (nothing_more (descriptors s.ppis));
+  named = ([], sym (nothing_more (named_rows s)));
+  callbacks = refl;
+  dispatches = refl;
+}
 ppis_longer stay by (d ∷ list) s =
     let later = ppis_longer stay by list (with_ppi by s d) in
-    let one = map_append (λ (entry : Entry). entry.descriptor) s.ppis (record { node = next_body s; descriptor = d.offset; by = by } ∷ []) in
+    let made : Entry = record { node = next_body s; descriptor = d.offset; by = by } in
+    let one = map_append (λ (entry : Entry). entry.descriptor) s.ppis (made ∷ []) in
+    let row = map_append named_row s.ppis (made ∷ []) in
+    let more : List Indexed = later.named.0 in
     record {
       bodies = λ place body e. later.bodies place body (stay.grown s (pool_of Node) place body e);
       ppis = later.ppis ∙ ap (λ l. l ++ offsets list) one ∙ joined (descriptors s.ppis) d.offset (offsets list);
+      named = (named_row made ∷ more, later.named.1 ∙ ap (λ l. l ++ more) row ∙ joined (named_rows s) (named_row made) more);
       callbacks = later.callbacks;
       dispatches = later.dispatches;
     }
@@ -179,6 +191,7 @@ pendings_longer stay by [] s t more longer = longer
 pendings_longer stay by (pair ∷ pairs) s t more longer = pendings_longer stay by pairs s (with_pending by t pair) more (record {
   bodies = λ place body e. stay.grown t (pool_of Node) place body (longer.bodies place body e);
   ppis = longer.ppis;
+  named = longer.named;
   callbacks = longer.callbacks;
   dispatches = longer.dispatches;
 })
@@ -192,6 +205,7 @@ longer_rows s t list state there longer =
           ∙ ap (λ l. l ++ map (row_at t) (offsets list)) are.ppis ∙ ap (λ l. rows_of s s.ppis ++ l) (descs_rows s t list longer.bodies there);
       callbacks = ap (rows_of t) longer.callbacks ∙ are.callbacks;
       dispatches = ap (rows_of t) longer.dispatches ∙ are.dispatches;
+      named = longer.named;
     }
 
 pub install_keeps : BodiesStay → (s : StoreState) (list : List Desc) (by : ℕ) → IsStoreState s → Each (IsDesc s) list → After (λ t. RowsInstalled s t list) (I.install s list by)

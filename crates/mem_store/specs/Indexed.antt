@@ -2,7 +2,7 @@
 -- Own.
 use Rattle.std.specs.Prelude.{◌≡◌, ◌∷◌, ◌++◌, [], true, List, length, option_map, Some}
 use Rattle.pi_base.specs.declared.known_guid.TheConstants.{MEMORY_PPI}
-use Rattle.mem_store.specs.{declared.guid_index.index.Indexed.Indexed, Entries.entries_of, Rows.rows_of, Rows.told_row}
+use Rattle.mem_store.specs.{declared.guid_index.index.Indexed.Indexed, Entries.entries_of, Nodes.Follows, Rows.rows_of, Rows.told_row}
 use Rattle.store_model.specs.{StoreState.StoreState, Service.Reading.nth_ppi}
 use Rattle.mem_store.specs.declared.index.Index.{Index}
 
@@ -19,9 +19,10 @@ all_rows s = record { ppis = rows_of s s.ppis; callbacks = rows_of s s.callbacks
 abbrev pub held : Index → Rows
 held index = record { ppis = index.ppis; callbacks = index.callbacks; dispatches = index.dispatches }
 
--- where it is right, it has the rows of the state
-abbrev pub Says : Index → StoreState → Type 0
-Says index s = index.right ≡ true → held index ≡ all_rows s
+-- where it is right, it has the rows of the state; and it knows nodes of its PPIs
+pub record Says (index : Index) (s : StoreState) : Type 0 where
+  pub rows : index.right ≡ true → held index ≡ all_rows s
+  pub named : Follows index.named s
 
 -- where it is right behind a call, it was before, and has these rows
 abbrev pub Becomes : Index → Index → Rows → Type 0

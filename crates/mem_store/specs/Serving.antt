@@ -15,6 +15,7 @@ use Rattle.store_model.specs.Service.Memory as M
 use Rattle.store_model.specs.Service.Notify as N
 use Rattle.store_model.specs.Service.Pool as P
 use Rattle.store_model.specs.Service.Queue as Q
+use Rattle.mem_store.specs.Nodes.{Begins, named_rows, with_other}
 use Rattle.mem_store.specs.Rows.{row_at, rows_of}
 
 -- the rows of the three lists are the same
@@ -22,6 +23,7 @@ pub record RowsSame (s t : StoreState) : Type 0 where
   pub ppis : rows_of t t.ppis ≡ rows_of s s.ppis
   pub callbacks : rows_of t t.callbacks ≡ rows_of s s.callbacks
   pub dispatches : rows_of t t.dispatches ≡ rows_of s s.dispatches
+  pub named : named_rows t ≡ named_rows s
 
 -- what is handed in are descriptors still, of the same GUIDs
 pub record DescsStay (s t : StoreState) (list : List Desc) : Type 0 where
@@ -36,18 +38,21 @@ pub record RowsInstalled (s t : StoreState) (list : List Desc) : Type 0 where
   pub ppis : rows_of t t.ppis ≡ rows_of s s.ppis ++ map (row_at s) (D.offsets list)
   pub callbacks : rows_of t t.callbacks ≡ rows_of s s.callbacks
   pub dispatches : rows_of t t.dispatches ≡ rows_of s s.dispatches
+  pub named : Begins (named_rows s) (named_rows t)
 
 -- with that of another descriptor in the place of one
 pub record RowsReplaced (s t : StoreState) (place : ℕ) (new : Desc) : Type 0 where
   pub ppis : rows_of t t.ppis ≡ slice_set (rows_of s s.ppis) place (row_at s new.offset)
   pub callbacks : rows_of t t.callbacks ≡ rows_of s s.callbacks
   pub dispatches : rows_of t t.dispatches ≡ rows_of s s.dispatches
+  pub named : named_rows t ≡ with_other (named_rows s) place new.offset
 
 -- with that of the PPI of permanent memory behind the others, whose descriptor is the next body
 pub record RowsOfCore (s t : StoreState) : Type 0 where
   pub ppis : rows_of t t.ppis ≡ rows_of s s.ppis ++ record { guid = MEMORY_PPI; at = next_body s } ∷ []
   pub callbacks : rows_of t t.callbacks ≡ rows_of s s.callbacks
   pub dispatches : rows_of t t.dispatches ≡ rows_of s s.dispatches
+  pub named : Begins (named_rows s) (named_rows t)
 
 -- with those of new notifications behind the others of their kinds
 pub record RowsNotified (s t : StoreState) (list : List Desc) : Type 0 where
@@ -55,6 +60,7 @@ pub record RowsNotified (s t : StoreState) (list : List Desc) : Type 0 where
   pub ppis : rows_of t t.ppis ≡ rows_of s s.ppis
   pub callbacks : rows_of t t.callbacks ≡ rows_of s s.callbacks ++ map (row_at s) (N.new_callbacks s list)
   pub dispatches : rows_of t t.dispatches ≡ rows_of s s.dispatches ++ map (row_at s) (N.new_dispatches s list)
+  pub named : named_rows t ≡ named_rows s
 
 -- where a service answers, the state after it is so
 abbrev pub After : {A : Type 0} → (StoreState → Type 0) → Service A → Type 0

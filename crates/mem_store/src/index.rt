@@ -1,13 +1,15 @@
 // What is installed and registered, by GUID.
 ghost use Rattle.std.specs.Prelude.{◌≡◌, ◌++◌, ◌∷◌, [], true, if◌then◌else◌, IfOk, map, slice_set};
 ghost use Rattle.store_model.specs.{Service.OfEach, Service.Present, Service.Descriptor.offsets};
-ghost use Rattle.store_model.specs.{Service.Notify.new_callbacks, Service.Notify.new_dispatches, StateFacts.IsDesc};
+ghost use Rattle.store_model.specs.{StateFacts.IsDesc, StateFacts.IsStoreState, StoreState.StoreState};
+ghost use Rattle.store_model.specs.Service.Notify.{new_callbacks, new_dispatches};
 ghost use Rattle.store_model.specs.StoreCall.{Anything, AreDescs};
-ghost use Rattle.mem_store.specs.{Rows.row_at, Picked.is_picked, Picked.picked_of};
+ghost use Rattle.mem_store.specs.{Rows.row_at, Picked.is_picked, Picked.picked_of, Nodes.AreKnown, Nodes.NamesOther};
 ghost use Rattle.heap_store.specs.HeapState as H;
-ghost use Rattle.mem_store.specs.Indexed.{Becomes, BecomesCore, held};
+ghost use Rattle.mem_store.specs.Indexed.{Becomes, BecomesCore, Says, held};
 
 use crate::guid_index::{GuidIndex, Indexed};
+use crate::named::Named;
 use heap_store::HeapStore;
 use pi_base::{MEMORY_PPI, OutOfMemory};
 use std::alloc::Global;
@@ -24,6 +26,8 @@ pub struct Index {
     pub(crate) dispatches: GuidIndex,
     /// Whether they say what the lists say. Where an entry had no room, they say nothing from then on.
     pub(crate) right: bool,
+    /// The nodes of the PPIs, as far as they are known.
+    pub(crate) named: Named,
 }
 
 // The row of a descriptor.
@@ -86,7 +90,8 @@ fn put_rows(rows: &mut GuidIndex, behind: &HeapStore, list: &[Desc], which: Whic
 impl Index {
     // Nothing yet, and room for so many entries in each list.
     pub(crate) fn new(alloc: Global, most: usize) -> Result<Index, OutOfMemory>
-        ensures { IfOk result (λ index. held index ≡ record { ppis = []; callbacks = []; dispatches = [] }) }
+        ensures rows { IfOk result (λ index. held index ≡ record { ppis = []; callbacks = []; dispatches = [] }) }
+        ensures named { IfOk result (λ index. index.named.nodes ≡ []) }
     {
         let Ok(ppis) = GuidIndex::new(alloc, most) else {
             return Err(OutOfMemory);
@@ -100,18 +105,26 @@ impl Index {
             drop(callbacks);
             return Err(OutOfMemory);
         };
+        let Ok(named) = Named::new(alloc) else {
+            drop(ppis);
+            drop(callbacks);
+            drop(dispatches);
+            return Err(OutOfMemory);
+        };
         Ok(Index {
             ppis,
             callbacks,
             dispatches,
             right: true,
+            named,
         })
     }
 
     // PPIs are installed.
     pub(crate) fn put_ppis(&mut self, behind: &HeapStore, list: &[Desc])
         requires { Present (H.StandsFor behind.now) (AreDescs list.now) }
-        ensures { OfEach (H.StandsFor behind.now) (AreDescs list.now)
+        ensures named { self.new.named ≡ self.old.named }
+        ensures rows { OfEach (H.StandsFor behind.now) (AreDescs list.now)
             (λ s. Becomes self.old self.new (record (held self.old) { ppis = self.old.ppis ++ map (row_at s) (offsets list.now) })) }
     {
         if self.right {
@@ -122,7 +135,8 @@ impl Index {
     // Notifications are registered.
     pub(crate) fn put_notifications(&mut self, behind: &HeapStore, list: &[Desc])
         requires { Present (H.StandsFor behind.now) (AreDescs list.now) }
-        ensures { OfEach (H.StandsFor behind.now) (AreDescs list.now) (λ s. Becomes self.old self.new (record (held self.old) {
+        ensures named { self.new.named ≡ self.old.named }
+        ensures rows { OfEach (H.StandsFor behind.now) (AreDescs list.now) (λ s. Becomes self.old self.new (record (held self.old) {
           callbacks = self.old.callbacks ++ map (row_at s) (new_callbacks s list.now);
           dispatches = self.old.dispatches ++ map (row_at s) (new_dispatches s list.now);
         })) }
@@ -135,17 +149,41 @@ impl Index {
 
     // A PPI is put in the place of another.
     pub(crate) fn put_other(&mut self, place: u32, row: Indexed)
-        ensures { Becomes self.old self.new (record (held self.old) { ppis = slice_set self.old.ppis place row }) }
+        ensures rows { Becomes self.old self.new (record (held self.old) { ppis = slice_set self.old.ppis place row }) }
+        ensures named { NamesOther self.old.named self.new.named place row.at }
     {
+        self.named.name_other(place, row.at);
         if self.right {
             self.right = (place as usize) < self.ppis.len() && self.ppis.replace(place, row);
         }
     }
 
+    // Learns the nodes of the PPIs that came since, as far as there is room.
+    pub(crate) fn learn(&mut self, behind: &HeapStore)
+        requires { Present (H.StandsFor behind.now) (Says self.old) }
+        ensures { OfEach (H.StandsFor behind.now) (Says self.old) (Says self.new) }
+    {
+        if !self.right {
+            return;
+        }
+        if !self.named.right {
+            return;
+        }
+        self.named.learn(&self.ppis, behind);
+    }
+
+    // Whether the nodes of all PPIs are known.
+    pub(crate) fn knows_ppis(&self) -> bool
+        ensures { result ≡ true → (s : StoreState) → IsStoreState s → Says self.now s → AreKnown self.now.named.nodes s }
+    {
+        self.right && self.named.right && self.named.nodes.len() == self.ppis.len()
+    }
+
     // The PPI of permanent memory is installed.
     pub(crate) fn put_core(&mut self, behind: &HeapStore)
         requires { Present (H.StandsFor behind.now) Anything }
-        ensures { OfEach (H.StandsFor behind.now) Anything (λ s. BecomesCore self.old self.new s) }
+        ensures named { self.new.named ≡ self.old.named }
+        ensures rows { OfEach (H.StandsFor behind.now) Anything (λ s. BecomesCore self.old self.new s) }
     {
         if !self.right {
             return;

@@ -1,8 +1,11 @@
-// What fires at two entries that the index tells.
-ghost use Rattle.store_model.specs.Service.{OfEach, Present};
+// What fires at two entries that the index tells, and the first PPI that names a descriptor.
+ghost use Rattle.std.specs.Prelude.{◌≡◌};
+ghost use Rattle.store_model.specs.{Service.OfEach, Service.Present, StoreState.StoreState, StoreCall.Anything};
+ghost use Rattle.pei_heap.specs.Replaced.{IsFound};
 ghost use Rattle.mem_store.specs.Meeting.{AreMet, IsFiring};
 
 use crate::store::MemStore;
+use pei_heap::links::PpiFound;
 use store_laws::named_are_there;
 use store_model::{Desc, Firing};
 
@@ -32,5 +35,19 @@ impl MemStore {
             guid: ppi.guid,
             value,
         }
+    }
+
+    // The first PPI that names a descriptor: by the index where it knows the nodes of all, otherwise by walking the list in memory.
+    pub(crate) fn first_named(&mut self, d: Desc) -> Option<PpiFound>
+        requires { Present (StandsFor self.old) Anything }
+        ensures stands { (s : StoreState) → StandsFor self.old s → StandsFor self.new s }
+        ensures found { (s : StoreState) → StandsFor self.old s → IsFound s d result }
+        ensures same { self.new.behind ≡ self.old.behind }
+    {
+        self.index.learn(&self.behind);
+        if self.index.knows_ppis() {
+            return self.index.named.first(d);
+        }
+        self.behind.walk_to(d)
     }
 }

@@ -25,6 +25,7 @@ mod Reaching
 mod Calls
 mod Faults
 mod OneBoot
+mod LawfulTexts
 mod Choosing
 mod DriverTextRuns
 mod Facts

@@ -30,6 +30,7 @@ pub mod StartLine
 pub mod Starting
 pub mod Verdict
 pub mod Checking
+pub mod Lawful
 pub mod Agreement
 pub mod Fronts
 pub mod Lines

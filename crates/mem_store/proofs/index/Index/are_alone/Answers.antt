@@ -18,4 +18,4 @@ descs-preserved c = λ s h descs says.
     ∙ c.descs.invariant s h descs says
 
 pub returns : goal.returns
-returns c s h descs says true_is = alone_end s c.args.list.now c.descs.d-index c.descs-test.false (c.descs.invariant s h descs (says c.if-not-self.false))
+returns c s h descs says true_is = alone_end s c.args.list.now c.descs.d-index c.descs-test.false (c.descs.invariant s h descs (says.rows c.if-not-self.false))

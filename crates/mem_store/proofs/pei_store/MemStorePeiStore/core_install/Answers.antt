@@ -14,8 +14,8 @@ returns-in-Ok c = record {
       let after = c.in-Ok.ensures s h.memory in
       let keeps = c.services_keep_rows.ensures.core_install s (facts_of c.args.self.now.behind s h.memory) in
       let rows = subst (λ r. After (RowsOfCore s) r) after.1 keeps in
-      let become = c.put_core.ensures after.0 after.2 tt in
-      (after.0, after.1, record { memory = after.2; index = core_says c.rows_answer.ensures c.args.self.now.index c.put_core.new.self s after.0 rows become h.index });
+      let become = c.put_core.ensures.rows after.0 after.2 tt in
+      (after.0, after.1, record { memory = after.2; index = core_says c.rows_answer.ensures c.args.self.now.index c.put_core.new.self s after.0 rows c.put_core.ensures.named become h.index });
 }
 
 pub returns-in-Err : goal.returns-in-Err

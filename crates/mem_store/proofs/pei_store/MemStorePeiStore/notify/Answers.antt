@@ -19,9 +19,9 @@ returns-in-Ok c = record {
       let after = c.in-Ok.ensures.row s h in
       let keeps = c.services_keep_rows.ensures.notify s c.args.list.now c.args.by (facts_of c.args.self.now.behind s h.0.memory) h.1 in
       let rows = subst (λ r. After (λ t. RowsNotified s t c.args.list.now) r) after.1 keeps in
-      let become = c.put_notifications.ensures after.0 after.2 rows.descs.there in
+      let become = c.put_notifications.ensures.rows after.0 after.2 rows.descs.there in
       let says = subst (λ i. Says i s) (sym c.in-Ok.ensures.index) h.0.index in
-      (after.0, after.1, record { memory = after.2; index = notified_says c.register_behind.new.self.index c.put_notifications.new.self s after.0 c.args.list.now rows become says });
+      (after.0, after.1, record { memory = after.2; index = notified_says c.register_behind.new.self.index c.put_notifications.new.self s after.0 c.args.list.now rows c.put_notifications.ensures.named become says });
 }
 
 pub returns-in-Err : goal.returns-in-Err

@@ -10,7 +10,7 @@ tell_descriptor-entry-requires c =
     let s = c.requires.0 in
     let h = c.requires.1 in
     let row = c.in-Some-get.row in
-    let is = note_entry s c.args.self.now.index c.args.note row (h.index c.requires.2.0) c.in-Some-get.ensures in
+    let is = note_entry s c.args.self.now.index c.args.note row (h.index.rows c.requires.2.0) c.in-Some-get.ensures in
     let named = c.named_are_there.ensures.callback s c.args.note is.entry (facts_of c.args.self.now.behind s h.memory) is.there in
     (s, h.memory, desc_at s Callback is.entry row named is.row_is)
 
@@ -19,7 +19,7 @@ overflow_cast-entry c =
     let s = c.requires.0 in
     let h = c.requires.1 in
     let row = c.in-Some-get.row in
-    let is = note_entry s c.args.self.now.index c.args.note row (h.index c.requires.2.0) c.in-Some-get.ensures in
+    let is = note_entry s c.args.self.now.index c.args.note row (h.index.rows c.requires.2.0) c.in-Some-get.ensures in
     let named = c.named_are_there.ensures.callback s c.args.note is.entry (facts_of c.args.self.now.behind s h.memory) is.there in
     let told = c.tell_descriptor-entry.ensures s h.memory (desc_at s Callback is.entry row named is.row_is) in
     let number : c.tell_descriptor-entry.result.1 ≡ number_at s is.entry.descriptor = ap (λ t. t.1) told ∙ ap (λ r. number_at s r.at) is.row_is in
@@ -31,14 +31,14 @@ tell_descriptor-value-requires c =
     let s = c.requires.0 in
     let h = c.requires.1 in
     let row = c.in-Some.row in
-    let is = ppi_entry s c.args.self.now.index c.args.ppi row (h.index c.requires.2.0) c.in-Some.ensures in
+    let is = ppi_entry s c.args.self.now.index c.args.ppi row (h.index.rows c.requires.2.0) c.in-Some.ensures in
     let named = c.named_are_there.ensures.ppi s c.args.ppi is.entry (facts_of c.args.self.now.behind s h.memory) is.there in
     (s, h.memory, desc_at s Ppi is.entry row named is.row_is)
 
 pub returns : goal.returns
 returns c s h met sweep =
     let state = facts_of c.args.self.now.behind s h.memory in
-    let says = h.index met.0 in
+    let says = h.index.rows met.0 in
     let n = c.in-Some-get.row in
     let p = c.in-Some.row in
     let by = note_entry s c.args.self.now.index c.args.note n says c.in-Some-get.ensures in

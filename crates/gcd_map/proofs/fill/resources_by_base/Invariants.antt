@@ -1,6 +1,6 @@
 use Rattle.std.proofs.Common.{◌≡◌, ◌++◌, length}
 use Rattle.gcd_map.specs.HobMap.{resources}
-use Rattle.gcd_map.proofs.fill.by_base.Given as goal
+use Rattle.gcd_map.proofs.fill.resources_by_base.Given as goal
 
 abbrev pub invariant-places : goal.invariant-places
 invariant-places l = l.sorted ++ resources l.bytes l.rest ≡ resources l.bytes l.places

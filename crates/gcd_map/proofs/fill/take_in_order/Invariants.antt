@@ -3,7 +3,7 @@ use Rattle.pi_base.specs.Lists.{Each}
 use Rattle.gcd_map.specs.HobMap.{allocations, MayBeTaken, taken}
 use Rattle.gcd_map.specs.{HobFaults.IsNotTaken, Places.IsNear}
 use Rattle.gcd_map.proofs.Following.{Goes}
-use Rattle.gcd_map.proofs.fill.take_allocations.Given as goal
+use Rattle.gcd_map.proofs.fill.take_in_order.Given as goal
 
 abbrev pub invariant-allocations : goal.invariant-allocations
 invariant-allocations l = record {

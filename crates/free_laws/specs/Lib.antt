@@ -1,0 +1,3 @@
+pub mod FreePei
+pub mod FreeDxe
+pub mod FreeBoots
