@@ -8,7 +8,7 @@ import uuid
 from collections.abc import Iterator
 from dataclasses import dataclass, field
 
-from module_reading import GUID, Module, holds, read_tree, would
+from module_reading import GUID, Module, change, holds, read_tree
 
 MEMORY_PPI = "f894643d-c449-42d1-8ea8-85bdd8c65bde"
 CORE = "core"
@@ -365,8 +365,16 @@ class Boot:
             if phase == "pei" and guid == MEMORY_PPI:
                 pairs.insert(0, "core waits")
             told.append(f"lacks {number} {guid} {' '.join(pairs) or '-'}")
-        found = would(module, phase, set(givers))
-        return told + ([f"would {number} {' '.join(found) or '-'}"] if found is not None else [])
+        return told + self.change(module, phase)
+
+    def change(self, module: Module, phase: str) -> list[str]:
+        """The lines on the change that would make a part's expression hold."""
+        found = change(module, phase, set(self.givers[phase]))
+        if found is None:
+            return []
+        come, go = found
+        told = [f"would {module.number} {' '.join(come) or '-'}"] if come or not go else []
+        return told + ([f"unless {module.number} {' '.join(go)}"] if go else [])
 
     def told(self) -> list[str]:
         """All lines but those of modules, and that of the heap as it moved."""

@@ -25,6 +25,8 @@ ARCHITECTURAL = """
 sys.setrecursionlimit(10_000)  # an expression has up to 1,023 opcodes
 
 Tree = tuple | str
+Way = dict[str, bool]  # of GUIDs, whether they are installed
+MOST_WAYS = 16  # that are kept of an AND or OR
 File = tuple[str, str, list[str]]  # its type, its name, and its lines
 
 
@@ -185,25 +187,39 @@ def holds(tree: Tree, there: set[str]) -> bool:
     return tree == "true" or tree in there
 
 
-def wanted(tree: Tree, there: set[str]) -> list[str] | None:
-    """What a tree lacks: none where it holds, both sides' for AND, the side with fewer, or else the left one, for OR."""
-    if holds(tree, there):
-        return []
+def cost(way: Way, there: set[str]) -> int:
+    """How many GUIDs are not as a way says."""
+    return sum((guid in there) != installed for guid, installed in way.items())
+
+
+def ways_to(truth: bool, tree: Tree, there: set[str]) -> list[Way]:
+    """The ways that are kept in which a tree has this truth, the cheapest first."""
     match tree:
-        case ("and", left, right):
-            both = [wanted(left, there), wanted(right, there)]
-            return None if None in both else list(dict.fromkeys(both[0] + both[1]))
-        case ("or", left, right):
-            ways = [way for way in (wanted(left, there), wanted(right, there)) if way is not None]
-            return min(ways, key=len, default=None)
-    return None if isinstance(tree, tuple) or tree == "false" else [tree]
+        case ("not", inner):
+            return ways_to(not truth, inner, there)
+        case ("and" | "or" as operator, *sides):
+            left, right = (ways_to(truth, side, there) for side in sides)
+            if (operator == "and") == truth:
+                pairs = ((one, other) for one in left for other in right)
+                found = [one | other for one, other in pairs if all(one.get(guid, said) == said for guid, said in other.items())]
+            else:
+                found = left + right
+            return sorted(found, key=lambda way: cost(way, there))[:MOST_WAYS]
+        case "true" | "false":
+            return [{}] if (tree == "true") == truth else []
+    return [{tree: truth}]
 
 
-def would(module: Module, phase: str, there: set[str]) -> list[str] | None:
-    """The GUIDs whose coming lets a part start; none where no GUID does, as where one would have to go."""
+def change(module: Module, phase: str, there: set[str]) -> tuple[list[str], list[str]] | None:
+    """The GUIDs that must come and those that must go for a part's expression to hold; none where no way is left."""
     text = module.expressions.get(phase, "")
-    if not text:
-        return [guid for guid in module.asked(phase) if guid not in there]
     tree = read_tree(text)
-    found = wanted(tree, there) if tree else None
-    return found if found is not None and holds(tree, there | set(found)) else None
+    found = ways_to(True, tree, there) if tree else [] if text else [dict.fromkeys(module.asked(phase), True)]
+    if not found:
+        return None
+    first = found[0]
+    come = [guid for guid, installed in first.items() if installed and guid not in there]
+    go = [guid for guid, installed in first.items() if not installed and guid in there]
+    if tree and not holds(tree, there.union(come).difference(go)):
+        raise ValueError(f"module {module.number}: the change does not make its expression hold")
+    return come, go

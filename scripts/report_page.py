@@ -252,7 +252,7 @@ class Page:
             return f"<p>It would start {', '.join(ways)}.</p>"
         if wait.would is not None and self.has_expression(wait, module):
             return "<p>The expression holds as it is.</p>"
-        return "<p>No GUID that is installed would make it hold: one must be uninstalled.</p>" if wait.would is None and wait.reason == "false" else ""
+        return "<p>No change of what is installed would make it hold.</p>" if wait.would is None and wait.reason == "false" else ""
 
     # Who started
 

@@ -4,8 +4,8 @@ use Rattle.pi_base.specs.{declared.phase.Phase.TheVariants.Dxe, declared.guid.Gu
 use Rattle.mod_catalog.specs.{declared.catalogue.Part.Part, Parts.part_at, declared.catalogue.Catalog.Catalog}
 use Rattle.store_model.specs.{HandleState.has_protocol, StoreState.StoreState}
 use Rattle.boot_model.specs.{declared.line.Reason.Reason, DxeChoice.is_waiting, DxeStep.driver_reason, declared.phase_end.DxeEnd.DxeEnd}
-use Rattle.boot_reasons.specs.{Would.would, Needs.needs_of, declared.told.DxeTold.DxeTold, DxeTelling.ExplainsEnd, DxeTelling.held_where}
-use Rattle.explain_text.specs.{declared.reasons.Need.Need, declared.reasons.Giver.Giver, declared.reasons.Held.Held}
+use Rattle.boot_reasons.specs.{Needs.needs_of, declared.told.DxeTold.DxeTold, DxeTelling.ExplainsEnd, DxeTelling.held_where}
+use Rattle.explain_text.specs.{Change.change_for, declared.reasons.Need.Need, declared.reasons.Giver.Giver, declared.reasons.Held.Held, declared.ways.change.Change.Change}
 use Rattle.boot_model.specs.DxeMachine.{DxeMachine}
 use Rattle.dxe_dispatch.specs.Queue.{IsQueueOf, Queue}
 use Rattle.dxe_core.specs.Standing.{DxeCore, IsCoreOf}
@@ -29,12 +29,12 @@ explained_so stands store catalog core queue told how held discovered taken wait
     }
 
 -- a driver that waits
-pub held_one : (catalog : Catalog) (m : DxeMachine) (giver : Guid → Giver) (number : ℕ) (part : Part) (reason : Reason) (needs : List Need) (guids : Option (List Guid)) → is_waiting m number ≡ true → part_at Dxe catalog number ≡ Some part
-    → reason ≡ driver_reason catalog m number → needs ≡ needs_of giver Dxe part.expr → guids ≡ would (has_protocol m.handles) Dxe part.expr
-    → record { number = number; phase = Dxe; reason = reason; needs = needs; would = guids } ∷ [] ≡ held_where (is_waiting m number) (dxe_held_at catalog m giver number)
-held_one catalog m giver number part reason needs guids waits is why asked lacks =
-    let one : record { number = number; phase = Dxe; reason = reason; needs = needs; would = guids } ≡ dxe_held_by catalog m giver number part =
-    λ j. record { number = number; phase = Dxe; reason = why j; needs = asked j; would = lacks j } in
+pub held_one : (catalog : Catalog) (m : DxeMachine) (giver : Guid → Giver) (number : ℕ) (part : Part) (reason : Reason) (needs : List Need) (change : Option Change) → is_waiting m number ≡ true → part_at Dxe catalog number ≡ Some part
+    → reason ≡ driver_reason catalog m number → needs ≡ needs_of giver Dxe part.expr → change ≡ change_for (has_protocol m.handles) Dxe part.expr
+    → record { number = number; phase = Dxe; reason = reason; needs = needs; change = change } ∷ [] ≡ held_where (is_waiting m number) (dxe_held_at catalog m giver number)
+held_one catalog m giver number part reason needs change waits is why asked lacks =
+    let one : record { number = number; phase = Dxe; reason = reason; needs = needs; change = change } ≡ dxe_held_by catalog m giver number part =
+    λ j. record { number = number; phase = Dxe; reason = why j; needs = asked j; change = lacks j } in
     ap (λ x. x ∷ []) one ∙ sym (ap (λ o. option_to_list (option_map (dxe_held_by catalog m giver number) o)) is) ∙ sym (ap (λ b. held_where b (dxe_held_at catalog m giver number)) waits)
 
 -- the drivers that are left, one fewer

@@ -1,11 +1,11 @@
 -- GUIDs that are noted one behind the other are noted once each.
-use Rattle.std.proofs.Common.{◌≡◌, Bool, true, false, ◌||◌, ◌&&◌, not, cond, List, [], ◌∷◌, ◌++◌, filter, flat_map, refl, sym, ap, ◌∙◌, append_assoc, append-nil}
+use Rattle.std.proofs.Common.{◌≡◌, Bool, true, false, ◌||◌, not, cond, List, [], ◌∷◌, ◌++◌, filter, flat_map, refl, sym, ap, ◌∙◌, append_assoc, append-nil}
 use Rattle.std.proofs.{lemmas.Cmp.nat_list_eq_equiv, lemmas.Grind.flat_map-append}
 use Rattle.pi_base.specs.{declared.guid.Guid.Guid, Guids.same_guid, Lists.firsts}
-use Rattle.depex_code.specs.Tree.{DepexTree, True, False, Push, Not, And, Or, postfix, truth}
+use Rattle.depex_code.specs.Tree.{DepexTree, True, False, Push, Not, And, Or, postfix}
 use Rattle.depex_code.specs.declared.opcode.Opcode.{Opcode}
 use Rattle.depex_code.specs.declared.opcode.Opcode.TheVariants as O
-use Rattle.boot_reasons.specs.{Asked.is_among, Asked.pushed_by, Would.with_these}
+use Rattle.boot_reasons.specs.{Asked.is_among, Asked.pushed_by}
 use Rattle.boot_reasons.specs.NotedOnce.{noted_all, noted_code, once_more, pushed_one}
 
 filter_more : (test : Guid → Bool) (xs : List Guid) (x : Guid) → filter test (xs ++ x ∷ []) ≡ cond (test x) (filter test xs ++ x ∷ []) (filter test xs)
@@ -47,7 +47,7 @@ left_out a guid (b ∷ others) differ = by (same_guid a b) refl (left_out a guid
         rest ∙ ap (λ t. t || is_among guid others) (sym apart)
 
 -- each once, the same are among them
-pub among_firsts : (guid : Guid) (guids : List Guid) → is_among guid (firsts same_guid guids) ≡ is_among guid guids
+among_firsts : (guid : Guid) (guids : List Guid) → is_among guid (firsts same_guid guids) ≡ is_among guid guids
 among_firsts guid [] = refl
 among_firsts guid (a ∷ rest) = by (same_guid a guid) refl (among_firsts guid rest)
   where
@@ -92,18 +92,3 @@ tree_code (Or first second) = of_both (postfix first) (postfix second) (pushed_b
 -- all that a tree pushes
 pub code_once : (node : DepexTree) → noted_code [] (postfix node) ≡ firsts same_guid (pushed_by node)
 code_once node = code_behind [] (postfix node) ∙ ap (firsts same_guid) (tree_code node)
-
--- a tree is as true over the same GUIDs
-pub truth_over : (has other : Guid → Bool) (node : DepexTree) → ((guid : Guid) → has guid ≡ other guid) → truth has node ≡ truth other node
-truth_over has other True same = refl
-truth_over has other False same = refl
-truth_over has other (Push guid) same = same guid
-truth_over has other (Not node) same = ap not (truth_over has other node same)
-truth_over has other (And first second) same =
-    ap (λ b. b && truth has second) (truth_over has other first same) ∙ ap (λ b. truth other first && b) (truth_over has other second same)
-truth_over has other (Or first second) same =
-    ap (λ b. b || truth has second) (truth_over has other first same) ∙ ap (λ b. truth other first || b) (truth_over has other second same)
-
--- also over those that were noted
-pub truth_once : (has : Guid → Bool) (guids : List Guid) (node : DepexTree) → truth (with_these has (firsts same_guid guids)) node ≡ truth (with_these has guids) node
-truth_once has guids node = truth_over (with_these has (firsts same_guid guids)) (with_these has guids) node (λ guid. ap (λ b. has guid || b) (among_firsts guid guids))

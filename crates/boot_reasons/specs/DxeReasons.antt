@@ -8,8 +8,8 @@ use Rattle.boot_model.specs.{declared.licence.Licence.Licence, DriverLicence.tar
 use Rattle.boot_model.specs.declared.licence.Licence.TheVariants as G
 use Rattle.boot_model.specs.{declared.driver.Scheduled.Scheduled, DxeMachine.DxeMachine}
 use Rattle.boot_model.specs.DxeStep.{DxeCase, DxeFires, DxeActs, DxeStarts, DxeStops, driver_reason, dxe_case_of}
-use Rattle.boot_reasons.specs.{Would.would, Givers.actor_in, Givers.giver_along, Needs.needs_of}
-use Rattle.explain_text.specs.{declared.reasons.Begun.Begun, declared.reasons.Giver.Giver, declared.reasons.Held.Held}
+use Rattle.boot_reasons.specs.{Givers.actor_in, Givers.giver_along, Needs.needs_of}
+use Rattle.explain_text.specs.{Change.change_for, declared.reasons.Begun.Begun, declared.reasons.Giver.Giver, declared.reasons.Held.Held}
 
 -- who has a protocol installed
 abbrev pub dxe_giver : List DxeMachine → DxeMachine → Guid → Giver
@@ -57,7 +57,7 @@ dxe_held_by catalog m giver number part = record {
   phase = Dxe;
   reason = driver_reason catalog m number;
   needs = needs_of giver Dxe part.expr;
-  would = would (has_protocol m.handles) Dxe part.expr;
+  change = change_for (has_protocol m.handles) Dxe part.expr;
 }
 
 -- the same by its number

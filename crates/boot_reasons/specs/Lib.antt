@@ -12,6 +12,4 @@ pub mod Noting
 pub mod PeiEnding
 pub mod PeiReasons
 pub mod PeiTelling
-pub mod Sides
 pub mod Unseen
-pub mod Would

@@ -7,8 +7,8 @@ use Rattle.mod_catalog.specs.{declared.catalogue.Catalog.Catalog, declared.catal
 use Rattle.store_model.specs.{StoreState.StoreState, Service.Install.has_ppi}
 use Rattle.boot_model.specs.{declared.line.Reason.Reason, Eligible.licence_at, PeiChoice.pei_order, PeiMachine.PeiMachine}
 use Rattle.boot_model.specs.PeiStep.{reason_of}
-use Rattle.boot_reasons.specs.{Would.would, Moving.moved_between, Givers.actor_in, Givers.giver_along, Needs.needs_of}
-use Rattle.explain_text.specs.{declared.reasons.Begun.Begun, declared.reasons.Giver.Giver, declared.reasons.Held.Held}
+use Rattle.boot_reasons.specs.{Moving.moved_between, Givers.actor_in, Givers.giver_along, Needs.needs_of}
+use Rattle.explain_text.specs.{Change.change_for, declared.reasons.Begun.Begun, declared.reasons.Giver.Giver, declared.reasons.Held.Held}
 use Rattle.explain_text.specs.declared.reasons.Moved.{Moved}
 
 -- who has a PPI installed
@@ -40,7 +40,7 @@ pei_begun catalog (before ∷ earlier) m =
 -- a part that waits
 abbrev pub pei_held_by : StoreState → (Guid → Giver) → ℕ → Reason → Part → Held
 pei_held_by s giver number reason part =
-    record { number = number; phase = Pei; reason = reason; needs = needs_of giver Pei part.expr; would = would (has_ppi s) Pei part.expr }
+    record { number = number; phase = Pei; reason = reason; needs = needs_of giver Pei part.expr; change = change_for (has_ppi s) Pei part.expr }
 
 -- the part of a module, if it waits by this reason
 abbrev pub pei_held_for : Catalog → StoreState → (Guid → Giver) → ℕ → Option Reason → List Held

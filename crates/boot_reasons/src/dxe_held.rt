@@ -5,13 +5,12 @@ ghost use Rattle.dxe_dispatch.specs.Queue.{IsQueueOf};
 ghost use Rattle.dxe_core.specs.Standing.{IsCoreOf};
 ghost use Rattle.boot_reasons.specs.{DxeReasons.dxe_held, DxeReasons.dxe_held_at, DxeTelling.held_where, Noting.giver_in};
 
-use crate::coming::would;
 use crate::givers::Givers;
 use crate::needs::needs_of;
 use crate::waiters::push_held;
 use dxe_core::{Dxe, is_requested};
 use dxe_dispatch::{DriverQueue, reason_of};
-use explain_text::Held;
+use explain_text::{Held, change_for};
 use mod_catalog::Catalog;
 use phase_parts::part_of;
 use pi_base::{OutOfMemory, Phase, Seq};
@@ -39,7 +38,7 @@ fn held_of(
     };
     let requested = is_requested(dxe.requested(), number);
     let needs = needs_of(alloc, givers, Phase::Dxe, part)?;
-    let Ok(guids) = would(alloc, dxe.handles(), Phase::Dxe, &part.expr) else {
+    let Ok(change) = change_for(alloc, dxe.handles(), Phase::Dxe, &part.expr) else {
         drop(needs);
         return Err(OutOfMemory);
     };
@@ -48,7 +47,7 @@ fn held_of(
         phase: Phase::Dxe,
         reason: reason_of(catalog, number, requested),
         needs,
-        would: guids,
+        change,
     }))
 }
 

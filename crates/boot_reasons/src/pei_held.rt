@@ -5,12 +5,11 @@ ghost use Rattle.boot_model.specs.PeiStep as P;
 ghost use Rattle.pei_core.specs.Standing.{StandsFor};
 ghost use Rattle.boot_reasons.specs.{Noting.giver_in, PeiReasons.pei_held, PeiReasons.pei_held_for};
 
-use crate::coming::would;
 use crate::givers::Givers;
 use crate::needs::needs_of;
 use crate::waiters::push_held;
 use boot_model::state_of;
-use explain_text::Held;
+use explain_text::{Held, change_for};
 use mod_catalog::Catalog;
 use pei_core::Pei;
 use pei_dispatch::reason_of;
@@ -40,7 +39,7 @@ fn held_of<M: PeiStore + Drop>(
         None => return Ok(None),
     };
     let needs = needs_of(alloc, givers, Phase::Pei, part)?;
-    let Ok(guids) = would(alloc, pei.store(), Phase::Pei, &part.expr) else {
+    let Ok(change) = change_for(alloc, pei.store(), Phase::Pei, &part.expr) else {
         drop(needs);
         return Err(OutOfMemory);
     };
@@ -49,7 +48,7 @@ fn held_of<M: PeiStore + Drop>(
         phase: Phase::Pei,
         reason,
         needs,
-        would: guids,
+        change,
     }))
 }
 

@@ -190,11 +190,10 @@ word_put text xs i d out old new within put before =
     put ∙ ap (λ t. t ++ spaced (text (get_or xs i d))) before ∙ flat_map_more spaced out (map text (take i xs)) (text (get_or xs i d))
     ∙ ap (λ l. out ++ flat_map spaced l) (sym (texts_more text (take i xs) (get_or xs i d))) ∙ ap (λ l. out ++ flat_map spaced (map text l)) (sym (take_more xs i d within))
 
--- all words were put, and there are some
-pub all_put : {X : Type 0} (text : X → List ℕ) (xs : List X) (i : ℕ) (out new : List ℕ) → (length xs == 0) ≡ false → length xs ≤ i → new ≡ out ++ flat_map spaced (map text (take i xs))
-    → new ≡ out ++ flat_map spaced (or_dash (map text xs))
-all_put text [] i out new some all before = absurd cc
-all_put text (x ∷ xs) i out new some all before = before ∙ ap (λ l. out ++ flat_map spaced (map text l)) (take_all i (x ∷ xs) all)
+-- all words were put
+pub all_put : {X : Type 0} (text : X → List ℕ) (xs : List X) (i : ℕ) (out new : List ℕ) → length xs ≤ i → new ≡ out ++ flat_map spaced (map text (take i xs))
+    → new ≡ out ++ flat_map spaced (map text xs)
+all_put text xs i out new all before = before ∙ ap (λ l. out ++ flat_map spaced (map text l)) (take_all i xs all)
 
 -- a module and whether it started, one word after the other
 pub pair_added : (started : ℕ → Bool) (number : ℕ) (old mid new : List ℕ) → mid ≡ old ++ spaced (decimal number) → new ≡ mid ++ spaced (word_of (cond (started number) K.Started K.Waits))

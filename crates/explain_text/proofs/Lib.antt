@@ -11,3 +11,10 @@ mod Images
 mod Names
 mod OneTitle
 mod FileBytes
+mod WayLists
+mod WayTruth
+mod WayOnce
+mod WayChange
+mod Keeping
+mod SidesInOrder
+mod WayNone

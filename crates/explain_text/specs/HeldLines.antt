@@ -1,4 +1,4 @@
--- The lines of the modules that wait at the end of a phase: why, what the expression asks for that is not there and what is, and the GUIDs whose coming would make it hold.
+-- The lines of the modules that wait at the end of a phase: why, what the expression asks for that is not there and what is, and the GUIDs whose coming and going would make it hold.
 -- PI 1.8, volume 1, "Dependency Expressions"; the lines are own.
 use Rattle.std.specs.Prelude.{ℕ, Bool, false, if◌then◌else◌, nat_lt, List, [], ◌∷◌, ◌++◌, length, map, take, decimal, flat_map, Option, Some, None}
 use Rattle.boot_io.specs.Line.{line_of}
@@ -6,7 +6,7 @@ use Rattle.boot_model.specs.Text.{reason_text}
 use Rattle.pi_base.specs.{declared.guid.Guid.Guid, declared.known_guid.TheConstants.MEMORY_PPI, declared.phase.Phase.Phase}
 use Rattle.pi_base.specs.{declared.phase.Phase.TheVariants.Pei, declared.phase.Phase.TheVariants.Dxe, Guids.same_guid, WordText.guid_text}
 use Rattle.mod_catalog.specs.declared.catalogue.Module.{Module as OfModule}
-use Rattle.explain_text.specs.{declared.reasons.Begun.Begun, declared.reasons.Held.Held, declared.reasons.Need.Need}
+use Rattle.explain_text.specs.{declared.reasons.Begun.Begun, declared.reasons.Held.Held, declared.reasons.Need.Need, declared.ways.change.Change.Change}
 use Rattle.explain_text.specs.{declared.reasons.Giver.Giver, Lines.phase_text, declared.held_lines.TheConstants.MOST_TOLD}
 use Rattle.explain_text.specs.declared.reasons.Giver.TheVariants.{Core, Module, Absent}
 use Rattle.explain_text.specs.declared.keyword.Keyword.TheVariants as K
@@ -60,12 +60,23 @@ asked_line begun modules phase number guid (Module by) = has_line number guid (M
 abbrev pub need_line : List Begun → List OfModule → Phase → ℕ → Need → List ℕ
 need_line begun modules phase number need = asked_line begun modules phase number need.guid need.giver
 
--- the GUIDs that would do
-abbrev pub would_lines : ℕ → Option (List Guid) → List ℕ
-would_lines number None = []
-would_lines number (Some guids) = line_of (word_of K.Would) (decimal number ∷ or_dash (map guid_text guids))
+-- the GUIDs that have to come: a dash where nothing has to change, and no line where only some have to go
+abbrev pub would_line : ℕ → List Guid → List Guid → List ℕ
+would_line number [] [] = line_of (word_of K.Would) (decimal number ∷ word_of K.Dash ∷ [])
+would_line number [] (gone ∷ others) = []
+would_line number (guid ∷ guids) unless = line_of (word_of K.Would) (decimal number ∷ map guid_text (guid ∷ guids))
+
+-- those that have to go
+abbrev pub unless_line : ℕ → List Guid → List ℕ
+unless_line number [] = []
+unless_line number (guid ∷ guids) = line_of (word_of K.Unless) (decimal number ∷ map guid_text (guid ∷ guids))
+
+-- the change that would do, if one is known
+abbrev pub change_lines : ℕ → Option Change → List ℕ
+change_lines number None = []
+change_lines number (Some change) = would_line number change.would change.unless ++ unless_line number change.unless
 
 -- the lines of a module that waits
 abbrev pub held_lines : List Begun → List OfModule → Held → List ℕ
 held_lines begun modules wait =
-    waits_line wait ++ flat_map (need_line begun modules wait.phase wait.number) wait.needs ++ would_lines wait.number wait.would
+    waits_line wait ++ flat_map (need_line begun modules wait.phase wait.number) wait.needs ++ change_lines wait.number wait.change

@@ -1,9 +1,13 @@
+pub mod Ways
 pub mod Words
 pub mod Givers
 pub mod Flags
+pub mod Change
 pub mod Context
+pub mod Sides
 pub mod StartLines
 pub mod HeldLines
+pub mod KeptWays
 pub mod LeftLines
 pub mod EndLines
 pub mod Text

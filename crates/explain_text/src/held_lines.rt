@@ -1,11 +1,11 @@
 // The lines of the modules that wait.
-ghost use Rattle.std.specs.Prelude.{◌≡◌, ◌++◌, ℕ, List, flat_map, map, OnOk};
-ghost use Rattle.boot_io.specs.Line.{spaced};
+ghost use Rattle.std.specs.Prelude.{◌≡◌, ◌∷◌, ◌++◌, ℕ, List, decimal, flat_map, map, OnOk};
+ghost use Rattle.boot_io.specs.Line.{line_of, spaced};
 ghost use Rattle.pi_base.specs.WordText.{guid_text};
 ghost use Rattle.mod_catalog.specs.declared.catalogue.Module.{Module as OfModule};
 ghost use Rattle.explain_text.specs.{declared.reasons.Begun.Begun as Start, Context.AreContexts, Context.IsContext, Flags.flag};
-ghost use Rattle.explain_text.specs.Givers.{Chain};
-ghost use Rattle.explain_text.specs.HeldLines.{core_gives, has_line, held_lines, lacks_line, lacks_words, need_line, or_dash, pair_words, told_words, waits_line, would_lines};
+ghost use Rattle.explain_text.specs.{Givers.Chain, Words.word_of};
+ghost use Rattle.explain_text.specs.HeldLines.{change_lines, core_gives, has_line, held_lines, lacks_line, lacks_words, need_line, pair_words, told_words, unless_line, waits_line, would_line};
 
 use crate::catalog::{end_line, phase_word, put_front, put_line, put_word};
 use crate::context::Context;
@@ -14,6 +14,7 @@ use crate::givers::{Link, link_at};
 use crate::keyword::{Keyword, word_of};
 use crate::reasons::{Giver, Held, Need};
 use crate::start_lines::giver_word;
+use crate::ways::Change;
 use boot_trace::{decimal_word, reason_word};
 use pi_base::{Guid, MEMORY_PPI, OutOfMemory, Phase, Seq};
 
@@ -162,30 +163,78 @@ fn put_needs(
     Ok(())
 }
 
-// Adds GUIDs, or a dash where there is none.
+// Adds GUIDs.
 fn put_guids(out: &mut Seq<u8>, guids: &[Guid]) -> Result<(), OutOfMemory>
-    ensures { OnOk result (out.new ≡ out.old ++ flat_map spaced (or_dash (map guid_text guids.now))) }
+    ensures { OnOk result (out.new ≡ out.old ++ flat_map spaced (map guid_text guids.now)) }
 {
-    if guids.is_empty() {
-        return put_word(out, word_of(Keyword::Dash));
-    }
     'guids: for guid in guids {
         put_word(out, &guid.to_text())?;
     }
     Ok(())
 }
 
-// The line of the GUIDs that would do.
-fn put_would(out: &mut Seq<u8>, number: u32, would: &Option<Seq<Guid>>) -> Result<(), OutOfMemory>
-    ensures { OnOk result (out.new ≡ out.old ++ would_lines number would.now) }
+// A line of GUIDs.
+fn put_guid_line(
+    out: &mut Seq<u8>,
+    word: Keyword,
+    number: u32,
+    guids: &[Guid],
+) -> Result<(), OutOfMemory>
+    ensures { OnOk result (out.new ≡ out.old ++ line_of (word_of word) (decimal number ∷ map guid_text guids.now)) }
 {
-    let Some(guids) = would else {
+    let number = decimal_word(u64::from(number));
+    put_front(out, word_of(word), &[number.as_slice()])?;
+    put_guids(out, guids)?;
+    end_line(out)
+}
+
+// The line of the GUIDs that have to come.
+fn put_would(
+    out: &mut Seq<u8>,
+    number: u32,
+    would: &[Guid],
+    unless: &[Guid],
+) -> Result<(), OutOfMemory>
+    ensures { OnOk result (out.new ≡ out.old ++ would_line number would.now unless.now) }
+{
+    match (would, unless) {
+        ([], []) => put_line(
+            out,
+            word_of(Keyword::Would),
+            &[
+                decimal_word(u64::from(number)).as_slice(),
+                word_of(Keyword::Dash),
+            ],
+        ),
+        ([], _) => Ok(()),
+        _ => put_guid_line(out, Keyword::Would, number, would),
+    }
+}
+
+// The line of those that have to go.
+fn put_unless(out: &mut Seq<u8>, number: u32, unless: &[Guid]) -> Result<(), OutOfMemory>
+    ensures { OnOk result (out.new ≡ out.old ++ unless_line number unless.now) }
+{
+    if unless.is_empty() {
+        return Ok(());
+    }
+    put_guid_line(out, Keyword::Unless, number, unless)
+}
+
+// The lines of the change that would do.
+fn put_change(out: &mut Seq<u8>, number: u32, change: &Option<Change>) -> Result<(), OutOfMemory>
+    ensures { OnOk result (out.new ≡ out.old ++ change_lines number change.now) }
+{
+    let Some(change) = change else {
         return Ok(());
     };
-    let number = decimal_word(u64::from(number));
-    put_front(out, word_of(Keyword::Would), &[number.as_slice()])?;
-    put_guids(out, guids.as_slice())?;
-    end_line(out)
+    put_would(
+        out,
+        number,
+        change.would.as_slice(),
+        change.unless.as_slice(),
+    )?;
+    put_unless(out, number, change.unless.as_slice())
 }
 
 // The line of a module that waits.
@@ -210,7 +259,7 @@ fn put_held(out: &mut Seq<u8>, context: &Context, wait: &Held) -> Result<(), Out
 {
     put_waits(out, wait)?;
     put_needs(out, context, wait.phase, wait.number, wait.needs.as_slice())?;
-    put_would(out, wait.number, &wait.would)
+    put_change(out, wait.number, &wait.change)
 }
 
 // Those of one that waits in either phase.

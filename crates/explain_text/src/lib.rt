@@ -14,7 +14,9 @@ mod left_lines;
 mod reasons;
 mod start_lines;
 mod text;
+mod ways;
 
 pub use held_lines::MOST_TOLD;
 pub use reasons::{Begun, Explained, Giver, Held, Moved, Need};
 pub use text::put_explained;
+pub use ways::{Change, a_way_is_enough, change_for, each_guid_once, would_makes_it_hold};

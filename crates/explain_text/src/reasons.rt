@@ -1,4 +1,5 @@
 //! Why modules started, and why others never did.
+use crate::ways::Change;
 use boot_model::{Licence, Reason, RunEnd};
 use pi_base::{Guid, Phase, Seq};
 
@@ -45,8 +46,8 @@ pub struct Held {
     pub reason: Reason,
     /// What its expression asks for, as in `Begun`, at the end of the phase.
     pub needs: Seq<Need>,
-    /// The GUIDs whose coming would make its expression hold, each once: none where it holds. `None` where no GUIDs would do: a NOT would need one to go, or it is no tree.
-    pub would: Option<Seq<Guid>>,
+    /// The GUIDs whose coming and going would make its expression hold. `None` where none is known that would do.
+    pub change: Option<Change>,
 }
 
 /// The move of the heap to permanent memory.

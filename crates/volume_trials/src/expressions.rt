@@ -8,8 +8,8 @@ use std::alloc::Global;
 use std::process::Abort;
 use std::test::*;
 
-// The words, each digit replaced by its GUID.
-fn spelled_out(alloc: Global, words: &[u8]) -> Result<Seq<u8>, OutOfMemory> {
+/// The words, each digit replaced by its GUID.
+pub fn spelled_out(alloc: Global, words: &[u8]) -> Result<Seq<u8>, OutOfMemory> {
     let mut text = Seq::new(alloc);
     for byte in words {
         if byte.is_ascii_digit() {
@@ -23,8 +23,8 @@ fn spelled_out(alloc: Global, words: &[u8]) -> Result<Seq<u8>, OutOfMemory> {
     Ok(text)
 }
 
-// The digit of a GUID.
-fn digit(guid: &Guid) -> u8 {
+/// The digit of a GUID.
+pub fn digit(guid: &Guid) -> u8 {
     if guid.0[0] < 10 {
         b'0' + guid.0[0]
     } else {

@@ -1,5 +1,5 @@
 //! Tests of volumes. Volumes, their files and sections, how they are built and what is found in them are tested byte by byte. The texts of volumes are tested
-//! row by row: expressions as GenDepex of EDK2 spells them, the lines of actions, whole texts with their scripts, and the texts that are printed of volumes.
+//! row by row: expressions as GenDepex of EDK2 spells them, what would make one hold, the lines of actions, whole texts with their scripts, and the texts that are printed of volumes.
 #![tactic(auto)]
 
 #[cfg(test)]
@@ -10,6 +10,8 @@ mod board;
 mod building;
 #[cfg(test)]
 mod catalogues;
+#[cfg(test)]
+mod changes;
 #[cfg(test)]
 mod expressions;
 #[cfg(test)]

@@ -111,7 +111,7 @@ start 4 dxe true
 needed 4 00000000-0000-0000-0000-000000000031 5
 ";
 
-// A NOT would need a protocol to be removed; a driver with SOR is missing nothing but its request; one without an expression waits for all architectural
+// A NOT needs a protocol to go; a driver with SOR is missing nothing but its request; one without an expression waits for all architectural
 // protocols; one of two is fewer than two of three.
 // After the move the HOB list has the hand-off HOB with 56 bytes, three descriptors with 48, three nodes with 40, the FV HOB with 24 and the end HOB with 8.
 static WAITS: &[u8] = b"waits 2 pei false
@@ -120,6 +120,8 @@ would 2 00000000-0000-0000-0000-000000000022
 waits 7 dxe false
 lacks 7 00000000-0000-0000-0000-000000000032 -
 has 7 00000000-0000-0000-0000-000000000031 5
+would 7 00000000-0000-0000-0000-000000000032
+unless 7 00000000-0000-0000-0000-000000000031
 waits 8 dxe unrequested
 would 8 -
 waits 9 dxe absent
