@@ -5,7 +5,8 @@ use Rattle.mod_catalog.specs.{declared.catalogue.Part.Part, Parts.part_at, decla
 use Rattle.store_model.specs.{HandleState.has_protocol, StoreState.StoreState}
 use Rattle.boot_model.specs.{declared.line.Reason.Reason, DxeChoice.is_waiting, DxeStep.driver_reason, declared.phase_end.DxeEnd.DxeEnd}
 use Rattle.boot_reasons.specs.{Needs.needs_of, declared.told.DxeTold.DxeTold, DxeTelling.ExplainsEnd, DxeTelling.held_where}
-use Rattle.explain_text.specs.{Change.change_for, declared.reasons.Need.Need, declared.reasons.Giver.Giver, declared.reasons.Held.Held, declared.ways.change.Change.Change}
+use Rattle.explain_text.specs.{Change.change_for, declared.reasons.Need.Need, declared.reasons.Giver.Giver, declared.reasons.Held.Held}
+use Rattle.explain_text.specs.declared.ways.change.Change.{Change}
 use Rattle.boot_model.specs.DxeMachine.{DxeMachine}
 use Rattle.dxe_dispatch.specs.Queue.{IsQueueOf, Queue}
 use Rattle.dxe_core.specs.Standing.{DxeCore, IsCoreOf}

@@ -5,7 +5,8 @@ use Rattle.mod_catalog.specs.{declared.catalogue.Catalog.Catalog, declared.catal
 use Rattle.store_model.specs.{StoreState.StoreState, Service.Install.has_ppi}
 use Rattle.boot_model.specs.declared.line.Reason.{Reason}
 use Rattle.boot_reasons.specs.{Needs.need_of, Needs.needs_of, Noting.giver_in, PeiReasons.pei_held_by, PeiReasons.pei_held_for}
-use Rattle.explain_text.specs.{Change.change_for, declared.reasons.Giver.Giver, declared.reasons.Need.Need, declared.ways.change.Change.Change}
+use Rattle.explain_text.specs.{Change.change_for, declared.reasons.Giver.Giver, declared.reasons.Need.Need}
+use Rattle.explain_text.specs.declared.ways.change.Change.{Change}
 
 pub need_is : (map : List (Guid × Giver)) (guid : Guid) (giver : Giver) → giver ≡ giver_in map guid → record { guid = guid; giver = giver } ≡ need_of (giver_in map) guid
 need_is map guid giver is = ap (λ g. record { guid = guid; giver = g }) is

@@ -5,7 +5,7 @@ use Rattle.pi_base.specs.{declared.guid.Guid.Guid, Guids.same_guid, Lists.firsts
 use Rattle.depex_code.specs.Tree.{DepexTree, True, False, Push, Not, And, Or, postfix}
 use Rattle.depex_code.specs.declared.opcode.Opcode.{Opcode}
 use Rattle.depex_code.specs.declared.opcode.Opcode.TheVariants as O
-use Rattle.boot_reasons.specs.{Asked.is_among, Asked.pushed_by}
+use Rattle.boot_reasons.specs.Asked.{is_among, pushed_by}
 use Rattle.boot_reasons.specs.NotedOnce.{noted_all, noted_code, once_more, pushed_one}
 
 filter_more : (test : Guid → Bool) (xs : List Guid) (x : Guid) → filter test (xs ++ x ∷ []) ≡ cond (test x) (filter test xs ++ x ∷ []) (filter test xs)

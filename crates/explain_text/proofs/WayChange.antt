@@ -7,7 +7,8 @@ use Rattle.depex_code.specs.Tree.{DepexTree, truth}
 use Rattle.explain_text.specs.declared.ways.literal.Literal.{Literal}
 use Rattle.explain_text.specs.Change.{Agrees, Makes, SaysOnce, change_by, is_one_of, is_wanted, wanted, with_change}
 use Rattle.explain_text.specs.Ways.{Way, first_way, same_truth, ways}
-use Rattle.explain_text.proofs.{WayOnce.IsKnown, WayOnce.Knows, WayOnce.each_knows, WayOnce.each_once, WayTruth.is_enough}
+use Rattle.explain_text.proofs.WayOnce.{IsKnown, Knows, each_knows, each_once}
+use Rattle.explain_text.proofs.WayTruth.{is_enough}
 
 self : (guid : Guid) → same_guid guid guid ≡ true
 self guid = (bytes_eq-Decides guid.0 guid.0).1 refl

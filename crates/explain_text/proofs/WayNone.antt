@@ -4,10 +4,12 @@ use Rattle.std.proofs.lemmas.Bool.Decides.{nat_tests}
 use Rattle.pi_base.specs.{declared.guid.Guid.Guid, Lists.Each}
 use Rattle.pi_base.proofs.ListFacts.{each_append}
 use Rattle.depex_code.specs.Tree.{DepexTree, True, False, Push, Not, And, Or, truth}
-use Rattle.explain_text.specs.{declared.ways.literal.Literal.Literal, declared.ways.change.Change.Change, declared.ways.cheapest.TheConstants.MOST_WAYS}
+use Rattle.explain_text.specs.{declared.ways.literal.Literal.Literal, declared.ways.change.Change.Change}
+use Rattle.explain_text.specs.declared.ways.cheapest.TheConstants.{MOST_WAYS}
 use Rattle.explain_text.specs.Change.{Agrees, change_by, is_wanted, wanted}
 use Rattle.explain_text.specs.Ways.{Way, added_by, by_cost, cost, crossed, fewest, first_way, joined, joined_with, placed, said_of, same_truth, says, ways}
-use Rattle.explain_text.proofs.{WayOnce.IsKnown, WayOnce.Knows, WayOnce.each_knows, WayOnce.joined_each, WayTruth.said_agrees}
+use Rattle.explain_text.proofs.WayOnce.{IsKnown, Knows, each_knows, joined_each}
+use Rattle.explain_text.proofs.WayTruth.{said_agrees}
 
 -- the first changes nothing, and one of them does
 abbrev pub StartsFree : List Way → Type 0

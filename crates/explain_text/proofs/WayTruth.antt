@@ -4,8 +4,7 @@ use Rattle.std.proofs.lemmas.Slice.Eq.{bytes_eq-Decides}
 use Rattle.pi_base.specs.{declared.guid.Guid.Guid, Guids.same_guid, Lists.Each}
 use Rattle.pi_base.proofs.ListFacts.{each_append, each_more}
 use Rattle.depex_code.specs.Tree.{DepexTree, True, False, Push, Not, And, Or, truth}
-use Rattle.explain_text.specs.declared.ways.literal.Literal.{Literal}
-use Rattle.explain_text.specs.{Change.Agrees, Change.Makes}
+use Rattle.explain_text.specs.{declared.ways.literal.Literal.Literal, Change.Agrees, Change.Makes}
 use Rattle.explain_text.specs.Ways.{Way, added, added_by, crossed, joined, said_of, same_truth, ways}
 use Rattle.explain_text.proofs.WayLists.{each_crossed, each_fewest, split}
 

@@ -6,11 +6,12 @@ use Rattle.boot_model.specs.Text.{reason_text}
 use Rattle.pi_base.specs.{declared.guid.Guid.Guid, declared.known_guid.TheConstants.MEMORY_PPI, declared.phase.Phase.Phase}
 use Rattle.pi_base.specs.{declared.phase.Phase.TheVariants.Pei, declared.phase.Phase.TheVariants.Dxe, Guids.same_guid, WordText.guid_text}
 use Rattle.mod_catalog.specs.declared.catalogue.Module.{Module as OfModule}
-use Rattle.explain_text.specs.{declared.reasons.Begun.Begun, declared.reasons.Held.Held, declared.reasons.Need.Need, declared.ways.change.Change.Change}
-use Rattle.explain_text.specs.{declared.reasons.Giver.Giver, Lines.phase_text, declared.held_lines.TheConstants.MOST_TOLD}
+use Rattle.explain_text.specs.{declared.reasons.Begun.Begun, declared.reasons.Held.Held, declared.reasons.Need.Need}
+use Rattle.explain_text.specs.{declared.ways.change.Change.Change, declared.reasons.Giver.Giver, Lines.phase_text}
+use Rattle.explain_text.specs.{declared.held_lines.TheConstants.MOST_TOLD, Flags.has_started, Givers.givers_from, StartLines.giver_text}
 use Rattle.explain_text.specs.declared.reasons.Giver.TheVariants.{Core, Module, Absent}
 use Rattle.explain_text.specs.declared.keyword.Keyword.TheVariants as K
-use Rattle.explain_text.specs.{Flags.has_started, Givers.givers_from, StartLines.giver_text, Words.word_of}
+use Rattle.explain_text.specs.Words.{word_of}
 
 abbrev pub waits_line : Held → List ℕ
 waits_line wait = line_of (word_of K.Waits) (decimal wait.number ∷ phase_text wait.phase ∷ reason_text wait.reason ∷ [])

@@ -1,7 +1,8 @@
 -- The ways that change the fewest, as they are kept while ways come one by one.
 -- Own.
 use Rattle.std.specs.Prelude.{ℕ, zero, suc, if◌then◌else◌, nat_lt, List, [], ◌∷◌, take}
-use Rattle.explain_text.specs.{declared.ways.cheapest.TheConstants.MOST_WAYS, Ways.Way, Ways.cost, Ways.placed}
+use Rattle.explain_text.specs.declared.ways.cheapest.TheConstants.{MOST_WAYS}
+use Rattle.explain_text.specs.Ways.{Way, cost, placed}
 
 -- these ways too, of which so many are kept
 abbrev pub kept : List Way → List Way → List Way

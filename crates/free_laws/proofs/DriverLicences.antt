@@ -5,8 +5,7 @@ use Rattle.mod_catalog.specs.{declared.catalogue.Catalog.Catalog, declared.catal
 use Rattle.store_model.specs.Service.Reading.{fv_bases}
 use Rattle.boot_model.specs.{DxeMachine.DxeMachine, declared.driver.Scheduled.Scheduled, Discovery.discoveries, DxeRun.dxe_opening}
 use Rattle.boot_model.specs.{DriverLicence.IsMember, DxeChoice.a_priori_drivers, DxeChoice.group_scheduled}
-use Rattle.boot_model.specs.DxeStep.{driver_started, dxe_case_of}
-use Rattle.boot_model.specs.FreeRun.{IsFreeDxeRun, MaySchedule}
+use Rattle.boot_model.specs.{DxeStep.driver_started, DxeStep.dxe_case_of, FreeRun.IsFreeDxeRun, FreeRun.MaySchedule}
 use Rattle.boot_model.proofs.ListFacts.{each_append, each_both, each_more}
 use Rattle.boot_laws.specs.DriverLicences.{IsApriori, OneOf}
 use Rattle.free_laws.specs.FreeDxe.{EachStepAfter, FreeDriversStartLicensed, HasStarted, IsScheduledFrom, StartsLicensed, WasLicensed}

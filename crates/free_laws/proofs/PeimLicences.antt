@@ -5,8 +5,8 @@ use Rattle.mod_catalog.specs.{declared.catalogue.Catalog.Catalog, declared.catal
 use Rattle.mod_catalog.specs.declared.catalogue.PartExpr.TheVariants as E
 use Rattle.mod_catalog.specs.{Parts.has_number, Parts.part_at, WellFormed.IsWellFormed}
 use Rattle.store_model.specs.{declared.store_handle.Firing.Firing, declared.store_handle.Sweep.Sweep, StoreState.StoreState}
-use Rattle.store_model.specs.{Service.Sweep.next_match, Service.Queue.queue_pop, Migration.migration}
-use Rattle.store_model.specs.{Service.Service, Service.Install.core_install}
+use Rattle.store_model.specs.{Service.Sweep.next_match, Service.Queue.queue_pop, Migration.migration, Service.Service}
+use Rattle.store_model.specs.Service.Install.{core_install}
 use Rattle.boot_model.specs.declared.licence.Licence.TheVariants as G
 use Rattle.boot_model.specs.declared.line.Line.TheVariants as L
 use Rattle.boot_model.specs.{declared.phase_end.PeiEnd.TheVariants.Spent, declared.phase_end.PeiEnd.TheVariants.Deep, PeiRun.pei_opening}

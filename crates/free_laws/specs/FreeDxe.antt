@@ -8,9 +8,8 @@ use Rattle.mod_catalog.specs.WellFormed.{AreNumbered}
 use Rattle.store_model.specs.StoreState.{StoreState}
 use Rattle.boot_model.specs.{Licence.AllDiffer, DxeChoice.companion_group, DxeChoice.group_scheduled, DxeMachine.DxeMachine}
 use Rattle.boot_model.specs.DriverLicence.{DxeStopsIdle, IsMember, StandBeside}
-use Rattle.boot_model.specs.{declared.driver.Scheduled.Scheduled, DxeRun.dxe_opening}
+use Rattle.boot_model.specs.{declared.driver.Scheduled.Scheduled, DxeRun.dxe_opening, DxeStep.driver_started_by}
 use Rattle.boot_model.specs.FreeRun.{IsFreeDxeRun, IsStarted, MaySchedule}
-use Rattle.boot_model.specs.DxeStep.{driver_started_by}
 use Rattle.boot_laws.specs.{DriverLicences.IsApriori, DriverLicences.OneOf, QueueOrder.starts}
 use Rattle.free_laws.specs.FreePei.{EachStep}
 

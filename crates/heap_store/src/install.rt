@@ -6,8 +6,7 @@ ghost use Rattle.store_model.specs.Service.{And, OfEach, Performs, Present};
 ghost use Rattle.store_model.specs.Service.Install.{install, install_sweep, node_need, place_of, reinstall, reinstall_sweep, with_ppi};
 ghost use Rattle.store_model.specs.{StateFacts.IsDesc, declared.store_handle.Desc.Desc as OfDesc};
 ghost use Rattle.store_model.specs.StoreCall.{Anything, AreDescs, AreFew};
-ghost use Rattle.pei_heap.specs.Linked.{IsLinked};
-ghost use Rattle.pei_heap.specs.Replaced.{IsFound};
+ghost use Rattle.pei_heap.specs.{Linked.IsLinked, Replaced.IsFound};
 ghost use Rattle.heap_store.specs.Made.{CanMakePpis, HaveFound, HavePairs, IsMade};
 
 use crate::store::HeapStore;

@@ -2,8 +2,7 @@
 ghost use Rattle.std.specs.Prelude.{◌≡◌, ◌++◌, ◌∷◌, [], true, if◌then◌else◌, IfOk, map, slice_set};
 ghost use Rattle.store_model.specs.{Service.OfEach, Service.Present, Service.Descriptor.offsets};
 ghost use Rattle.store_model.specs.{StateFacts.IsDesc, StateFacts.IsStoreState, StoreState.StoreState};
-ghost use Rattle.store_model.specs.Service.Notify.{new_callbacks, new_dispatches};
-ghost use Rattle.store_model.specs.StoreCall.{Anything, AreDescs};
+ghost use Rattle.store_model.specs.{Service.Notify.new_callbacks, Service.Notify.new_dispatches, StoreCall.Anything, StoreCall.AreDescs};
 ghost use Rattle.mem_store.specs.{Rows.row_at, Picked.is_picked, Picked.picked_of, Nodes.AreKnown, Nodes.NamesOther};
 ghost use Rattle.heap_store.specs.HeapState as H;
 ghost use Rattle.mem_store.specs.Indexed.{Becomes, BecomesCore, Says, held};

@@ -1,9 +1,10 @@
 -- A volume that a text describes is built at its `end`, or refused there.
 use Rattle.std.proofs.Common.{◌≡◌, inl, ℕ, ◌<◌, ◌≤◌, Bool, true, false, List, [], ◌∷◌, ◌++◌, None, Result, Ok, Err, refl, sym, ap, ◌∙◌, subst, append_assoc, arith, nat_le}
-use Rattle.std.proofs.{lemmas.Bool.Decides.nat_tests}
-use Rattle.volume_text.specs.{declared.fault.Cause.Cause, declared.fault.Cause.TheVariants.NoRoom, declared.fault.Fault.Fault, declared.fault.TextFault.TheVariants.Bad}
+use Rattle.std.proofs.lemmas.Bool.Decides.{nat_tests}
+use Rattle.volume_text.specs.{declared.fault.Cause.Cause, declared.fault.Cause.TheVariants.NoRoom, declared.fault.Fault.Fault}
+use Rattle.volume_text.specs.{declared.fault.TextFault.TheVariants.Bad, declared.step.State.State, declared.volume.OpenVolume.OpenVolume}
 use Rattle.volume_text.specs.declared.statement.Statement.TheVariants as said
-use Rattle.volume_text.specs.{declared.step.State.State, declared.volume.OpenVolume.OpenVolume, Reading.◌>>=◌, Reading.at, Open.bytes_held, Open.built_of}
+use Rattle.volume_text.specs.{Reading.◌>>=◌, Reading.at, Open.bytes_held, Open.built_of}
 use Rattle.volume_text.specs.declared.step.State.TheVariants.{Begin, Filling, Done}
 use Rattle.volume_text.specs.Step.{Steps, closed, closed_in, last_volume}
 use Rattle.volume_text.specs.Text.{numbered, Goes, Describes, Leads, IsRefused}

@@ -4,10 +4,10 @@ use Rattle.std.proofs.{lemmas.Bool.Decides.nat_tests, lemmas.List.length-replica
 use Rattle.fv_volume.specs.{declared.build.new_file.NewFile.NewFile, declared.build.new_file.NewSection.NewSection}
 use Rattle.fv_volume.specs.declared.build.new_file.Body.{Body}
 use Rattle.fv_volume.specs.declared.build.new_file.Body.TheVariants.{Sections, Bytes}
-use Rattle.volume_text.specs.{declared.fault.Cause.Cause, declared.fault.Stop.Stop}
+use Rattle.volume_text.specs.{declared.fault.Cause.Cause, declared.fault.Stop.Stop, declared.volume.OpenVolume.OpenVolume}
 use Rattle.volume_text.specs.declared.fault.Cause.TheVariants as cause
 use Rattle.volume_text.specs.declared.fault.Stop.TheVariants as stop
-use Rattle.volume_text.specs.{declared.volume.OpenVolume.OpenVolume, Reading.◌>>=◌, Reading.only_if, Reading.Stops, Reading.Gives}
+use Rattle.volume_text.specs.Reading.{◌>>=◌, only_if, Stops, Gives}
 use Rattle.volume_text.specs.Open.{last_of, held_in, holding, is_empty, with_body, with_bytes, with_files, with_last, bytes_held_in, bytes_held, room_for, fitting, pad_file, section_added, last_body_set, with_new_file}
 use Rattle.volume_text.proofs.Lasts.{last_is}
 

@@ -1,18 +1,18 @@
 -- A volume whose files hold more bytes than it has is refused at the line with which they do.
 use Rattle.std.proofs.Common.{◌≡◌, ℕ, ◌-◌, ◌^◌, ◌<◌, ◌≤◌, Bool, true, false, List, [], ◌∷◌, ◌++◌, min, nat_le, Option, None, Ok, Err, refl, sym, ap, ◌∙◌, append_assoc, arith}
-use Rattle.std.proofs.{lemmas.Bool.Decides.nat_tests}
+use Rattle.std.proofs.lemmas.Bool.Decides.{nat_tests}
 use Rattle.fv_volume.specs.{declared.build.volume_name.VolumeName.VolumeName, declared.build.volume_header.VolumeForm.VolumeForm}
 use Rattle.fv_volume.specs.declared.sections.section_type.TheConstants.{RAW, VOLUME_IMAGE}
 use Rattle.fv_volume.specs.{declared.build.new_file.NewFile.NewFile, declared.build.new_file.NewSection.NewSection}
 use Rattle.volume_text.specs.{declared.fault.Fault.Fault, declared.volume.OpenVolume.OpenVolume, declared.step.State.State}
 use Rattle.volume_text.specs.declared.fault.Cause.TheVariants as cause
 use Rattle.volume_text.specs.declared.statement.Statement.TheVariants as said
-use Rattle.volume_text.specs.declared.step.State.TheVariants.{Filling, Writing}
-use Rattle.volume_text.specs.{Reading.at, Open.holding, Open.new_file, Open.pad_file, Open.bytes_held}
-use Rattle.volume_text.specs.{Script.script_of, Step.Steps, Step.section_of, Step.filling, Text.Goes}
+use Rattle.volume_text.specs.{declared.step.State.TheVariants.Filling, declared.step.State.TheVariants.Writing, Reading.at}
+use Rattle.volume_text.specs.Open.{holding, new_file, pad_file, bytes_held}
+use Rattle.volume_text.specs.{Script.script_of, Text.Goes}
+use Rattle.volume_text.specs.Step.{Steps, section_of, filling}
 use Rattle.volume_text.specs.Volume.{SayFiles, no_file, named, padded, file, bodied, section, depex, script, volume}
-use Rattle.volume_text.proofs.{Lasts.last_push, Wholeness.none_wrong, Fitting.built_fits}
-use Rattle.volume_text.proofs.Counting.{has_none, held_push}
+use Rattle.volume_text.proofs.{Lasts.last_push, Wholeness.none_wrong, Fitting.built_fits, Counting.has_none, Counting.held_push}
 use Rattle.volume_text.proofs.Completing.{Lines, bare, parts, one, first, both, blocks_go, opened_with, some_file, files_go}
 
 abbrev pub no_room : ℕ → ℕ → Fault

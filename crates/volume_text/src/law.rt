@@ -1,9 +1,9 @@
 // The laws of texts.
 ghost use Rattle.std.specs.Prelude.{◌≡◌, ℕ, ◌<◌, ◌≤◌, List, None, Ok, Err, All};
 ghost use Rattle.fv_volume.specs.{Files.HasWholeName, Reading.IsReadBack};
-ghost use Rattle.volume_text.specs.{declared.fault.Cause.Cause, declared.fault.Cause.TheVariants.NoRoom};
-ghost use Rattle.volume_text.specs.{declared.fault.Fault.Fault, declared.fault.TextFault.TheVariants.Bad};
-ghost use Rattle.volume_text.specs.{declared.volume.OpenVolume.OpenVolume, Open.bytes_held, Open.built_of};
+ghost use Rattle.volume_text.specs.{declared.fault.Cause.Cause, declared.fault.Cause.TheVariants.NoRoom, declared.fault.Fault.Fault};
+ghost use Rattle.volume_text.specs.{declared.fault.TextFault.TheVariants.Bad, declared.volume.OpenVolume.OpenVolume};
+ghost use Rattle.volume_text.specs.Open.{bytes_held, built_of};
 ghost use Rattle.volume_text.specs.Text.{Describes, Says, Leads, IsRefused};
 
 /// A text describes one volume, or has one first line at fault with one cause, and never both.

@@ -1,7 +1,7 @@
 // The ways that change the fewest GUIDs.
 ghost use Rattle.std.specs.Prelude.{◌≡◌, ◌≤◌, [], ◌∷◌, ◌++◌, length, take, IfOk, OnOk};
-ghost use Rattle.explain_text.specs.{KeptWays.kept, KeptWays.place_of, Ways.cost, Ways.crossed, Ways.fewest, Ways.joined_with, Ways.placed};
-ghost use Rattle.explain_text.specs.declared.ways.cheapest.TheConstants.{MOST_WAYS as SIXTEEN};
+ghost use Rattle.explain_text.specs.{KeptWays.kept, KeptWays.place_of, declared.ways.cheapest.TheConstants.MOST_WAYS as SIXTEEN};
+ghost use Rattle.explain_text.specs.Ways.{cost, crossed, fewest, joined_with, placed};
 
 use crate::ways::literal::Literal;
 use crate::ways::way::{Way, joined};

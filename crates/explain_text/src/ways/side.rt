@@ -1,6 +1,7 @@
 // The ways in which a part of a tree holds, and those in which it does not, whatever its own parts were.
 ghost use Rattle.std.specs.Prelude.{◌≡◌, IfOk};
-ghost use Rattle.explain_text.specs.{Sides.and_side, Sides.fixed_side, Sides.guid_side, Sides.not_side, Sides.or_side, Ways.says};
+ghost use Rattle.explain_text.specs.Sides.{and_side, fixed_side, guid_side, not_side, or_side};
+ghost use Rattle.explain_text.specs.Ways.{says};
 
 use crate::ways::cheapest::Ways;
 use crate::ways::literal::Literal;

@@ -1,6 +1,7 @@
 use Rattle.std.proofs.Common.{ℕ, List, Result, sym, ap, ◌∙◌, subst}
 use Rattle.volume_text.specs.{declared.step.State.State, declared.fault.Cause.Cause, declared.volume.OpenVolume.OpenVolume}
-use Rattle.volume_text.specs.{Reading.◌>>=◌, Reading.Gives, Step.last_volume, Step.closed_in, Step.closed}
+use Rattle.volume_text.specs.Reading.{◌>>=◌, Gives}
+use Rattle.volume_text.specs.Step.{last_volume, closed_in, closed}
 use Rattle.volume_text.proofs.Lasts.{last_push}
 use Rattle.volume_text.proofs.step.closed.Goals as goal
 
