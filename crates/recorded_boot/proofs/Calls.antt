@@ -64,7 +64,7 @@ ends_in_pei b earlier m how so end lines handles starts t followed run ended is 
 
 -- a boot that has come to its end
 ends_by : (b : OrderBoot) (Peims : PeiMachine → Option ℕ → Type 0) (Drivers : PeiMachine → DxeMachine → Option ℕ → Type 0) (earlier : List PeiMachine) (m : PeiMachine) (how : PeiEnd) (lines : List Line) (handles : HandleState) (end : RunEnd) (starts : ℕ) (t : Texts) (followed : Followed)
-    → NamesAlike b Peims Drivers → IsRun b earlier m → m.ended ≡ Some how → (ends : EndsAfter (by_order b Peims Drivers) b.catalog b.fuel m how lines handles end) 
+    → NamesAlike b Peims Drivers → IsRun b earlier m → m.ended ≡ Some how → (ends : EndsAfter (by_order b Peims Drivers) b.catalog b.fuel m how lines handles end)
     → starts ≡ starts_by (record { by = by_order b Peims Drivers; catalog = b.catalog; fuel = b.fuel; pei = m; lines = lines; handles = handles; result = end }) how ends
     → Appends t.old t.new (text_of (lines ++ closing m.store handles end)) → ComesTo b.catalog b.order starts m.store handles (Some end) followed → FollowsTo b.board b.catalog b.fuel b.order t (Ok followed)
 ends_by b Peims Drivers earlier m Handoff lines handles end starts t followed names run ended ends counted text leaves =
