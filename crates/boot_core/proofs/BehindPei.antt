@@ -4,19 +4,20 @@ use Rattle.std.specs.Io.KnownBytes.{Appends}
 use Rattle.boot_io.proofs.PutsLaws.{appends_then}
 use Rattle.boot_io.specs.{declared.halt.Halt.Halt, Sink.AppendsPart}
 use Rattle.mod_catalog.specs.declared.catalogue.Catalog.{Catalog}
-use Rattle.store_model.specs.HandleState.{HandleState}
 use Rattle.boot_model.specs.{declared.line.Line.Line, declared.line.RunEnd.RunEnd, declared.phase_end.PeiEnd.PeiEnd}
 use Rattle.boot_model.specs.{declared.phase_end.PeiEnd.TheVariants.Handoff, BootRun.dxe_result, DxeMachine.DxeMachine, DxeRun.dxe_opening}
 use Rattle.boot_model.specs.{PeiMachine.PeiMachine, Text.text_of}
 use Rattle.boot_model.proofs.Texts.{text_of-append}
 use Rattle.boot_laws.specs.Naming.{HasPut}
+use Rattle.boot_laws.specs.declared.choice.Reached.TheVariants as R
 use Rattle.dxe_dispatch.specs.Choices as D
 use Rattle.pei_dispatch.specs.Ends.{pei_starts}
 use Rattle.dxe_dispatch.specs.{declared.boot.Barred.Barred, declared.boot.Ended.Ended}
-use Rattle.boot_core.specs.{declared.whole.behind.Behind.Behind, declared.whole.behind.Behind.TheVariants.Closed}
-use Rattle.boot_core.specs.Behind.{ComesBehind, HasClosed, HasComeBehind}
-use Rattle.boot_core.specs.ByChoice.{BarsInDxe, ComesInDxe, EndsAfter, StopsBehind, stops_at_last, stops_in_dxe}
-use Rattle.boot_core.specs.{Choices.Choices, Choices.NamesBehind, Closing.closing, Closing.closing_text, FirstBoot.Tells}
+use Rattle.boot_core.specs.{declared.whole.behind.Behind.Behind, declared.whole.behind.Behind.TheVariants.Closed, declared.whole.behind.Last.Last}
+use Rattle.boot_core.specs.declared.whole.behind.Behind.TheVariants as V
+use Rattle.boot_core.specs.{Behind.HasClosed, Behind.ending_at, ByChoice.ComesInDxe, ByChoice.EndsAfter, ByChoice.starts_by, ByChoice.stops_at_last, ByChoice.stops_in_dxe}
+use Rattle.boot_core.specs.{Choices.Choices, Choices.NamesBehind, Choices.Rules, Choices.choices_of, Closing.closing, Closing.closing_text, FirstBoot.Tells}
+use Rattle.boot_core.specs.Watched.{BootCall, ComesKnown, KnowsAfter, OfDxe, knows_dxe}
 use Rattle.boot_core.proofs.ClosingTexts.{closing_is}
 
 -- lines that were put without a failure, and then others
@@ -29,16 +30,16 @@ has_then text faults first mid shown a b f g =
 abbrev pub MayNameMore : (DxeMachine → Option ℕ → Type 0) → (DxeMachine → Option ℕ → Type 0) → Type 0
 MayNameMore Names Others = (m : DxeMachine) (named : Option ℕ) → Names m named → Others m named
 
-renamed_aim : (Names Others : DxeMachine → Option ℕ → Type 0) (catalog : Catalog) (m target : DxeMachine) → MayNameMore Names Others → D.IsAimedBy Names catalog m target → D.IsAimedBy Others catalog m target
+pub renamed_aim : (Names Others : DxeMachine → Option ℕ → Type 0) (catalog : Catalog) (m target : DxeMachine) → MayNameMore Names Others → D.IsAimedBy Names catalog m target → D.IsAimedBy Others catalog m target
 renamed_aim Names Others catalog m target more by = record { named = by.named; allowed = λ choosing. more m by.named (by.allowed choosing); busy = by.busy; is = by.is }
 
-renamed : (Names Others : DxeMachine → Option ℕ → Type 0) (Lets : DxeMachine → ℕ → Bool) (catalog : Catalog) (fuel : ℕ) (opening : DxeMachine) (earlier : List DxeMachine) → MayNameMore Names Others
+pub renamed : (Names Others : DxeMachine → Option ℕ → Type 0) (Lets : DxeMachine → ℕ → Bool) (catalog : Catalog) (fuel : ℕ) (opening : DxeMachine) (earlier : List DxeMachine) → MayNameMore Names Others
     → D.IsRunBy Names Lets catalog fuel opening earlier → D.IsRunBy Others Lets catalog fuel opening earlier
 renamed Names Others Lets catalog fuel opening [] more run = tt
 renamed Names Others Lets catalog fuel opening (target ∷ earlier) more run =
     (renamed_aim Names Others catalog (D.came catalog fuel opening earlier) target more run.0, run.1, run.2, renamed Names Others Lets catalog fuel opening earlier more run.3)
 
-comes_in_dxe : (choices : Choices) (Names : DxeMachine → Option ℕ → Type 0) (catalog : Catalog) (fuel : ℕ) (pei : PeiMachine) (earlier : List DxeMachine) → MayNameMore Names (choices.drivers pei)
+unfoldable pub comes_in_dxe : (choices : Choices) (Names : DxeMachine → Option ℕ → Type 0) (catalog : Catalog) (fuel : ℕ) (pei : PeiMachine) (earlier : List DxeMachine) → MayNameMore Names (choices.drivers pei)
     → D.IsRunBy Names (choices.lets_driver pei) catalog fuel (dxe_opening catalog pei.store pei.actions) earlier → ComesInDxe choices catalog fuel pei (D.came catalog fuel (dxe_opening catalog pei.store pei.actions) earlier)
 comes_in_dxe choices Names catalog fuel pei earlier more run =
     record { earlier = earlier; run = renamed Names (choices.drivers pei) (choices.lets_driver pei) catalog fuel (dxe_opening catalog pei.store pei.actions) earlier more run; is = refl }
@@ -54,61 +55,109 @@ names_behind drivers text faults pei first sink has m named may =
     record { sink = may.sink; has = has_then text faults first sink may.sink pei.lines m.lines has may.has; is = may.is }
 
 -- the last lines behind all others
-pub closes : {S : Type 0} (choices : Choices) (text : S → Option (List ℕ)) (faults : S → ℕ) (catalog : Catalog) (fuel : ℕ) (pei : PeiMachine) (how : PeiEnd) (first mid shown : S) (lines : List Line) (handles : HandleState) (so : RunEnd)
-    (result : Result Behind Halt) → EndsAfter choices catalog fuel pei how lines handles so → HasPut text faults first lines mid
-    → Tells (λ behind. behind ≡ Closed so) (closing_text pei.store handles so) (record { old = text mid; new = text shown }) result → ComesBehind choices text faults catalog fuel pei how first shown result
-closes choices text faults catalog fuel pei how first mid shown lines handles so (Ok answer) ends has told =
-    let last = closing pei.store handles so in
-    let P : List ℕ → Type 0 = λ t. Appends (text mid) (text shown) t in
-    let Q : List ℕ → Type 0 = λ t. Appends (text first) (text shown) t in
-    let put : P (text_of last) = subst P (sym (closing_is pei.store handles so)) told.1 in
-    let all : HasClosed choices catalog fuel pei how so (text first) (text shown) = record {
+pub closes : {M S : Type 0} (Knows : OfDxe) (call : BootCall M S) (pei : PeiMachine) (how : PeiEnd) (first mid : S) (lines : List Line) (last : Last) (result : Result Behind Halt)
+    → (ends : EndsAfter (choices_of call.rules first) call.catalog call.fuel pei how lines last.handles last.«end») → last.starts ≡ starts_by (ending_at (choices_of call.rules first) call.catalog call.fuel pei lines last) how ends
+    → KnowsAfter Knows (ending_at (choices_of call.rules first) call.catalog call.fuel pei lines last) how ends
+    → HasPut call.rules.text call.rules.faults first lines mid
+    → Tells (λ behind. behind ≡ Closed last) (closing_text pei.store last.handles last.«end») (record { old = call.rules.text mid; new = call.rules.text call.shown }) result → ComesKnown Knows call pei how first result
+closes Knows call pei how first mid lines last (Ok answer) ends counted known has told =
+    let text = call.rules.text in
+    let printed = closing pei.store last.handles last.«end» in
+    let P : List ℕ → Type 0 = λ t. Appends (text mid) (text call.shown) t in
+    let Q : List ℕ → Type 0 = λ t. Appends (text first) (text call.shown) t in
+    let put : P (text_of printed) = subst P (sym (closing_is pei.store last.handles last.«end»)) told.1 in
+    let all : HasClosed (choices_of call.rules first) call.catalog call.fuel pei how last (text first) (text call.shown) = record {
       lines = lines;
-      handles = handles;
       ends = ends;
-      text = subst Q (sym (text_of-append lines last)) (appends_then (text first) (text mid) (text shown) (text_of lines) (text_of last) has.put put);
+      starts_are = counted;
+      text = subst Q (sym (text_of-append lines printed)) (appends_then (text first) (text mid) (text call.shown) (text_of lines) (text_of printed) has.put put);
     } in
-    let R : Behind → Type 0 = λ behind. HasComeBehind choices catalog fuel pei how (text first) (text shown) behind in
-    subst R (sym told.0) all
-closes choices text faults catalog fuel pei how first mid shown lines handles so (Err halt) ends has told =
-    let P : List ℕ → Type 0 = λ t. AppendsPart (text mid) (text shown) t in
-    stops_at_last lines handles so ends (record { sink = mid; has = has; part = subst P (sym (closing_is pei.store handles so)) told })
+    let R : Behind → Type 0 = λ behind. ComesKnown Knows call pei how first (Ok behind) in
+    subst R (sym told.0) (record { by = all; known = known })
+closes Knows call pei how first mid lines last (Err halt) ends counted known has told =
+    let text = call.rules.text in
+    let P : List ℕ → Type 0 = λ t. AppendsPart (text mid) (text call.shown) t in
+    record { by = stops_at_last lines last.handles last.«end» ends (record { sink = mid; has = has; part = subst P (sym (closing_is pei.store last.handles last.«end»)) told }); known = tt }
+
+-- the drivers that a choice may name behind this machine of PEI, by what it finds in this sink
+abbrev pub NamesFrom : {S : Type 0} → Rules S → PeiMachine → S → DxeMachine → Option ℕ → Type 0
+NamesFrom rules pei sink = D.NamesDrivers rules.drivers rules.text rules.faults (pei_starts pei) sink
+
+-- its DXE, up to this sink
+abbrev pub dxe_boot : {M S : Type 0} → BootCall M S → PeiMachine → S → D.DxeBoot
+dxe_boot call pei mid = record {
+  names = NamesFrom call.rules pei call.sink;
+  lets = D.LetsDrivers call.rules.lets_in_dxe (pei_starts pei);
+  catalog = call.catalog;
+  fuel = call.fuel;
+  opening = dxe_opening call.catalog pei.store pei.actions;
+  in_pei = pei_starts pei;
+  old = call.rules.text call.sink;
+  new = call.rules.text mid;
+}
 
 -- behind a DXE that has come to its end
-pub drivers_close : {S : Type 0} (choices : Choices) (Names : DxeMachine → Option ℕ → Type 0) (text : S → Option (List ℕ)) (faults : S → ℕ) (catalog : Catalog) (fuel : ℕ) (pei : PeiMachine) (first sink mid shown : S)
-    (left : Ended) (so : RunEnd) (result : Result Behind Halt) → MayNameMore Names (choices.drivers pei) → HasPut text faults first pei.lines sink
-    → D.HasBooted Names (choices.lets_driver pei) catalog fuel (dxe_opening catalog pei.store pei.actions) left (text sink) (text mid) → faults mid ≡ faults sink → so ≡ dxe_result left.«end»
-    → Tells (λ behind. behind ≡ Closed so) (closing_text pei.store left.handles so) (record { old = text mid; new = text shown }) result → ComesBehind choices text faults catalog fuel pei Handoff first shown result
-drivers_close choices Names text faults catalog fuel pei first sink mid shown left so result more has by same is told =
-    let dxe = D.came catalog fuel (dxe_opening catalog pei.store pei.actions) by.earlier in
-    closes choices text faults catalog fuel pei Handoff first mid shown (pei.lines ++ dxe.lines) left.handles so result
-    (record { dxe = dxe; comes = comes_in_dxe choices Names catalog fuel pei by.earlier more by.run; how = left.«end»; ended = by.ended.ended; lines_are = refl; handles_are = sym by.has; end_is = is })
-    (has_then text faults first sink mid pei.lines dxe.lines has (record { put = by.ended.text; right = same })) told
+pub drivers_close : {M S : Type 0} (Knows : OfDxe) (call : BootCall M S) (pei : PeiMachine) (first mid : S) (left : Ended) (so : RunEnd) (result : Result Behind Halt)
+    → HasPut call.rules.text call.rules.faults first pei.lines call.sink
+    → (by : D.HasBooted (dxe_boot call pei mid) left)
+    → knows_dxe Knows call.catalog call.fuel pei by.earlier (R.End left.«end») → call.rules.faults mid ≡ call.rules.faults call.sink → so ≡ dxe_result left.«end»
+    → Tells (λ behind. behind ≡ Closed (record { «end» = so; handles = left.handles; starts = left.starts })) (closing_text pei.store left.handles so) (record { old = call.rules.text mid; new = call.rules.text call.shown }) result
+    → ComesKnown Knows call pei Handoff first result
+unfolding comes_in_dxe
+drivers_close Knows call pei first mid left so result has by known same is told =
+    let rules = call.rules in
+    let choices = choices_of rules first in
+    let dxe = D.came call.catalog call.fuel (dxe_opening call.catalog pei.store pei.actions) by.earlier in
+    let more = names_behind rules.drivers rules.text rules.faults pei first call.sink has in
+    closes Knows call pei Handoff first mid (pei.lines ++ dxe.lines) (record { «end» = so; handles = left.handles; starts = left.starts }) result (record {
+      dxe = dxe;
+      comes = comes_in_dxe choices (NamesFrom rules pei call.sink) call.catalog call.fuel pei by.earlier more by.run;
+      how = left.«end»;
+      ended = by.ended.ended;
+      lines_are = refl;
+      handles_are = sym by.has;
+      end_is = is;
+    }) by.starts_are known (has_then rules.text rules.faults first call.sink mid pei.lines dxe.lines has (record { put = by.ended.text; right = same })) told
 
 -- a DXE that was left before the start of a driver
-pub drivers_bar : {S : Type 0} (choices : Choices) (Names : DxeMachine → Option ℕ → Type 0) (text : S → Option (List ℕ)) (faults : S → ℕ) (catalog : Catalog) (fuel : ℕ) (pei : PeiMachine) (first sink shown : S)
-    (barred : Barred) → MayNameMore Names (choices.drivers pei) → HasPut text faults first pei.lines sink
-    → D.HasStayed Names (choices.lets_driver pei) catalog fuel (dxe_opening catalog pei.store pei.actions) (pei_starts pei) barred (text sink) (text shown)
-    → BarsInDxe choices catalog fuel pei barred (text first) (text shown)
-drivers_bar choices Names text faults catalog fuel pei first sink shown barred more has by =
-    let dxe = D.came catalog fuel (dxe_opening catalog pei.store pei.actions) by.earlier in
+pub drivers_bar : {M S : Type 0} (Knows : OfDxe) (call : BootCall M S) (pei : PeiMachine) (first : S) (barred : Barred) → HasPut call.rules.text call.rules.faults first pei.lines call.sink
+    → (by : D.HasStayed (dxe_boot call pei call.shown) barred)
+    → knows_dxe Knows call.catalog call.fuel pei by.earlier (R.Barred barred.number) → ComesKnown Knows call pei Handoff first (Ok (V.Barred barred))
+unfolding comes_in_dxe
+drivers_bar Knows call pei first barred has by known =
+    let rules = call.rules in
+    let text = rules.text in
+    let choices = choices_of rules first in
+    let Names = NamesFrom rules pei call.sink in
+    let dxe = D.came call.catalog call.fuel (dxe_opening call.catalog pei.store pei.actions) by.earlier in
     let due = by.bars.due in
-    let P : List ℕ → Type 0 = λ t. Appends (text first) (text shown) t in
+    let more = names_behind rules.drivers text rules.faults pei first call.sink has in
+    let P : List ℕ → Type 0 = λ t. Appends (text first) (text call.shown) t in
     record {
-      dxe = dxe;
-      comes = comes_in_dxe choices Names catalog fuel pei by.earlier more by.run;
-      running = by.bars.running;
-      due = record { target = due.target; aimed = renamed_aim Names (choices.drivers pei) catalog dxe due.target more due.aimed; starting = due.starting };
-      bars = by.bars.barred;
-      text = subst P (sym (text_of-append pei.lines dxe.lines)) (appends_then (text first) (text sink) (text shown) (text_of pei.lines) (text_of dxe.lines) has.put by.bars.text);
-      handles_are = sym by.has;
-      starts_are = by.starts_are;
+      by = (
+        refl,
+        record {
+          dxe = dxe;
+          comes = comes_in_dxe choices Names call.catalog call.fuel pei by.earlier more by.run;
+          running = by.bars.running;
+          due = record { target = due.target; aimed = renamed_aim Names (choices.drivers pei) call.catalog dxe due.target more due.aimed; starting = due.starting };
+          bars = by.bars.barred;
+          text = subst P (sym (text_of-append pei.lines dxe.lines)) (appends_then (text first) (text call.sink) (text call.shown) (text_of pei.lines) (text_of dxe.lines) has.put by.bars.text);
+          handles_are = sym by.has;
+          starts_are = by.starts_are;
+        },
+      );
+      known = known;
     }
 
 -- a DXE that was given up
-pub drivers_stop : {S : Type 0} (choices : Choices) (Names : DxeMachine → Option ℕ → Type 0) (text : S → Option (List ℕ)) (faults : S → ℕ) (catalog : Catalog) (fuel : ℕ) (pei : PeiMachine) (first sink shown : S)
-    → MayNameMore Names (choices.drivers pei) → HasPut text faults first pei.lines sink
-    → D.StopsShort Names (choices.lets_driver pei) catalog fuel (dxe_opening catalog pei.store pei.actions) (text sink) (text shown)
-    → StopsBehind choices text faults catalog fuel pei Handoff first shown
-drivers_stop choices Names text faults catalog fuel pei first sink shown more has by =
-    stops_in_dxe (D.came catalog fuel (dxe_opening catalog pei.store pei.actions) by.earlier) refl (comes_in_dxe choices Names catalog fuel pei by.earlier more by.run) (record { sink = sink; has = has; part = by.part })
+pub drivers_stop : {M S : Type 0} (Knows : OfDxe) (call : BootCall M S) (pei : PeiMachine) (first : S) (halt : Halt) → HasPut call.rules.text call.rules.faults first pei.lines call.sink
+    → D.StopsShort (NamesFrom call.rules pei call.sink) ((choices_of call.rules first).lets_driver pei) call.catalog call.fuel (dxe_opening call.catalog pei.store pei.actions) (call.rules.text call.sink) (call.rules.text call.shown)
+    → ComesKnown Knows call pei Handoff first (Err halt)
+drivers_stop Knows call pei first halt has by =
+    let rules = call.rules in
+    let more = names_behind rules.drivers rules.text rules.faults pei first call.sink has in
+    record {
+      by = stops_in_dxe (D.came call.catalog call.fuel (dxe_opening call.catalog pei.store pei.actions) by.earlier) refl (comes_in_dxe (choices_of rules first) (NamesFrom rules pei call.sink) call.catalog call.fuel pei by.earlier more by.run) (record { sink = call.sink; has = has; part = by.part });
+      known = tt;
+    }

@@ -1,5 +1,5 @@
 -- A boot by choices that name no module is the boot of the machine.
-use Rattle.std.proofs.Common.{◌≡◌, ℕ, Bool, true, List, ◌++◌, Option, Some, None, Ok, Err, option_map, sym, ap, ◌∙◌, append_assoc, subst, inl, inr}
+use Rattle.std.proofs.Common.{◌≡◌, ℕ, Bool, true, List, ◌++◌, Option, Some, None, Ok, Err, option_map, refl, sym, ap, ◌∙◌, append_assoc, subst, inl, inr}
 use Rattle.std.specs.Io.KnownBytes.{Appends}
 use Rattle.boot_io.proofs.PutsLaws.{appends_then, part_then}
 use Rattle.boot_io.specs.{declared.halt.Halt.Halt, Sink.AppendsPart}
@@ -19,15 +19,25 @@ use Rattle.pei_dispatch.specs.Ends.{IsLeft}
 use Rattle.pei_dispatch.proofs.FirstRuns as P
 use Rattle.dxe_dispatch.proofs.FirstRuns as D
 use Rattle.boot_core.specs.{declared.whole.boot.Ran.Ran, Choices.Choices, Choices.choices_of, Closing.closing}
-use Rattle.boot_core.specs.WholeEnd.{boot_text, end_after, end_of}
-use Rattle.boot_core.specs.ByChoice.{BootBy, BootsTo, ComesInDxe, EndsAfter, HasRun, PutsPartBehind, StopsBehind, StopsBehindPei, all_lines, stops_at_last, stops_in_dxe}
+use Rattle.boot_core.specs.WholeEnd.{IsLeftBehind, boot_text, end_after, end_of}
+use Rattle.boot_core.specs.Choices.{starts_of}
+use Rattle.dxe_dispatch.specs.Choices.{IsRunBy, came}
+use Rattle.boot_model.specs.declared.phase_end.DxeEnd.{DxeEnd}
+use Rattle.boot_core.specs.ByChoice.{BootBy, BootsTo, ComesInDxe, EndsAfter, HasRun, PutsPartBehind, StopsBehind, StopsBehindPei, all_lines, ending_of, starts_by, stops_at_last, stops_in_dxe}
 use Rattle.boot_core.specs.FirstBoot.{RunsTo, WantsOutsidePei}
 use Rattle.boot_core.proofs.BootLines.{begins_with_pei, both_first, pei_first, same_whole, whole_of_pei}
 
 -- the choices of the machine itself
 abbrev pub first_choices : {S : Type 0} → (S → Option (List ℕ)) → (S → ℕ) → S → Choices
 first_choices text faults first =
-    choices_of (λ sink starts named. named ≡ None) (λ starts number. true) (λ sink starts named. named ≡ None) (λ starts number. true) text faults first
+    choices_of (record {
+      peims = λ sink starts named. named ≡ None;
+      lets_in_pei = λ starts number. true;
+      drivers = λ sink starts named. named ≡ None;
+      lets_in_dxe = λ starts number. true;
+      text = text;
+      faults = faults;
+    }) first
 
 -- what is known of such a boot
 pub record NamesNone (choices : Choices) (catalog : Catalog) : Type 0 where
@@ -40,10 +50,29 @@ pub record NamesNone (choices : Choices) (catalog : Catalog) : Type 0 where
 pei_is : (choices : Choices) (board : Board) (catalog : Catalog) (fuel : ℕ) → NamesNone choices catalog → (boot : BootBy choices board catalog fuel) → boot.pei ≡ pei_end board catalog fuel
 pei_is choices board catalog fuel own boot = P.first_end own.pei_ends choices.peims choices.lets_peim board catalog fuel boot.pei boot.how own.peims boot.comes boot.ended
 
+dxe_is : (choices : Choices) (catalog : Catalog) (fuel : ℕ) (pei : PeiMachine) (earlier : List DxeMachine) (how : DxeEnd) → NamesNone choices catalog
+    → IsRunBy (choices.drivers pei) (choices.lets_driver pei) catalog fuel (dxe_opening catalog pei.store pei.actions) earlier → (came catalog fuel (dxe_opening catalog pei.store pei.actions) earlier).ended ≡ Some how
+    → came catalog fuel (dxe_opening catalog pei.store pei.actions) earlier ≡ dxe_end catalog fuel pei.store pei.actions
+dxe_is choices catalog fuel pei earlier how own run ended =
+    D.first_end (choices.drivers pei) (choices.lets_driver pei) catalog fuel (dxe_bound catalog fuel) (dxe_opening catalog pei.store pei.actions) earlier how (own.drivers pei) (own.dxe_ends catalog own.numbered fuel pei.store pei.actions) run ended
+
 -- all lines of a boot, and its result
 record IsWhole (catalog : Catalog) (fuel : ℕ) (all : List Line) (end : RunEnd) (pei : PeiMachine) : Type 0 where
   pub lines : all ≡ lines_after catalog fuel pei pei.ended
   pub end_is : end_after catalog fuel pei pei.ended ≡ Some end
+
+-- its handles, and how many starts there were
+left_by : (choices : Choices) (catalog : Catalog) (fuel : ℕ) (pei : PeiMachine) (how : PeiEnd) (lines : List Line) (handles : HandleState) (end : RunEnd) → NamesNone choices catalog
+    → (ends : EndsAfter choices catalog fuel pei how lines handles end)
+    → IsLeftBehind catalog fuel pei (Some how) handles (starts_by (record { by = choices; catalog = catalog; fuel = fuel; pei = pei; lines = lines; handles = handles; result = end }) how ends)
+left_by choices catalog fuel pei Handoff lines handles end own ends =
+    let here = ap (λ (x : DxeMachine). x.ended) (sym ends.comes.is) ∙ ends.ended in
+    let is = dxe_is choices catalog fuel pei ends.comes.earlier ends.how own ends.comes.run here in
+    (ends.handles_are ∙ ap (λ (x : DxeMachine). x.handles) (ends.comes.is ∙ is), ap (starts_of pei) (ends.comes.is ∙ is))
+left_by choices catalog fuel pei NoMemory lines handles end own ends = (ends.handles_are, refl)
+left_by choices catalog fuel pei NoIpl lines handles end own ends = (ends.handles_are, refl)
+left_by choices catalog fuel pei Spent lines handles end own ends = (ends.handles_are, refl)
+left_by choices catalog fuel pei Deep lines handles end own ends = (ends.handles_are, refl)
 
 whole_by : (choices : Choices) (catalog : Catalog) (fuel : ℕ) (pei : PeiMachine) (how : PeiEnd) (lines : List Line) (handles : HandleState) (end : RunEnd) → NamesNone choices catalog → pei.ended ≡ Some how
     → EndsAfter choices catalog fuel pei how lines handles end → IsWhole catalog fuel (lines ++ closing pei.store handles end) end pei
@@ -51,7 +80,7 @@ whole_by choices catalog fuel pei Handoff lines handles end own e ends =
     let opening = dxe_opening catalog pei.store pei.actions in
     let last = dxe_end catalog fuel pei.store pei.actions in
     let here = ap (λ (x : DxeMachine). x.ended) (sym ends.comes.is) ∙ ends.ended in
-    let is : ends.dxe ≡ last = ends.comes.is ∙ D.first_end (choices.drivers pei) (choices.lets_driver pei) catalog fuel (dxe_bound catalog fuel) opening ends.comes.earlier ends.how (own.drivers pei) (own.dxe_ends catalog own.numbered fuel pei.store pei.actions) ends.comes.run here in
+    let is : ends.dxe ≡ last = ends.comes.is ∙ dxe_is choices catalog fuel pei ends.comes.earlier ends.how own ends.comes.run here in
     let over : last.ended ≡ Some ends.how = ap (λ (x : DxeMachine). x.ended) (sym is) ∙ ends.ended in
     record {
       lines = same_whole pei.store lines (pei.lines ++ last.lines) handles last.handles end (dxe_result ends.how) (ends.lines_are ∙ ap (λ (x : DxeMachine). pei.lines ++ x.lines) is) (ends.handles_are ∙ ap (λ (x : DxeMachine). x.handles) is) ends.end_is
@@ -127,6 +156,17 @@ behind_part {S = S} choices text faults board catalog fuel first shown own by = 
         let P : List ℕ → Type 0 = λ t. AppendsPart (text first) (text shown) t in
         subst P (text_is board catalog fuel (lines ++ last) all.lines) (puts_part text faults first shown lines last put)
 
+-- its handles and its starts behind the last machine of its PEI
+behind_by : {M : Type 0} (choices : Choices) (stands : M → StoreState → Type 0) (board : Board) (catalog : Catalog) (fuel : ℕ) (old new : Option (List ℕ)) (ran : Ran M) → NamesNone choices catalog
+    → (by : HasRun choices stands board catalog fuel ran old new) → IsLeftBehind catalog fuel by.boot.pei by.boot.pei.ended ran.handles ran.starts
+behind_by choices stands board catalog fuel old new ran own by =
+    let boot = by.boot in
+    let pei = boot.pei in
+    let So : HandleState → ℕ → Type 0 = λ handles starts. IsLeftBehind catalog fuel pei (Some boot.how) handles starts in
+    let left : So boot.handles (starts_by (ending_of boot) boot.how boot.ends) = left_by choices catalog fuel pei boot.how boot.lines boot.handles boot.result own boot.ends in
+    let same : So ran.handles ran.starts = subst (λ n. So ran.handles n) (sym by.starts_are) (subst (λ h. So h (starts_by (ending_of boot) boot.how boot.ends)) (sym by.handles_are) left) in
+    subst (λ o. IsLeftBehind catalog fuel pei o ran.handles ran.starts) (sym boot.ended) same
+
 -- what it leaves at its end
 pub first_ran : {M : Type 0} (choices : Choices) (stands : M → StoreState → Type 0) (board : Board) (catalog : Catalog) (fuel : ℕ) (old new : Option (List ℕ)) (ran : Ran M) → NamesNone choices catalog
     → HasRun choices stands board catalog fuel ran old new → RunsTo stands board catalog fuel (record { old = old; new = new }) (Ok ran)
@@ -137,7 +177,8 @@ first_ran choices stands board catalog fuel old new ran own by =
     let all = subst (IsWhole catalog fuel (all_lines boot) boot.result) is whole in
     let P : List ℕ → Type 0 = λ t. Appends old new t in
     let Left : PeiMachine → Type 0 = λ pei. IsLeft stands catalog pei ran.pei in
-    (record { end_is = end_is_of board catalog fuel boot.result all.end_is ∙ ap Some (sym by.end_is); left = subst Left is by.left }, subst P (text_is board catalog fuel (all_lines boot) all.lines) by.text)
+    let Behind : PeiMachine → Type 0 = λ pei. IsLeftBehind catalog fuel pei pei.ended ran.handles ran.starts in
+    (record { end_is = end_is_of board catalog fuel boot.result all.end_is ∙ ap Some (sym by.end_is); left = subst Left is by.left; behind = subst Behind is (behind_by choices stands board catalog fuel old new ran own by) }, subst P (text_is board catalog fuel (all_lines boot) all.lines) by.text)
 
 -- or puts, where it is given up
 pub first_halts : {M S : Type 0} (choices : Choices) (text : S → Option (List ℕ)) (faults : S → ℕ) (stands : M → StoreState → Type 0) (takes : Bool) (board : Board) (catalog : Catalog) (fuel : ℕ) (sink shown : S) (halt : Halt) → NamesNone choices catalog

@@ -1,35 +1,38 @@
 -- What follows PEI in a boot by choices, by its answer: it has come to the last line, to the start of a driver that is not let, or was given up.
 -- Own.
-use Rattle.std.specs.Prelude.{◌≡◌, ℕ, Bool, List, ◌++◌, Option, Result, Ok, Err}
+use Rattle.std.specs.Prelude.{◌≡◌, ℕ, List, ◌++◌, Option, Result, Ok, Err}
 use Rattle.std.specs.Io.KnownBytes.{Appends}
 use Rattle.boot_io.specs.declared.halt.Halt.{Halt}
 use Rattle.mod_catalog.specs.declared.catalogue.Catalog.{Catalog}
-use Rattle.store_model.specs.{HandleState.HandleState, StoreState.StoreState}
-use Rattle.boot_model.specs.{declared.line.Line.Line, declared.line.RunEnd.RunEnd, declared.phase_end.PeiEnd.PeiEnd}
+use Rattle.boot_model.specs.{declared.line.Line.Line, declared.phase_end.PeiEnd.PeiEnd}
 use Rattle.boot_model.specs.{declared.phase_end.PeiEnd.TheVariants.Handoff, PeiMachine.PeiMachine, Text.text_of}
-use Rattle.boot_laws.specs.Naming.{HasPut}
-use Rattle.pei_dispatch.specs.{declared.boot.Ended.Ended, Ends.IsLeft}
-use Rattle.boot_core.specs.declared.whole.behind.Behind.{Behind}
+use Rattle.pei_dispatch.specs.declared.boot.Ended.{Ended}
+use Rattle.boot_core.specs.{declared.whole.behind.Behind.Behind, declared.whole.behind.Last.Last}
 use Rattle.boot_core.specs.declared.whole.behind.Behind.TheVariants.{Closed, Barred}
-use Rattle.boot_core.specs.{declared.whole.boot.Booted.Booted, Choices.Choices, Choices.choices_of, Closing.closing}
+use Rattle.boot_core.specs.{declared.whole.boot.Booted.Booted, Choices.Choices, Closing.closing}
 use Rattle.boot_core.specs.declared.whole.boot.Booted.TheVariants as B
-use Rattle.boot_core.specs.ByChoice.{BarsInDxe, EndsAfter, StopsBehind}
+use Rattle.boot_core.specs.ByChoice.{BarsInDxe, Ending, EndsAfter, StopsBehind, starts_by}
 
 -- what the boot came to, by what came behind its PEI
 abbrev pub left_by : {M : Type 0} → Ended M → Behind → Booted M
-left_by pei (Closed result) = B.Ended (record { «end» = result; pei = pei })
+left_by pei (Closed last) = B.Ended (record { «end» = last.«end»; pei = pei; handles = last.handles; starts = last.starts })
 left_by pei (Barred barred) = B.BarredInDxe pei barred
 
+-- the end that a boot leaves so behind this machine of PEI
+abbrev pub ending_at : Choices → Catalog → ℕ → PeiMachine → List Line → Last → Ending
+ending_at by catalog fuel pei lines last =
+    record { by = by; catalog = catalog; fuel = fuel; pei = pei; lines = lines; handles = last.handles; result = last.«end» }
+
 -- it has come to its last line, and all lines of the boot were put
-pub record HasClosed (by : Choices) (catalog : Catalog) (fuel : ℕ) (pei : PeiMachine) (how : PeiEnd) (result : RunEnd) (old new : Option (List ℕ)) : Type 0 where
+pub record HasClosed (by : Choices) (catalog : Catalog) (fuel : ℕ) (pei : PeiMachine) (how : PeiEnd) (last : Last) (old new : Option (List ℕ)) : Type 0 where
   pub lines : List Line
-  pub handles : HandleState
-  pub ends : EndsAfter by catalog fuel pei how lines handles result
-  pub text : Appends old new (text_of (lines ++ closing pei.store handles result))
+  pub ends : EndsAfter by catalog fuel pei how lines last.handles last.«end»
+  pub starts_are : last.starts ≡ starts_by (ending_at by catalog fuel pei lines last) how ends
+  pub text : Appends old new (text_of (lines ++ closing pei.store last.handles last.«end»))
 
 -- what it came to
 abbrev pub HasComeBehind : Choices → Catalog → ℕ → PeiMachine → PeiEnd → Option (List ℕ) → Option (List ℕ) → Behind → Type 0
-HasComeBehind by catalog fuel pei how old new (Closed result) = HasClosed by catalog fuel pei how result old new
+HasComeBehind by catalog fuel pei how old new (Closed last) = HasClosed by catalog fuel pei how last old new
 HasComeBehind by catalog fuel pei how old new (Barred barred) = (how ≡ Handoff) × BarsInDxe by catalog fuel pei barred old new
 
 -- by its answer
@@ -37,10 +40,3 @@ abbrev pub ComesBehind : {S : Type 0} → Choices → (S → Option (List ℕ)) 
     → Catalog → ℕ → PeiMachine → PeiEnd → S → S → Result Behind Halt → Type 0
 ComesBehind by text faults catalog fuel pei how first shown (Ok behind) = HasComeBehind by catalog fuel pei how (text first) (text shown) behind
 ComesBehind by text faults catalog fuel pei how first shown (Err halt) = StopsBehind by text faults catalog fuel pei how first shown
-
--- behind each machine in which PEI may have ended so and left this, and whose lines were put
-abbrev pub BootsBehind : {M S : Type 0} → (S → ℕ → Option ℕ → Type 0) → (ℕ → ℕ → Bool) → (S → ℕ → Option ℕ → Type 0) → (ℕ → ℕ → Bool)
-    → (S → Option (List ℕ)) → (S → ℕ) → (M → StoreState → Type 0) → Ended M → PeiEnd → Catalog → ℕ → S → S → Result Behind Halt → Type 0
-BootsBehind {S = S} peims lets_in_pei drivers lets_in_dxe text faults stands left how catalog fuel sink shown result =
-    (pei : PeiMachine) (first : S) → IsLeft stands catalog pei left → HasPut text faults first pei.lines sink
-    → ComesBehind (choices_of peims lets_in_pei drivers lets_in_dxe text faults first) text faults catalog fuel pei how first shown result

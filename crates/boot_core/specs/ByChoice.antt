@@ -6,20 +6,20 @@ use Rattle.boot_io.specs.{declared.halt.Halt.Halt, Sink.AppendsPart}
 use Rattle.boot_io.specs.declared.halt.Halt.TheVariants as H
 use Rattle.mod_catalog.specs.declared.catalogue.Catalog.{Catalog}
 use Rattle.store_model.specs.HandleState.{HandleState, no_handles}
-use Rattle.store_model.specs.StoreState.{Board, StoreState, empty_store}
+use Rattle.store_model.specs.StoreState.{Board, StoreState}
 use Rattle.boot_model.specs.{declared.line.Line.Line, declared.line.RunEnd.RunEnd, declared.phase_end.DxeEnd.DxeEnd}
 use Rattle.boot_model.specs.declared.line.RunEnd.TheVariants as E
 use Rattle.boot_model.specs.{declared.phase_end.PeiEnd.PeiEnd, BootRun.dxe_result, DxeMachine.DxeMachine, DxeRun.dxe_opening}
 use Rattle.boot_model.specs.declared.phase_end.PeiEnd.TheVariants.{Handoff, NoMemory, NoIpl, Spent, Deep}
 use Rattle.boot_model.specs.{PeiMachine.PeiMachine, PeiRun.pei_opening, Text.text_of}
 use Rattle.boot_laws.specs.Naming.{HasPut}
-use Rattle.pei_dispatch.specs.{declared.boot.Ended.Ended, Ends.IsLeft}
-use Rattle.pei_dispatch.specs.Choices.{ComesTo, HasBooted, IsHeldBack, LetsPeims, NamesPeims, StopsForMemory, StopsShort}
+use Rattle.pei_dispatch.specs.{declared.boot.Ended.Ended, Ends.IsLeft, Ends.pei_starts}
+use Rattle.pei_dispatch.specs.Choices.{ComesTo, IsHeldBack, StopsForMemory, StopsShort}
 use Rattle.dxe_dispatch.specs.declared.boot.Barred.{Barred}
 use Rattle.dxe_dispatch.specs.Choices as D
 use Rattle.boot_core.specs.{declared.whole.boot.Booted.Booted, declared.whole.boot.Ran.Ran, Closing.closing}
 use Rattle.boot_core.specs.declared.whole.boot.Booted.TheVariants as B
-use Rattle.boot_core.specs.Choices.{Choices, choices_of, starts_of}
+use Rattle.boot_core.specs.Choices.{Choices, starts_of}
 
 -- behind this machine of PEI, DXE by choices has come to that one
 pub record ComesInDxe (by : Choices) (catalog : Catalog) (fuel : ℕ) (pei : PeiMachine) (m : DxeMachine) : Type 0 where
@@ -52,6 +52,27 @@ EndsAfter by catalog fuel pei NoIpl lines handles end = EndsInPei E.NoIpl pei li
 EndsAfter by catalog fuel pei Spent lines handles end = EndsInPei E.Spent pei lines handles end
 EndsAfter by catalog fuel pei Deep lines handles end = EndsInPei E.Deep pei lines handles end
 
+-- such an end behind this machine of PEI
+pub record Ending : Type 1 where
+  pub by : Choices
+  pub catalog : Catalog
+  pub fuel : ℕ
+  pub pei : PeiMachine
+  pub lines : List Line
+  pub handles : HandleState
+  pub result : RunEnd
+
+abbrev pub IsEnding : Ending → PeiEnd → Type 0
+IsEnding e how = EndsAfter e.by e.catalog e.fuel e.pei how e.lines e.handles e.result
+
+-- how many starts there were in both phases
+abbrev pub starts_by : (e : Ending) (how : PeiEnd) → IsEnding e how → ℕ
+starts_by e Handoff ends = starts_of e.pei ends.dxe
+starts_by e NoMemory ends = pei_starts e.pei
+starts_by e NoIpl ends = pei_starts e.pei
+starts_by e Spent ends = pei_starts e.pei
+starts_by e Deep ends = pei_starts e.pei
+
 -- a boot by choices, up to its last lines
 pub record BootBy (by : Choices) (board : Board) (catalog : Catalog) (fuel : ℕ) : Type 0 where
   pub pei : PeiMachine
@@ -62,6 +83,11 @@ pub record BootBy (by : Choices) (board : Board) (catalog : Catalog) (fuel : ℕ
   pub handles : HandleState
   pub result : RunEnd
   pub ends : EndsAfter by catalog fuel pei how lines handles result
+
+-- its end
+abbrev pub ending_of : {by : Choices} {board : Board} {catalog : Catalog} {fuel : ℕ} → BootBy by board catalog fuel → Ending
+ending_of {by = by} {catalog = catalog} {fuel = fuel} boot =
+    record { by = by; catalog = catalog; fuel = fuel; pei = boot.pei; lines = boot.lines; handles = boot.handles; result = boot.result }
 
 -- its last lines, and all of them
 abbrev pub last_lines : {by : Choices} {board : Board} {catalog : Catalog} {fuel : ℕ} → BootBy by board catalog fuel → List Line
@@ -106,6 +132,8 @@ pub record HasRun {M : Type 0} (by : Choices) (stands : M → StoreState → Typ
   pub how_is : ran.pei.«end» ≡ boot.how
   pub end_is : ran.«end» ≡ boot.result
   pub left : IsLeft stands catalog boot.pei ran.pei
+  pub handles_are : ran.handles ≡ boot.handles
+  pub starts_are : ran.starts ≡ starts_by (ending_of boot) boot.how boot.ends
   pub text : Appends old new (text_of (all_lines boot))
 
 -- DXE behind this machine of PEI was left before the start of a driver that is not let, and all lines of both phases were put
@@ -148,19 +176,3 @@ BootsTo by text faults stands takes board catalog fuel sink shown (Err H.Sink) =
 BootsTo by text faults stands takes board catalog fuel sink shown (Err H.Memory) =
     WantsInPei by takes board catalog fuel (text sink) (text shown)
     ⊎ StopsBehindPei by text faults board catalog fuel sink shown
-
--- by a choice that looks into the sink, over each board for which the store stands as it was made
-abbrev pub BootsByChoice : {M S : Type 0} → (S → ℕ → Option ℕ → Type 0) → (ℕ → ℕ → Bool) → (S → ℕ → Option ℕ → Type 0) → (ℕ → ℕ → Bool)
-    → (S → Option (List ℕ)) → (S → ℕ) → (M → StoreState → Type 0) → Bool → Catalog → ℕ → M → S → S → Result (Booted M) Halt → Type 0
-BootsByChoice peims lets_in_pei drivers lets_in_dxe text faults stands takes catalog fuel store sink shown result =
-    (board : Board) → stands store (empty_store board)
-    → BootsTo (choices_of peims lets_in_pei drivers lets_in_dxe text faults sink) text faults stands takes board catalog fuel sink shown result
-
--- the same behind each PEI that has ended so, and whose lines were put without a failure
-abbrev pub GoesOn : {M S : Type 0} → (S → ℕ → Option ℕ → Type 0) → (ℕ → ℕ → Bool) → (S → ℕ → Option ℕ → Type 0) → (ℕ → ℕ → Bool)
-    → (S → Option (List ℕ)) → (S → ℕ) → (M → StoreState → Type 0) → Bool → Catalog → ℕ → Ended M → S → S → Result (Booted M) Halt → Type 0
-GoesOn {S = S} peims lets_in_pei drivers lets_in_dxe text faults stands takes catalog fuel left sink shown result =
-    (board : Board) (first : S)
-    → HasBooted (NamesPeims peims text faults first) (LetsPeims lets_in_pei) stands catalog fuel (pei_opening board catalog) left (text first) (text sink)
-    → faults sink ≡ faults first
-    → BootsTo (choices_of peims lets_in_pei drivers lets_in_dxe text faults first) text faults stands takes board catalog fuel first shown result

@@ -22,12 +22,20 @@ abbrev pub NamesBehind : {S : Type 0} → (S → ℕ → Option ℕ → Type 0) 
     → PeiMachine → DxeMachine → Option ℕ → Type 0
 NamesBehind names text faults first pei m named = MayName (λ sink other. names sink (starts_of pei m) other) text faults first (pei.lines ++ m.lines) named
 
--- those of a choice: what it may name in each phase, and what it lets
-abbrev pub choices_of : {S : Type 0} → (S → ℕ → Option ℕ → Type 0) → (ℕ → ℕ → Bool) → (S → ℕ → Option ℕ → Type 0) → (ℕ → ℕ → Bool)
-    → (S → Option (List ℕ)) → (S → ℕ) → S → Choices
-choices_of peims lets_in_pei drivers lets_in_dxe text faults first = record {
-  peims = NamesPeims peims text faults first;
-  lets_peim = LetsPeims lets_in_pei;
-  drivers = NamesBehind drivers text faults first;
-  lets_driver = λ pei. LetsDrivers lets_in_dxe (pei_starts pei);
+-- a way to choose the modules of a boot: which it may name in each phase, and which starts it lets, by how many starts there were; and how the text and the faults of the sink are told into which it looks
+pub record Rules (S : Type 0) : Type 1 where
+  pub peims : S → ℕ → Option ℕ → Type 0
+  pub lets_in_pei : ℕ → ℕ → Bool
+  pub drivers : S → ℕ → Option ℕ → Type 0
+  pub lets_in_dxe : ℕ → ℕ → Bool
+  pub text : S → Option (List ℕ)
+  pub faults : S → ℕ
+
+-- the choices that it makes from this sink on: what it may name in each phase, and what it lets
+abbrev pub choices_of : {S : Type 0} → Rules S → S → Choices
+choices_of rules first = record {
+  peims = NamesPeims rules.peims rules.text rules.faults first;
+  lets_peim = LetsPeims rules.lets_in_pei;
+  drivers = NamesBehind rules.drivers rules.text rules.faults first;
+  lets_driver = λ pei. LetsDrivers rules.lets_in_dxe (pei_starts pei);
 }

@@ -10,17 +10,18 @@ use Rattle.mod_catalog.specs.declared.catalogue.Catalog.{Catalog}
 use Rattle.store_model.specs.StoreState.{Board, StoreState}
 use Rattle.boot_model.specs.{PeiRun.pei_end, Text.text_of}
 use Rattle.pei_dispatch.specs.Ends.{IsLeft}
-use Rattle.boot_core.specs.{declared.whole.boot.Ran.Ran, WholeEnd.boot_text, WholeEnd.end_of}
+use Rattle.boot_core.specs.{declared.whole.boot.Ran.Ran, WholeEnd.IsLeftBehind, WholeEnd.boot_text, WholeEnd.end_of}
 
 -- by the answer: a value that is as it should be with the whole text, or a part of the text
 abbrev pub Tells : {A : Type 0} → (A → Type 0) → List ℕ → Texts → Result A Halt → Type 0
 Tells Is text t (Ok answer) = Is answer × Appends t.old t.new text
 Tells Is text t (Err halt) = AppendsPart t.old t.new text
 
--- a boot has come to its end: its result, and what PEI left
+-- a boot has come to its end: its result, what PEI left, the handles, and how many starts there were
 pub record IsRun {M : Type 0} (stands : M → StoreState → Type 0) (board : Board) (catalog : Catalog) (fuel : ℕ) (ran : Ran M) : Type 0 where
   pub end_is : end_of board catalog fuel ≡ Some ran.«end»
   pub left : IsLeft stands catalog (pei_end board catalog fuel) ran.pei
+  pub behind : IsLeftBehind catalog fuel (pei_end board catalog fuel) (pei_end board catalog fuel).ended ran.handles ran.starts
 
 -- a boot, from its first line to its last
 abbrev pub RunsTo : {M : Type 0} → (M → StoreState → Type 0) → Board → Catalog → ℕ → Texts → Result (Ran M) Halt → Type 0

@@ -1,21 +1,23 @@
 // What PEI hands on in the boot of a plan's images.
-ghost use Rattle.std.specs.Prelude.{◌≡◌, ◌≤◌, Some, IfOk, IfErr, length};
-ghost use Rattle.boot_model.specs.{PeiMachine.PeiMachine, PeiRun.pei_end, PlanBoard.board_of};
+ghost use Rattle.std.specs.Prelude.{◌≡◌, ◌≤◌, IfOk, IfErr, length};
+ghost use Rattle.boot_model.specs.{PeiRun.pei_end, PlanBoard.board_of};
 ghost use Rattle.boot_plan.specs.Range.{IsPlanInRange};
 ghost use Rattle.mod_catalog.specs.WellFormed.{IsWellFormed};
-ghost use Rattle.store_model.specs.{Service.Present, StateFacts.IsBoard, StoreState.Board, StoreState.empty_store, StoreCall.Anything};
+ghost use Rattle.store_model.specs.{StateFacts.IsBoard, StoreState.Board, StoreState.empty_store};
 ghost use Rattle.boot_core.specs.{Examining.AreRefused, HandOff.HandsOn, HandOff.IsHandOff};
 
 use crate::images::examine;
+use crate::keeper::{Keeper, NoDriver};
 use crate::nowhere::Nowhere;
 use crate::plan_boot::store_of;
 use crate::plan_files::NoJob;
+use crate::whole::{Watch, boot_by_choice};
 use boot_io::Halt;
-use boot_model::{PeiEnd, RunEnd};
+use boot_laws::pei_runs_end;
+use boot_model::RunEnd;
 use boot_plan::Plan;
-use boot_trace::hob_list;
+use dxe_dispatch::Unwatched;
 use mod_catalog::Catalog;
-use pei_dispatch::{Ended, boot_first_pei};
 use pi_base::{OutOfMemory, Seq};
 use std::alloc::Global;
 use store_model::PeiStore;
@@ -29,22 +31,7 @@ pub enum HandOff {
     Ended(RunEnd),
 }
 
-// What a PEI that has ended hands on.
-fn handed_by<M: PeiStore + Drop>(alloc: Global, pei: &Ended<M>) -> Result<HandOff, OutOfMemory>
-    requires state { Present (M.stands_for pei.now.store) Anything }
-    ensures { IfOk result
-        (λ handed. (m : PeiMachine) → M.stands_for pei.now.store m.store → m.ended ≡ Some pei.now.end → HandsOn m handed) }
-{
-    match pei.end {
-        PeiEnd::Handoff => Ok(HandOff::Hobs(hob_list(alloc, &pei.store)?)),
-        PeiEnd::NoMemory => Ok(HandOff::Ended(RunEnd::NoMemory)),
-        PeiEnd::NoIpl => Ok(HandOff::Ended(RunEnd::NoIpl)),
-        PeiEnd::Spent => Ok(HandOff::Ended(RunEnd::Spent)),
-        PeiEnd::Deep => Ok(HandOff::Ended(RunEnd::Deep)),
-    }
-}
-
-// PEI over a store that is as it was made.
+// PEI over a store that is as it was made: the boot up to its first driver, of which is kept what PEI hands on.
 fn run_pei_on<M: PeiStore + Drop>(
     alloc: Global,
     store: M,
@@ -56,8 +43,24 @@ fn run_pei_on<M: PeiStore + Drop>(
     requires opening { (board : Board) × M.stands_for store (empty_store board) }
     ensures { (board : Board) → M.stands_for store (empty_store board) → IfOk result (HandsOn (pei_end board catalog.now fuel)) }
 {
-    match boot_first_pei(alloc, store, catalog, fuel, &mut Nowhere) {
-        Ok(ended) => handed_by(alloc, &ended),
+    pei_runs_end();
+    let mut watch = Watch {
+        pei: Keeper::new(alloc),
+        dxe: Unwatched,
+    };
+    match boot_by_choice(
+        alloc,
+        store,
+        catalog,
+        fuel,
+        &NoDriver,
+        &mut watch,
+        &mut Nowhere,
+    ) {
+        Ok(booted) => {
+            drop(booted);
+            watch.pei.into_kept()
+        }
         Err(Halt::Sink) => unreachable!(),
         Err(Halt::Memory) => Err(OutOfMemory),
     }

@@ -8,9 +8,11 @@ mod boot;
 mod closing;
 mod first;
 mod free;
+mod watch;
 
 pub use board::roms;
 pub use boot::{Booted, Ran, boot_by_choice};
 pub use closing::put_closing;
 pub use first::boot_store;
 pub use free::choices_are_free;
+pub use watch::{Watch, nobody};

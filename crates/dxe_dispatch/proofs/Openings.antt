@@ -1,5 +1,5 @@
 -- The core at the opening behind a hand-off.
-use Rattle.std.proofs.Common.{◌≡◌, ℕ, ◌≤◌, Bool, List, [], Option, Result, Ok, Err, refl, sym, ◌∙◌, subst, arith, IfOk}
+use Rattle.std.proofs.Common.{◌≡◌, ℕ, ◌+◌, ◌≤◌, Bool, List, [], Option, Result, Ok, Err, refl, sym, ap, ◌∙◌, subst, arith, IfOk}
 use Rattle.boot_trace.proofs.Lines.{part_none}
 use Rattle.mod_catalog.specs.declared.catalogue.Catalog.{Catalog}
 use Rattle.store_model.specs.{Service.Reading.fv_bases, HandleState.HandleState, StoreState.StoreState}
@@ -35,9 +35,9 @@ some_left Names Lets stands store catalog fuel opening core run old new queue sa
 -- the handles of the last machine are those of the core
 unfoldable pub boots : {M : Type 0} (Names : DxeMachine → Option ℕ → Type 0) (Lets : DxeMachine → ℕ → Bool) (stands : M → StoreState → Type 0) (store : M) (catalog : Catalog) (fuel : ℕ) (opening : DxeMachine) (core : DxeCore) (queue : Queue) (reached : Reached DxeEnd) (handles : HandleState) (in_pei left : ℕ) (old new : Option (List ℕ))
     → handles ≡ core.services.handles → left ≡ queue.left → RunsBy Names Lets stands store catalog fuel opening core queue old new (Ok reached)
-    → BootsBy Names Lets catalog fuel opening in_pei old new (Ok (leaves in_pei handles left reached))
+    → BootsBy (record { names = Names; lets = Lets; catalog = catalog; fuel = fuel; opening = opening; in_pei = in_pei; old = old; new = new }) (Ok (leaves in_pei handles left reached))
 boots Names Lets stands store catalog fuel opening core queue (R.End how) handles in_pei left old new same counted run =
-    record { earlier = run.earlier; run = run.run; ended = run.ended; has = run.now.machine.core.services.handles ∙ sym same }
+    record { earlier = run.earlier; run = run.run; ended = run.ended; has = run.now.machine.core.services.handles ∙ sym same; starts_are = ap (λ n. in_pei + n) (counted ∙ run.now.queue.left) }
 boots Names Lets stands store catalog fuel opening core queue (R.Barred number) handles in_pei left old new same counted run =
     let started = run.left.left in
     record { earlier = run.earlier; run = run.run; bars = run.bars; has = run.left.machine.core.services.handles ∙ sym same; starts_are = omega (arith, counted, started) }

@@ -56,15 +56,3 @@ discovered_more catalog old more new is =
     let all : drivers_of catalog new ≡ drivers_of catalog old ++ drivers_of catalog more = ap (drivers_of catalog) is ∙ flat_map-append (parts_in Dxe catalog) old more in
     let long : length (drivers_of catalog new) ≡ length (drivers_of catalog old) + length (drivers_of catalog more) = ap length all ∙ length-append (drivers_of catalog old) (drivers_of catalog more) in
     omega (arith, long)
-
-pub run_discovers : (catalog : Catalog) (fuel n : ℕ) (m : DxeMachine) → length (discovered_order catalog m) ≤ length (discovered_order catalog (dxe_run catalog fuel n m))
-run_discovers catalog fuel zero m = omega arith
-run_discovers catalog fuel (suc n) m =
-    elim m.ended as (λ o. length (discovered_order catalog m) ≤ length (discovered_order catalog (run_by catalog fuel n m o))) [
-      | Some end ↦ omega arith
-      | None ↦
-          let grown = driver_steps_grow catalog fuel m in
-          let one = discovered_more catalog m.discovered grown.discovered.0 (dxe_step catalog fuel m).discovered grown.discovered.1 in
-          let rest = run_discovers catalog fuel n (dxe_step catalog fuel m) in
-          omega (arith, one, rest)
-    ]

@@ -1,17 +1,17 @@
 -- What is known of a run that was watched.
-use Rattle.std.proofs.Common.{◌≡◌, ℕ, ◌+◌, Bool, List, [], ◌∷◌, Option, None, Result, Ok, Err, refl, sym, subst}
+use Rattle.std.proofs.Common.{◌≡◌, ℕ, Bool, List, ◌∷◌, Option, None, Result, Ok, Err, refl, sym, subst}
 use Rattle.boot_io.specs.declared.halt.Halt.{Halt}
 use Rattle.mod_catalog.specs.declared.catalogue.Catalog.{Catalog}
 use Rattle.store_model.specs.{HandleState.HandleState, StoreState.StoreState}
-use Rattle.boot_model.specs.{declared.phase_end.DxeEnd.DxeEnd, DxeMachine.DxeMachine, DxeRun.dxe_opening, DxeStep.dxe_step}
+use Rattle.boot_model.specs.{declared.phase_end.DxeEnd.DxeEnd, DxeMachine.DxeMachine, DxeRun.dxe_opening}
 use Rattle.boot_laws.specs.{declared.choice.Reached.Reached, DxeAim.FirstEligibleMayStart}
 use Rattle.boot_laws.specs.declared.choice.Reached.TheVariants as R
 use Rattle.dxe_core.specs.Standing.{DxeCore, StandsFor}
 use Rattle.dxe_dispatch.specs.Queue.{Discovers, IsNewQueue, Queue}
 use Rattle.dxe_dispatch.specs.{declared.answer.Step.Step, Ends.IsNow, Turns.IsLeft, declared.boot.Left.Left}
 use Rattle.dxe_dispatch.specs.declared.answer.Turn.TheVariants as T
-use Rattle.dxe_dispatch.specs.Choices.{IsAimedBy, StopsShort, TurnsBy, came, leaves}
-use Rattle.dxe_dispatch.specs.Watched.{BootsKnown, DxeBoot, DxeCourse, RunsKnown, StandsLeft, WasAimed, WasLast, WasStep}
+use Rattle.dxe_dispatch.specs.Choices.{DxeBoot, IsAimedBy, StopsShort, TurnsBy, came, leaves}
+use Rattle.dxe_dispatch.specs.Watched.{BootsKnown, DxeCourse, RunsKnown, StandsLeft, WasAimed, WasLast, WasStep}
 use Rattle.dxe_dispatch.proofs.{Chosen.Any, Chosen.target_at, Openings.boots, Targets.left_before}
 use Rattle.dxe_dispatch.proofs.ChosenWays.{IsComing, coming_bars, coming_over, coming_to, opening_queue}
 

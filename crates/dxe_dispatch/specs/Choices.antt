@@ -157,55 +157,43 @@ RunsBy Names Lets stands store catalog fuel opening later queue old new (Ok (R.B
     BarsBy Names Lets stands store catalog fuel opening later queue number old new
 RunsBy Names Lets stands store catalog fuel opening later queue old new (Err halt) = StopsShort Names Lets catalog fuel opening old new
 
--- a call that takes a run by a choice: the core and the sink before it, and with the queue behind it
-pub record ChoiceRun (S : Type 0) : Type 0 where
-  pub core : DxeCore
-  pub sink : S
-  pub later : DxeCore
-  pub queue : Queue
-  pub shown : S
-
--- the run from the opening over each state, with the actions and the fuel for which the core was made, behind so many starts in PEI
-abbrev pub RunsByChoice : {M S : Type 0} → DriverChoice S → (M → StoreState → Type 0) → M → Catalog → ChoiceRun S → Result (Reached DxeEnd) Halt → Type 0
-RunsByChoice choice stands store catalog call result =
-    (s : StoreState) (actions fuel : ℕ) → IsFor catalog fuel call.core → StandsFor stands store catalog call.core (dxe_opening catalog s actions)
-    → RunsBy (NamesDrivers choice.names choice.text choice.faults choice.in_pei call.sink) (LetsDrivers choice.lets choice.in_pei)
-    stands store catalog fuel (dxe_opening catalog s actions) call.later call.queue (choice.text call.sink) (choice.text call.shown) result
-
--- what is left behind it, by what it came to; a driver that was not let has left the queue too
+-- what is left behind a run, by what it came to; a driver that was not let has left the queue too
 abbrev pub leaves : ℕ → HandleState → ℕ → Reached DxeEnd → Left
-leaves in_pei handles left (R.End how) = V.Ended (record { «end» = how; handles = handles })
+leaves in_pei handles left (R.End how) = V.Ended (record { «end» = how; handles = handles; starts = in_pei + left })
 leaves in_pei handles left (R.Barred number) = V.Barred (record { number = number; handles = handles; starts = in_pei + (left - 1) })
 
--- a whole run by choices that has come to its end, and hands its handles on
-pub record HasBooted (Names : DxeMachine → Option ℕ → Type 0) (Lets : DxeMachine → ℕ → Bool) (catalog : Catalog) (fuel : ℕ)
-    (opening : DxeMachine) (left : Ended) (old new : Option (List ℕ)) : Type 0 where
+-- a whole run by choices, behind so many starts in PEI, with the text before it and behind it
+pub record DxeBoot : Type 1 where
+  pub names : DxeMachine → Option ℕ → Type 0
+  pub lets : DxeMachine → ℕ → Bool
+  pub catalog : Catalog
+  pub fuel : ℕ
+  pub opening : DxeMachine
+  pub in_pei : ℕ
+  pub old : Option (List ℕ)
+  pub new : Option (List ℕ)
+
+-- it has come to its end, and hands its handles on, with how many starts there were, those in PEI with them
+pub record HasBooted (b : DxeBoot) (left : Ended) : Type 0 where
   pub earlier : List DxeMachine
-  pub run : IsRunBy Names Lets catalog fuel opening earlier
-  pub ended : HasEnded left.«end» (came catalog fuel opening earlier) old new
-  pub has : (came catalog fuel opening earlier).handles ≡ left.handles
+  pub run : IsRunBy b.names b.lets b.catalog b.fuel b.opening earlier
+  pub ended : HasEnded left.«end» (came b.catalog b.fuel b.opening earlier) b.old b.new
+  pub has : (came b.catalog b.fuel b.opening earlier).handles ≡ left.handles
+  pub starts_are : left.starts ≡ b.in_pei + length (came b.catalog b.fuel b.opening earlier).started
 
--- one that was left before a start that is not let, behind so many starts, those in PEI with them
-pub record HasStayed (Names : DxeMachine → Option ℕ → Type 0) (Lets : DxeMachine → ℕ → Bool) (catalog : Catalog) (fuel : ℕ)
-    (opening : DxeMachine) (in_pei : ℕ) (left : Barred) (old new : Option (List ℕ)) : Type 0 where
+-- it was left before a start that is not let
+pub record HasStayed (b : DxeBoot) (left : Barred) : Type 0 where
   pub earlier : List DxeMachine
-  pub run : IsRunBy Names Lets catalog fuel opening earlier
-  pub bars : IsBarred Names Lets catalog (came catalog fuel opening earlier) left.number old new
-  pub has : (came catalog fuel opening earlier).handles ≡ left.handles
-  pub starts_are : left.starts ≡ in_pei + length (came catalog fuel opening earlier).started
+  pub run : IsRunBy b.names b.lets b.catalog b.fuel b.opening earlier
+  pub bars : IsBarred b.names b.lets b.catalog (came b.catalog b.fuel b.opening earlier) left.number b.old b.new
+  pub has : (came b.catalog b.fuel b.opening earlier).handles ≡ left.handles
+  pub starts_are : left.starts ≡ b.in_pei + length (came b.catalog b.fuel b.opening earlier).started
 
--- a whole run by choices, by its answer
-abbrev pub BootsBy : (DxeMachine → Option ℕ → Type 0) → (DxeMachine → ℕ → Bool) → Catalog → ℕ → DxeMachine → ℕ
-    → Option (List ℕ) → Option (List ℕ) → Result Left Halt → Type 0
-BootsBy Names Lets catalog fuel opening in_pei old new (Ok (V.Ended left)) = HasBooted Names Lets catalog fuel opening left old new
-BootsBy Names Lets catalog fuel opening in_pei old new (Ok (V.Barred left)) = HasStayed Names Lets catalog fuel opening in_pei left old new
-BootsBy Names Lets catalog fuel opening in_pei old new (Err halt) = StopsShort Names Lets catalog fuel opening old new
-
--- from the hand-off of a store, with the actions that PEI took and its starts
-abbrev pub BootsByChoice : {S : Type 0} → DriverChoice S → Catalog → ℕ → ℕ → S → S → Result Left Halt → StoreState → Type 0
-BootsByChoice choice catalog fuel taken sink shown result s =
-    BootsBy (NamesDrivers choice.names choice.text choice.faults choice.in_pei sink) (LetsDrivers choice.lets choice.in_pei)
-    catalog fuel (dxe_opening catalog s taken) choice.in_pei (choice.text sink) (choice.text shown) result
+-- by its answer
+abbrev pub BootsBy : DxeBoot → Result Left Halt → Type 0
+BootsBy b (Ok (V.Ended left)) = HasBooted b left
+BootsBy b (Ok (V.Barred left)) = HasStayed b left
+BootsBy b (Err halt) = StopsShort b.names b.lets b.catalog b.fuel b.opening b.old b.new
 
 -- the handles that a whole run leaves
 abbrev pub handles_of : Left → HandleState

@@ -11,7 +11,7 @@ use Rattle.dxe_core.specs.Standing.{DxeCore, IsFor, StandsFor}
 use Rattle.dxe_dispatch.specs.{Queue.Queue, declared.answer.Step.Step, declared.boot.Left.Left, declared.boot.Run.Run, Ends.StandsAtEnd}
 use Rattle.dxe_dispatch.specs.declared.boot.Left.TheVariants as V
 use Rattle.dxe_dispatch.specs.Turns.{IsLeft, IsStarting, IsStep, StartsNone}
-use Rattle.dxe_dispatch.specs.Choices.{BootsBy, DriverChoice, LetsDrivers, NamesDrivers, RunsBy, StopsShort, aimed_at, came}
+use Rattle.dxe_dispatch.specs.Choices.{BootsBy, DriverChoice, DxeBoot, LetsDrivers, NamesDrivers, RunsBy, StopsShort, aimed_at, came}
 
 -- a turn was taken in a machine that runs: from the target, which is this machine with the group scheduled of a driver that was named, or as it was
 pub record WasAimed (catalog : Catalog) (m target : DxeMachine) : Type 0 where
@@ -116,29 +116,15 @@ LeavesWatched Knows choice stands store catalog call result =
     (s : StoreState) (actions fuel : ℕ) → IsFor catalog fuel call.core → StandsFor stands store catalog call.core (dxe_opening catalog s actions)
     → LeavesKnown (course_of choice stands store catalog call fuel (dxe_opening catalog s actions)) (Knows catalog fuel (dxe_opening catalog s actions)) result
 
--- a whole run by choices, behind so many starts in PEI
-pub record DxeBoot : Type 1 where
-  pub names : DxeMachine → Option ℕ → Type 0
-  pub lets : DxeMachine → ℕ → Bool
-  pub catalog : Catalog
-  pub fuel : ℕ
-  pub opening : DxeMachine
-  pub in_pei : ℕ
-  pub old : Option (List ℕ)
-  pub new : Option (List ℕ)
-
-abbrev pub BootsAlong : DxeBoot → Result Left Halt → Type 0
-BootsAlong b result = BootsBy b.names b.lets b.catalog b.fuel b.opening b.in_pei b.old b.new result
-
--- what is known of it by its answer
-abbrev pub KnowsOfBoot : (b : DxeBoot) (Known : List DxeMachine → Reached DxeEnd → Type 0) (result : Result Left Halt) → BootsAlong b result → Type 0
+-- what is known of a whole run by its answer
+abbrev pub KnowsOfBoot : (b : DxeBoot) (Known : List DxeMachine → Reached DxeEnd → Type 0) (result : Result Left Halt) → BootsBy b result → Type 0
 KnowsOfBoot b Known (Ok (V.Ended left)) by = Known by.earlier (R.End left.«end»)
 KnowsOfBoot b Known (Ok (V.Barred left)) by = Known by.earlier (R.Barred left.number)
 KnowsOfBoot b Known (Err halt) by = ⊤
 
 -- a whole run of which this is known
 pub record BootsKnown (b : DxeBoot) (Known : List DxeMachine → Reached DxeEnd → Type 0) (result : Result Left Halt) : Type 0 where
-  pub by : BootsAlong b result
+  pub by : BootsBy b result
   pub known : KnowsOfBoot b Known result by
 
 -- the sink before a call and behind it

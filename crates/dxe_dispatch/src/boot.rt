@@ -6,10 +6,10 @@ ghost use Rattle.store_model.specs.{Service.Present, Service.OfEach, StoreCall.A
 ghost use Rattle.dxe_core.specs.Standing.{IsFor};
 ghost use Rattle.boot_laws.specs.declared.choice.Reached.TheVariants as R;
 ghost use Rattle.dxe_dispatch.specs.{Watched.BootsWatched, Watched.LeavesWatched, Ends.IsAtOpening, Ends.IsOpened};
-ghost use Rattle.dxe_dispatch.specs.Choices.{BootsByChoice, handles_of, leaves};
+ghost use Rattle.dxe_dispatch.specs.Choices.{handles_of, leaves};
 
 use crate::DriverQueue;
-use crate::watch::{DxeWatch, Unwatched};
+use crate::watch::DxeWatch;
 use crate::watched::watch_dxe;
 use boot_io::{Halt, Sink};
 use boot_laws::{Choice, Reached};
@@ -31,6 +31,8 @@ pub struct Ended {
     pub end: DxeEnd,
     /// The handles, with their interfaces.
     pub handles: Handles,
+    /// How many starts there were, those in PEI with them.
+    pub starts: u64,
 }
 
 /// What DXE leaves before the start of a driver that the choice does not let.
@@ -133,7 +135,11 @@ fn left_by(run: Run, in_pei: u32, handles: Handles) -> Left
     ensures { result ≡ leaves in_pei handles run.left run.reached }
 {
     match run.reached {
-        Reached::End(end) => Left::Ended(Ended { end, handles }),
+        Reached::End(end) => Left::Ended(Ended {
+            end,
+            handles,
+            starts: u64::from(in_pei) + run.left as u64,
+        }),
         Reached::Barred(number) => Left::Barred(Barred {
             number,
             handles,
@@ -142,7 +148,7 @@ fn left_by(run: Run, in_pei: u32, handles: Handles) -> Left
     }
 }
 
-/// The whole of DXE behind the hand-off of a store, as `boot_dxe`, and watched.
+/// The whole of DXE behind the hand-off of a store, where a choice may name the driver that starts, and says whether it does, and a watcher is told of each step. `fuel` is how many actions may be taken in both phases, `taken` how many PEI took, and `in_pei` how many starts there were in it. No more interfaces are left than a `u32` counts.
 pub fn watch_boot<M: PeiStore, S: Sink, C: Choice<S>, W: DxeWatch>(
     alloc: Global,
     store: &M,
@@ -175,41 +181,4 @@ pub fn watch_boot<M: PeiStore, S: Sink, C: Choice<S>, W: DxeWatch>(
     );
     let handles = dxe.into_handles();
     Ok(left_by(run?, in_pei, handles))
-}
-
-/// The whole of DXE behind the hand-off of a store, where a choice may name the driver that starts, and says whether it does. `fuel` is how many actions may be taken in both phases, `taken` how many PEI took, and `in_pei` how many starts there were in it. No more interfaces are left than a `u32` counts.
-pub fn boot_dxe<M: PeiStore, S: Sink, C: Choice<S>>(
-    alloc: Global,
-    store: &M,
-    catalog: &Catalog,
-    fuel: u32,
-    taken: u32,
-    in_pei: u32,
-    choice: &C,
-    sink: &mut S,
-) -> Result<Left, Halt>
-    requires catalog { IsWellFormed catalog.now }
-    requires state { Present (M.stands_for store.now) Anything }
-    ensures row { OfEach (M.stands_for store.now) Anything (BootsByChoice (record {
-      names = C.drivers choice.now;
-      lets = C.lets_in_dxe choice.now;
-      text = S.text;
-      faults = S.faults;
-      in_pei = in_pei;
-    })
-        catalog.now fuel taken sink.old sink.new result) }
-    ensures few { IfOk result (λ left. length (handles_of left).interfaces < 2 ^ 32) }
-    ensures faults { HaltsAfter result (S.faults sink.old) (S.faults sink.new) }
-{
-    watch_boot(
-        alloc,
-        store,
-        catalog,
-        fuel,
-        taken,
-        in_pei,
-        choice,
-        &mut Unwatched,
-        sink,
-    )
 }

@@ -1,14 +1,14 @@
-// A run of DXE that is watched.
+//! DXE to its end, and who is told of it.
 ghost use Rattle.std.specs.Prelude.{◌≡◌, ◌≤◌, ◌<◌, ◌^◌, ℕ, OnOk, length};
 ghost use Rattle.boot_io.specs.Halted.{HaltsAfter};
-ghost use Rattle.mod_catalog.specs.WellFormed.{IsWellFormed};
+ghost use Rattle.boot_model.specs.DxeRun.{dxe_bound};
+ghost use Rattle.mod_catalog.specs.{WellFormed.IsWellFormed, declared.limits.TheConstants.MOST_MODULES};
 ghost use Rattle.dxe_core.specs.Standing.{IsFor};
 ghost use Rattle.dxe_dispatch.specs.{Queue.IsNewQueue, Queue.IsQueueFor, Choices.EvaluatesFewByChoice, Ends.IsAtOpening};
 ghost use Rattle.dxe_dispatch.specs.Watched.{RunsWatched};
 
 use crate::DriverQueue;
 use crate::answer::Turn;
-use crate::run::bound;
 use crate::turns::turn_by;
 use crate::watch::DxeWatch;
 use boot_io::{Halt, Sink};
@@ -16,14 +16,23 @@ use boot_laws::{
     Choice, Reached, discovered_order_has_each_once, dxe_chooses_by_groups, dxe_goes_on, dxe_opens,
     groups_are_aimed, unrequested_drivers_wait,
 };
-use boot_model::DxeEnd;
+use boot_model::{DxeEnd, MOST_FRAMES};
 use depex_code::Steps;
 use dxe_core::{Dxe, put_volumes};
 use mod_catalog::Catalog;
 use std::sync::ledger::Ledger;
 use store_model::PeiStore;
 
-/// DXE from the opening to its end by a choice, as `run_dxe`, and watched: the opening, each step and what the run reaches are told.
+/// How many steps a run of DXE has at most.
+pub fn bound(catalog: &Catalog, fuel: u32) -> u64
+    requires { length catalog.now.modules ≤ MOST_MODULES }
+    ensures { result ≡ dxe_bound catalog.now fuel }
+{
+    2 * u64::from(fuel) + MOST_FRAMES as u64 + catalog.modules.len() as u64 + 1
+}
+
+/// DXE from the opening to its end, where a choice may name the driver that starts, or to the start of one that it does not let: the a priori drivers of the volumes that were discovered are scheduled, the lines of these volumes are put, and then a step of the machine at a time, up to the stop. `dxe` is the core at its opening, `queue` is new, and `in_pei` is how many starts there were in PEI. The watcher is told of the opening, of each step and of what the run reaches.
+/// What it leaves is a run of the machine whose choices are these; behind its end the core beside its store, and the queue, are those of the last machine. Before a start that is not let the core is that of the machine there, and the driver has left the queue. No more expressions are evaluated than the drivers and the protocols of that run let. No more interfaces are left than a `u32` counts, if no more actions were taken before, and no more drivers have left the queue.
 pub fn watch_dxe<M: PeiStore, S: Sink, C: Choice<S>, W: DxeWatch, L: Ledger>(
     dxe: &mut Dxe,
     store: &M,

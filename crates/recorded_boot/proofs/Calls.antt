@@ -1,133 +1,154 @@
--- What the parts of a boot along an order leave, put together.
-use Rattle.std.proofs.Common.{◌≡◌, ℕ, ◌+◌, Bool, arith, List, [], ◌++◌, length, Option, Some, None, Result, Ok, Err, IfOk, refl, sym, ap, ◌∙◌, subst, append-nil}
+-- What a boot in an order has come to is what the order makes of it.
+use Rattle.std.proofs.Common.{◌≡◌, ℕ, List, ◌++◌, Option, Some, None, Ok, refl, sym, ap, ◌∙◌, subst}
 use Rattle.std.specs.Io.KnownBytes.{Appends}
-use Rattle.boot_io.specs.declared.halt.Halt.{Halt}
-use Rattle.boot_io.proofs.PutsLaws.{appends_then}
-use Rattle.mod_catalog.specs.declared.catalogue.Catalog.{Catalog}
-use Rattle.store_model.specs.{HandleState.HandleState, HandleState.no_handles, StoreState.StoreState}
-use Rattle.boot_model.specs.{declared.line.Line.Line, declared.line.RunEnd.RunEnd, declared.phase_end.DxeEnd.DxeEnd}
-use Rattle.boot_model.specs.{declared.phase_end.PeiEnd.PeiEnd, BootRun.dxe_result, DxeMachine.DxeMachine, PeiMachine.PeiMachine}
+use Rattle.pi_base.specs.declared.phase.Phase.TheVariants.{Pei, Dxe}
+use Rattle.store_model.specs.{HandleState.HandleState, HandleState.no_handles, StoreCall.Anything, StoreState.StoreState}
+use Rattle.store_model.specs.Service.{OfEach, Present}
+use Rattle.boot_model.specs.{declared.line.Line.Line, declared.line.RunEnd.RunEnd, declared.phase_end.PeiEnd.PeiEnd}
+use Rattle.boot_model.specs.{BootRun.dxe_result, DxeMachine.DxeMachine, PeiMachine.PeiMachine, Text.text_of}
+use Rattle.boot_model.specs.declared.line.RunEnd.TheVariants as E
 use Rattle.boot_model.specs.declared.phase_end.PeiEnd.TheVariants.{Handoff, NoMemory, NoIpl, Spent, Deep}
-use Rattle.boot_model.specs.Text.{text_of}
-use Rattle.boot_model.proofs.Texts.{text_of-append}
 use Rattle.boot_trace.specs.Printing.{Texts}
-use Rattle.recorded_boot.specs.{declared.order.lines.StartOrder.StartOrder, declared.follow.following.Followed.Followed, Answer.FollowsTo}
 use Rattle.pei_dispatch.specs.Ends.{pei_starts}
-use Rattle.dxe_dispatch.specs.{Queue.Queue, Choices.RunsBy}
-use Rattle.dxe_core.specs.Standing.{DxeCore}
-use Rattle.boot_laws.specs.declared.choice.Reached.{Reached}
-use Rattle.boot_laws.specs.declared.choice.Reached.TheVariants as R
-use Rattle.boot_core.specs.Closing.{closing}
-use Rattle.boot_core.proofs.ClosingTexts.{closing_is}
-use Rattle.recorded_boot.specs.Behind.{FinishesTo, last_text, pei_result}
-use Rattle.recorded_boot.specs.{InOrder.last_lines, declared.follow.drivers.Drivers.Drivers, Leaving.ComesTo}
-use Rattle.recorded_boot.specs.Drivers.{HasRun, IsCounted, StandsSo, leaves}
-use Rattle.recorded_boot.proofs.PeiOrder.{IsRun, OrderBoot, PeiBar}
-use Rattle.recorded_boot.proofs.DxeOrder.{DxeBar, Handed, IsDxeRun, came, comes_in_dxe, drivers, lets_driver, opening}
-use Rattle.recorded_boot.proofs.OrderRuns.{aimed_of, dxe_run_of}
+use Rattle.boot_core.specs.{declared.whole.boot.Booted.Booted, Choices.Choices, Choices.starts_of, Closing.closing, HandOff.result_of}
+use Rattle.boot_core.specs.declared.whole.boot.Booted.TheVariants as B
+use Rattle.boot_core.specs.ByChoice.{EndsAfter, EndsInPei, HasCome, HasRun, IsBarredInDxe, starts_by}
+use Rattle.pei_dispatch.specs.declared.boot.Barred.{Barred}
+use Rattle.pei_dispatch.specs.Choices.{IsHeldBack, IsRunBy}
+use Rattle.dxe_dispatch.specs.declared.boot.Barred.{Barred as BarredDriver}
+use Rattle.pei_dispatch.specs.declared.boot.Ended.{Ended}
+use Rattle.boot_core.specs.declared.whole.boot.Ran.{Ran}
+use Rattle.recorded_boot.specs.{declared.follow.followed.Followed.Followed, Answer.FollowsTo}
+use Rattle.recorded_boot.specs.{ByOrder.NamesAsked, ByOrder.lets_by, Leaving.ComesTo, Leaving.LeavesBoot, Leaving.store_of}
+use Rattle.recorded_boot.proofs.PeiOrder.{IsRun, OrderBoot, PeiBar, along, comes, lets_peim, peims}
+use Rattle.recorded_boot.proofs.PeiOrder as P
+use Rattle.recorded_boot.proofs.DxeOrder.{DxeBar, DxeCome, Handed, IsDxeRun, came, comes_in_dxe, drivers, lets_driver, opening}
+use Rattle.recorded_boot.proofs.OrderRuns.{aimed_of, due_of, dxe_run_of, run_of}
 use Rattle.recorded_boot.proofs.Reaching.{dxe_bars, dxe_ends, pei_bars, pei_ends}
 
--- the text of the last lines
-last_is : (s : StoreState) (h : HandleState) (end : Option RunEnd) → last_text s h end ≡ text_of (last_lines s h end)
-last_is s h None = refl
-last_is s h (Some end) = sym (closing_is s h end)
+-- the choices of a boot that lets what an order lets
+abbrev pub by_order : OrderBoot → (PeiMachine → Option ℕ → Type 0) → (PeiMachine → DxeMachine → Option ℕ → Type 0) → Choices
+by_order b Peims Drivers = record {
+  peims = Peims;
+  lets_peim = λ m number. lets_by b.catalog b.order Pei (pei_starts m) number;
+  drivers = Drivers;
+  lets_driver = λ pei m number. lets_by b.catalog b.order Dxe (starts_of pei m) number;
+}
 
--- the last lines were put, and this is what the boot comes to
-pub finishes : (catalog : Catalog) (order : StartOrder) (index : ℕ) (s : StoreState) (h : HandleState) (end : Option RunEnd) (t : Texts) (followed : Followed) → Appends t.old t.new (last_text s h end)
-    → ComesTo catalog order index s h end followed → FinishesTo catalog order index s h end t (Ok followed)
-finishes catalog order index s h end t followed text comes = (subst (Appends t.old t.new) (last_is s h end) text, comes)
+-- and whom it names the order names
+pub record NamesAlike (b : OrderBoot) (Peims : PeiMachine → Option ℕ → Type 0) (Drivers : PeiMachine → DxeMachine → Option ℕ → Type 0) : Type 0 where
+  pub in_pei : (m : PeiMachine) (named : Option ℕ) → Peims m named → peims b m named
+  pub in_dxe : (pei : PeiMachine) (m : DxeMachine) (named : Option ℕ) → Drivers pei m named → NamesAsked b.catalog Dxe b.order (starts_of pei m) named
 
--- numbers by other words
-pub counts : (P : ℕ → ℕ → Type 0) (a b c d : ℕ) → a ≡ c → b ≡ d → P a b → P c d
-counts P a b c d e f p = subst (P c) f (subst (λ x. P x b) e p)
+-- the machines of a whole boot, by other words
+same_end : (P : List Line → HandleState → RunEnd → Type 0) (a b : List Line) (h k : HandleState) (e f : RunEnd) → a ≡ b → h ≡ k → e ≡ f → P a h e → P b k f
+same_end P a b h k e f same_lines same_handles same_result p =
+    subst (λ x. P b k x) same_result (subst (λ x. P b x e) same_handles (subst (λ x. P x h e) same_lines p))
 
--- only a hand-off has no result
-pub handed_off : (how : PeiEnd) → pei_result how ≡ None → how ≡ Handoff
-handed_off Handoff e = refl
-handed_off NoMemory e = cc
-handed_off NoIpl e = cc
-handed_off Spent e = cc
-handed_off Deep e = cc
+same_place : (P : ℕ → HandleState → Type 0) (a b : ℕ) (h k : HandleState) → a ≡ b → h ≡ k → P a h → P b k
+same_place P a b h k same_starts same_handles p = subst (λ x. P b x) same_handles (subst (λ x. P x h) same_starts p)
 
--- texts one behind the other
-pub two_texts : (first mid new : Option (List ℕ)) (a b : List Line) → Appends first mid (text_of a) → Appends mid new (text_of b) → Appends first new (text_of (a ++ b))
-two_texts first mid new a b f g = subst (Appends first new) (sym (text_of-append a b)) (appends_then first mid new (text_of a) (text_of b) f g)
+-- a boot that has handed off
+abbrev handed : (b : OrderBoot) (earlier : List PeiMachine) (m : PeiMachine) → IsRun b earlier m → m.ended ≡ Some Handoff → Handed b
+handed b earlier m run over = record { pei = m; earlier = earlier; run = run; come = comes b earlier m run; far = along b earlier m run; ended = over }
 
 -- PEI ended the boot
-pub pei_closes : (b : OrderBoot) (earlier : List PeiMachine) (m : PeiMachine) (how : PeiEnd) (so : RunEnd) (first mid new : Option (List ℕ)) (index : ℕ) (result : Result Followed Halt) → IsRun b earlier m → m.ended ≡ Some how → pei_result how ≡ Some so
-    → Appends first mid (text_of m.lines) → index ≡ pei_starts m → FinishesTo b.catalog b.order index m.store no_handles (Some so) (record { old = mid; new = new }) result
-    → FollowsTo b.board b.catalog b.fuel b.order (record { old = first; new = new }) result
-pei_closes b earlier m how so first mid new index (Ok followed) run ended is text at finished =
-    pei_ends b earlier m how so (record { old = first; new = new }) followed run ended is (two_texts first mid new m.lines (closing m.store no_handles so) text finished.0)
-    (subst (λ n. ComesTo b.catalog b.order n m.store no_handles (Some so) followed) at finished.1)
-pei_closes b earlier m how so first mid new index (Err halt) run ended is text at finished = tt
+ends_in_pei : (b : OrderBoot) (earlier : List PeiMachine) (m : PeiMachine) (how : PeiEnd) (so end : RunEnd) (lines : List Line) (handles : HandleState) (starts : ℕ) (t : Texts) (followed : Followed) → IsRun b earlier m → m.ended ≡ Some how → result_of how ≡ Some so
+    → EndsInPei so m lines handles end → starts ≡ pei_starts m → Appends t.old t.new (text_of (lines ++ closing m.store handles end)) → ComesTo b.catalog b.order starts m.store handles (Some end) followed → FollowsTo b.board b.catalog b.fuel b.order t (Ok followed)
+ends_in_pei b earlier m how so end lines handles starts t followed run ended is ends counted text leaves =
+    let Puts : List Line → HandleState → RunEnd → Type 0 = λ all h e. Appends t.old t.new (text_of (all ++ closing m.store h e)) in
+    let Leaves : List Line → HandleState → RunEnd → Type 0 = λ all h e. ComesTo b.catalog b.order (pei_starts m) m.store h (Some e) followed in
+    let here = subst (λ n. ComesTo b.catalog b.order n m.store handles (Some end) followed) counted leaves in
+    pei_ends b earlier m how so t followed run ended is (same_end Puts lines m.lines handles no_handles end so ends.lines_are ends.handles_are ends.end_is text)
+    (same_end Leaves lines m.lines handles no_handles end so ends.lines_are ends.handles_are ends.end_is here)
 
--- PEI is left before a start that is not let
-pub pei_stays : (b : OrderBoot) (m : PeiMachine) (number : ℕ) (bar : PeiBar b m number) (t : Texts) (index : ℕ) (result : Result Followed Halt) → Appends t.old t.new (text_of m.lines) → index ≡ pei_starts m
-    → IfOk result (ComesTo b.catalog b.order index m.store no_handles None) → FollowsTo b.board b.catalog b.fuel b.order t result
-pei_stays b m number bar t index (Ok followed) text at comes = pei_bars b m number bar t followed text (subst (λ n. ComesTo b.catalog b.order n m.store no_handles None followed) at comes)
-pei_stays b m number bar t index (Err halt) text at comes = tt
+-- a boot that has come to its end
+ends_by : (b : OrderBoot) (Peims : PeiMachine → Option ℕ → Type 0) (Drivers : PeiMachine → DxeMachine → Option ℕ → Type 0) (earlier : List PeiMachine) (m : PeiMachine) (how : PeiEnd) (lines : List Line) (handles : HandleState) (end : RunEnd) (starts : ℕ) (t : Texts) (followed : Followed)
+    → NamesAlike b Peims Drivers → IsRun b earlier m → m.ended ≡ Some how → (ends : EndsAfter (by_order b Peims Drivers) b.catalog b.fuel m how lines handles end)
+    → starts ≡ starts_by (record { by = by_order b Peims Drivers; catalog = b.catalog; fuel = b.fuel; pei = m; lines = lines; handles = handles; result = end }) how ends
+    → Appends t.old t.new (text_of (lines ++ closing m.store handles end)) → ComesTo b.catalog b.order starts m.store handles (Some end) followed → FollowsTo b.board b.catalog b.fuel b.order t (Ok followed)
+ends_by b Peims Drivers earlier m Handoff lines handles end starts t followed names run ended ends counted text leaves =
+    let h = handed b earlier m run ended in
+    let over = ends.comes.earlier in
+    let last = came b h over in
+    let is : ends.dxe ≡ last = ends.comes.is in
+    let on : IsDxeRun b h over = dxe_run_of (Drivers m) (drivers b h) (lets_driver b h) b.catalog b.fuel (opening h) over (names.in_dxe m) ends.comes.run in
+    let lines_are = ends.lines_are ∙ ap (λ (x : DxeMachine). m.lines ++ x.lines) is in
+    let handles_are = ends.handles_are ∙ ap (λ (x : DxeMachine). x.handles) is in
+    let Puts : List Line → HandleState → RunEnd → Type 0 = λ all k e. Appends t.old t.new (text_of (all ++ closing m.store k e)) in
+    let Leaves : List Line → HandleState → RunEnd → Type 0 = λ all k e. ComesTo b.catalog b.order (starts_of m last) m.store k (Some e) followed in
+    let here = subst (λ n. ComesTo b.catalog b.order n m.store handles (Some end) followed) (counted ∙ ap (starts_of m) is) leaves in
+    dxe_ends b h over ends.how t followed on (ap (λ (x : DxeMachine). x.ended) (sym is) ∙ ends.ended)
+    (same_end Puts lines (m.lines ++ last.lines) handles last.handles end (dxe_result ends.how) lines_are handles_are ends.end_is text)
+    (same_end Leaves lines (m.lines ++ last.lines) handles last.handles end (dxe_result ends.how) lines_are handles_are ends.end_is here)
+ends_by b Peims Drivers earlier m NoMemory lines handles end starts t followed names run ended ends counted text leaves =
+    ends_in_pei b earlier m NoMemory E.NoMemory end lines handles starts t followed run ended refl ends counted text leaves
+ends_by b Peims Drivers earlier m NoIpl lines handles end starts t followed names run ended ends counted text leaves =
+    ends_in_pei b earlier m NoIpl E.NoIpl end lines handles starts t followed run ended refl ends counted text leaves
+ends_by b Peims Drivers earlier m Spent lines handles end starts t followed names run ended ends counted text leaves =
+    ends_in_pei b earlier m Spent E.Spent end lines handles starts t followed run ended refl ends counted text leaves
+ends_by b Peims Drivers earlier m Deep lines handles end starts t followed names run ended ends counted text leaves =
+    ends_in_pei b earlier m Deep E.Deep end lines handles starts t followed run ended refl ends counted text leaves
 
--- what DXE comes to behind the hand-off
-pub dxe_finishes : (b : OrderBoot) (h : Handed b) (Names : DxeMachine → Option ℕ → Type 0) (left : Drivers) (first old mid new : Option (List ℕ)) (result : Result Followed Halt) → ((m : DxeMachine) (named : Option ℕ) → Names m named → drivers b h m named)
-    → HasRun Names (lets_driver b h) b.catalog b.fuel (opening h) (pei_starts h.pei) left old mid → Appends first old (text_of h.pei.lines)
-    → FinishesTo b.catalog b.order left.starts h.pei.store left.handles left.«end» (record { old = mid; new = new }) result → FollowsTo b.board b.catalog b.fuel b.order (record { old = first; new = new }) result
-dxe_finishes b h Names left first old mid new (Err halt) of ran text finished = tt
-dxe_finishes b h Names left first old mid new (Ok followed) of ran text finished = by left.«end» ran.stands here
-  where
-    m : DxeMachine
-    m = came b h ran.earlier
+-- the order's run of PEI
+runs : (b : OrderBoot) (Peims : PeiMachine → Option ℕ → Type 0) (Drivers : PeiMachine → DxeMachine → Option ℕ → Type 0) (earlier : List PeiMachine) (m : PeiMachine) → NamesAlike b Peims Drivers
+    → IsRunBy Peims (lets_peim b) b.catalog b.fuel (P.opening b) earlier m → IsRun b earlier m
+runs b Peims Drivers earlier m names run = run_of Peims (peims b) (lets_peim b) b.catalog b.fuel (P.opening b) earlier m names.in_pei run
 
-    run : IsDxeRun b h ran.earlier
-    run = dxe_run_of Names (drivers b h) (lets_driver b h) b.catalog b.fuel (opening h) ran.earlier of ran.run
+ran_follows : {M : Type 0} (b : OrderBoot) (Peims : PeiMachine → Option ℕ → Type 0) (Drivers : PeiMachine → DxeMachine → Option ℕ → Type 0) (stands : M → StoreState → Type 0) (ran : Ran M) (t : Texts) (followed : Followed) → NamesAlike b Peims Drivers
+    → HasRun (by_order b Peims Drivers) stands b.board b.catalog b.fuel ran t.old t.new → OfEach (stands ran.pei.store) Anything (λ s. ComesTo b.catalog b.order ran.starts s ran.handles (Some ran.«end») followed)
+    → FollowsTo b.board b.catalog b.fuel b.order t (Ok followed)
+ran_follows b Peims Drivers stands ran t followed names by leaves =
+    let boot = by.boot in
+    let m = boot.pei in
+    let here = leaves m.store by.left.store_is tt in
+    let P : HandleState → RunEnd → Type 0 = λ h e. ComesTo b.catalog b.order ran.starts m.store h (Some e) followed in
+    ends_by b Peims Drivers boot.comes.earlier m boot.how boot.lines boot.handles boot.result ran.starts t followed names (runs b Peims Drivers boot.comes.earlier m names boot.comes.run) boot.ended boot.ends by.starts_are by.text
+    (subst (P boot.handles) by.end_is (subst (λ h. P h ran.«end») by.handles_are here))
 
-    index : ℕ
-    index = pei_starts h.pei + length m.started
+-- a boot that was left in PEI
+stays_in_pei : {M : Type 0} (b : OrderBoot) (Peims : PeiMachine → Option ℕ → Type 0) (Drivers : PeiMachine → DxeMachine → Option ℕ → Type 0) (stands : M → StoreState → Type 0) (barred : Barred M) (t : Texts) (followed : Followed) → NamesAlike b Peims Drivers
+    → IsHeldBack Peims (lets_peim b) stands b.catalog b.fuel (P.opening b) barred t.old t.new → OfEach (stands barred.store) Anything (λ s. ComesTo b.catalog b.order barred.starts s no_handles None followed)
+    → FollowsTo b.board b.catalog b.fuel b.order t (Ok followed)
+stays_in_pei b Peims Drivers stands barred t followed names by leaves =
+    let m = by.m in
+    let due = due_of Peims (peims b) b.catalog m barred.number names.in_pei by.bars.due in
+    let bar : PeiBar b m barred.number = record { earlier = by.comes.earlier; run = runs b Peims Drivers by.comes.earlier m names by.comes.run; going = by.bars.running; due = due; barred = by.bars.barred } in
+    pei_bars b m barred.number bar t followed by.bars.text (subst (λ n. ComesTo b.catalog b.order n m.store no_handles None followed) by.starts_are (leaves m.store by.store_is tt))
 
-    t : Texts
-    t = record { old = mid; new = new }
+-- and one that was left in DXE
+stays_in_dxe : {M : Type 0} (b : OrderBoot) (Peims : PeiMachine → Option ℕ → Type 0) (Drivers : PeiMachine → DxeMachine → Option ℕ → Type 0) (stands : M → StoreState → Type 0) (left : Ended M) (barred : BarredDriver) (t : Texts) (followed : Followed) → NamesAlike b Peims Drivers
+    → IsBarredInDxe (by_order b Peims Drivers) stands b.board b.catalog b.fuel left barred t.old t.new → OfEach (stands left.store) Anything (λ s. ComesTo b.catalog b.order barred.starts s barred.handles None followed)
+    → FollowsTo b.board b.catalog b.fuel b.order t (Ok followed)
+stays_in_dxe b Peims Drivers stands left barred t followed names by leaves =
+    let pei = by.pei in
+    let bars = by.bars in
+    let h = handed b by.comes.earlier pei (runs b Peims Drivers by.comes.earlier pei names by.comes.run) by.ended in
+    let over = bars.comes.earlier in
+    let last = came b h over in
+    let is : bars.dxe ≡ last = bars.comes.is in
+    let on : IsDxeRun b h over = dxe_run_of (Drivers pei) (drivers b h) (lets_driver b h) b.catalog b.fuel (opening h) over (names.in_dxe pei) bars.comes.run in
+    let aimed = aimed_of (Drivers pei) (drivers b h) b.catalog bars.dxe bars.due.target (names.in_dxe pei) bars.due.aimed in
+    let bar : DxeBar b h bars.dxe barred.number = record {
+      come = subst (DxeCome b h) (sym is) (comes_in_dxe b h over on);
+      going = bars.running;
+      due = record { target = bars.due.target; aimed = aimed; starting = bars.due.starting };
+      barred = bars.bars;
+    } in
+    let Puts : DxeMachine → Type 0 = λ x. Appends t.old t.new (text_of (pei.lines ++ x.lines)) in
+    let Leaves : ℕ → HandleState → Type 0 = λ n k. ComesTo b.catalog b.order n pei.store k None followed in
+    let here = same_place Leaves barred.starts (starts_of pei last) barred.handles last.handles (bars.starts_are ∙ ap (starts_of pei) is) (bars.handles_are ∙ ap (λ (x : DxeMachine). x.handles) is) (leaves pei.store by.left_is.store_is tt) in
+    dxe_bars b h over barred.number on (subst (λ x. DxeBar b h x barred.number) is bar) t followed (subst Puts is bars.text) here
 
-    here : FinishesTo b.catalog b.order index h.pei.store m.handles left.«end» t (Ok followed)
-    here = subst (λ held. FinishesTo b.catalog b.order index h.pei.store held left.«end» t (Ok followed)) (sym ran.has)
-        (subst (λ n. FinishesTo b.catalog b.order n h.pei.store left.handles left.«end» t (Ok followed)) ran.starts_are finished)
+-- what a boot along an order is, by what it has come to
+pub follows : {M : Type 0} (b : OrderBoot) (Peims : PeiMachine → Option ℕ → Type 0) (Drivers : PeiMachine → DxeMachine → Option ℕ → Type 0) (stands : M → StoreState → Type 0) (booted : Booted M) (t : Texts) (followed : Followed) → NamesAlike b Peims Drivers
+    → HasCome (by_order b Peims Drivers) stands b.board b.catalog b.fuel t.old t.new booted → OfEach (stands (store_of booted)) Anything (λ s. LeavesBoot b.catalog b.order s booted followed) → FollowsTo b.board b.catalog b.fuel b.order t (Ok followed)
+follows b Peims Drivers stands (B.Ended ran) t followed names by leaves = ran_follows b Peims Drivers stands ran t followed names by leaves
+follows b Peims Drivers stands (B.BarredInPei barred) t followed names by leaves = stays_in_pei b Peims Drivers stands barred t followed names by leaves
+follows b Peims Drivers stands (B.BarredInDxe left barred) t followed names by leaves = stays_in_dxe b Peims Drivers stands left barred t followed names by leaves
 
-    both : Appends first mid (text_of (h.pei.lines ++ m.lines))
-    both = two_texts first old mid h.pei.lines m.lines text ran.text
-
-    by : (end : Option RunEnd) → StandsSo Names (lets_driver b h) b.catalog m end old mid → FinishesTo b.catalog b.order index h.pei.store m.handles end t (Ok followed) → FollowsTo b.board b.catalog b.fuel b.order (record { old = first; new = new }) (Ok followed)
-    by (Some so) stands last =
-        let this : FinishesTo b.catalog b.order index h.pei.store m.handles (Some (dxe_result stands.0)) t (Ok followed) = subst (λ e. FinishesTo b.catalog b.order index h.pei.store m.handles (Some e) t (Ok followed)) stands.2 last in
-        dxe_ends b h ran.earlier stands.0 (record { old = first; new = new }) followed run stands.1 (two_texts first mid new (h.pei.lines ++ m.lines) (closing h.pei.store m.handles (dxe_result stands.0)) both this.0) this.1
-    by None stands last =
-        let bars = stands.1 in
-        let bar : DxeBar b h m stands.0 = record { come = comes_in_dxe b h ran.earlier run; going = bars.running; due = record { target = bars.due.target; aimed = aimed_of Names (drivers b h) b.catalog m bars.due.target of bars.due.aimed; starting = bars.due.starting }; barred = bars.barred } in
-        dxe_bars b h ran.earlier stands.0 run bar (record { old = first; new = new }) followed (subst (Appends first new) (ap text_of (append-nil (h.pei.lines ++ m.lines))) (two_texts first mid new (h.pei.lines ++ m.lines) [] both last.0)) last.1
-
--- what ran in DXE, from what the run leaves; a driver that was not let has left the queue
-pub has_run : {M : Type 0} (Names : DxeMachine → Option ℕ → Type 0) (Lets : DxeMachine → ℕ → Bool) (stands : M → StoreState → Type 0) (store : M) (catalog : Catalog) (fuel : ℕ) (opening : DxeMachine) (core : DxeCore) (queue : Queue) (reached : Reached DxeEnd) (handles : HandleState) (in_pei starts : ℕ) (old new : Option (List ℕ))
-    → handles ≡ core.services.handles → starts ≡ in_pei + queue.left → RunsBy Names Lets stands store catalog fuel opening core queue old new (Ok reached)
-    → HasRun Names Lets catalog fuel opening in_pei (leaves reached starts handles) old new
-has_run Names Lets stands store catalog fuel opening core queue (R.End how) handles in_pei starts old new same counted run = record {
-  earlier = run.earlier;
-  run = run.run;
-  text = run.ended.text;
-  has = run.now.machine.core.services.handles ∙ sym same;
-  starts_are = counted ∙ ap (λ n. in_pei + n) run.now.queue.left;
-  stands = (how, run.ended.ended, refl);
-}
-has_run Names Lets stands store catalog fuel opening core queue (R.Barred number) handles in_pei starts old new same counted run =
-    let left = run.left.left in
-    record {
-      earlier = run.earlier;
-      run = run.run;
-      text = run.bars.text;
-      has = run.left.machine.core.services.handles ∙ sym same;
-      starts_are = omega (arith, counted, left);
-      stands = (number, run.bars);
-    }
-
--- a driver that was not let is counted
-pub is_counted : {M : Type 0} (Names : DxeMachine → Option ℕ → Type 0) (Lets : DxeMachine → ℕ → Bool) (stands : M → StoreState → Type 0) (store : M) (catalog : Catalog) (fuel : ℕ) (opening : DxeMachine) (core : DxeCore) (queue : Queue) (reached : Reached DxeEnd) (in_pei starts : ℕ) (old new : Option (List ℕ))
-    → starts ≡ in_pei + queue.left → RunsBy Names Lets stands store catalog fuel opening core queue old new (Ok reached) → IsCounted reached starts
-is_counted Names Lets stands store catalog fuel opening core queue (R.End how) in_pei starts old new counted run = tt
-is_counted Names Lets stands store catalog fuel opening core queue (R.Barred number) in_pei starts old new counted run = let left = run.left.left in omega (arith, counted, left)
+-- its store stands for a state
+pub stands_there : {M : Type 0} (choices : Choices) (stands : M → StoreState → Type 0) (b : OrderBoot) (old new : Option (List ℕ)) (booted : Booted M) → HasCome choices stands b.board b.catalog b.fuel old new booted → Present (stands (store_of booted)) Anything
+stands_there choices stands b old new (B.Ended ran) by = (by.boot.pei.store, by.left.store_is, tt)
+stands_there choices stands b old new (B.BarredInPei barred) by = (by.m.store, by.store_is, tt)
+stands_there choices stands b old new (B.BarredInDxe left barred) by = (by.pei.store, by.left_is.store_is, tt)

@@ -9,8 +9,8 @@ use Rattle.boot_trace.specs.Printing.{Texts}
 use Rattle.recorded_boot.specs.{declared.order.line.AskedStart.AskedStart, declared.order.line.Start.Start}
 use Rattle.recorded_boot.specs.{declared.order.lines.StartOrder.StartOrder, Starts.ComeFirst, Starts.starts}
 use Rattle.recorded_boot.proofs.Fronts.{first_of_first, starts-append}
-use Rattle.recorded_boot.specs.{declared.follow.against.Against.Against, declared.follow.following.Followed.Followed}
-use Rattle.recorded_boot.specs.declared.follow.following.Followed.TheVariants.{Ended, Stopped, No}
+use Rattle.recorded_boot.specs.{declared.follow.against.Against.Against, declared.follow.followed.Followed.Followed}
+use Rattle.recorded_boot.specs.declared.follow.followed.Followed.TheVariants.{Ended, Stopped, No}
 use Rattle.recorded_boot.specs.{Along.IsAlong, Along.IsIndex, Against.StandsAgainst, ByOrder.starts_of, Answer.IsAmongFree}
 use Rattle.recorded_boot.specs.Following.{IsBeforeStart, IsNo, StandsAt, StandsBehind}
 use Rattle.recorded_boot.specs.InOrder.{BootsInOrder, LeadsTo, Place, last_lines}

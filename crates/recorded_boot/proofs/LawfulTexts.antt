@@ -7,8 +7,8 @@ use Rattle.boot_model.specs.{declared.line.Line.Line, FreeRun.AreFreeLines, Plan
 use Rattle.boot_trace.specs.Printing.{Texts}
 use Rattle.boot_laws.specs.Boards.{BoardsAreSound}
 use Rattle.free_laws.specs.FreeBoots.{FreeBootsAreLawful}
-use Rattle.recorded_boot.specs.{declared.order.lines.StartOrder.StartOrder, declared.follow.following.Followed.Followed, Answer.IsAmongFree}
-use Rattle.recorded_boot.specs.declared.follow.following.Followed.TheVariants.{Ended, Stopped, No}
+use Rattle.recorded_boot.specs.{declared.order.lines.StartOrder.StartOrder, declared.follow.followed.Followed.Followed, Answer.IsAmongFree}
+use Rattle.recorded_boot.specs.declared.follow.followed.Followed.TheVariants.{Ended, Stopped, No}
 use Rattle.recorded_boot.specs.Following.{IsBeforeStart}
 use Rattle.recorded_boot.specs.Lawful.{BootsLawfully, FollowedIsLawful, IsLawfullyFollowed, PutsLawfully, YesIsLawful}
 

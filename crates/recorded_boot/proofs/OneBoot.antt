@@ -10,9 +10,9 @@ use Rattle.boot_model.specs.{declared.line.RunEnd.RunEnd, PlanBoard.board_of, Te
 use Rattle.recorded_boot.proofs.{Modules.one_module, OnePlace.one_place, PeiOrder.OrderBoot}
 use Rattle.recorded_boot.specs.{Named.HasNoTwins, Named.IsFirstWithTwins, declared.order.line.AskedStart.AskedStart}
 use Rattle.recorded_boot.specs.{declared.order.line.Start.Start, declared.order.lines.StartOrder.StartOrder}
-use Rattle.recorded_boot.specs.{declared.follow.against.Against.Against, declared.follow.following.Followed.Followed}
+use Rattle.recorded_boot.specs.{declared.follow.against.Against.Against, declared.follow.followed.Followed.Followed}
 use Rattle.recorded_boot.specs.declared.follow.against.Against.TheVariants.{Unknown, Started, NotEligible}
-use Rattle.recorded_boot.specs.declared.follow.following.Followed.TheVariants.{Ended, Stopped, No}
+use Rattle.recorded_boot.specs.declared.follow.followed.Followed.TheVariants.{Ended, Stopped, No}
 use Rattle.recorded_boot.specs.{declared.follow.images.FollowFault.FollowFault, Answer.FollowsTo, ByOrder.starts_of}
 use Rattle.recorded_boot.specs.declared.follow.images.FollowFault.TheVariants.{Image, Twins, Sink, Memory}
 use Rattle.recorded_boot.specs.Against.{IsModuleOf, StandsAgainst, is_installed, lacking, pushed_in}

@@ -14,12 +14,12 @@ use Rattle.boot_model.specs.{Listing.store_lines, PeiMachine.PeiMachine, Text.te
 use Rattle.boot_trace.specs.Printing.{Texts}
 use Rattle.boot_laws.proofs.DxeRuns as DxeRuns
 use Rattle.boot_laws.proofs.PeiRuns as PeiRuns
-use Rattle.recorded_boot.specs.{Starts.starts, declared.follow.following.Followed.Followed, Along.IsAlong, Answer.FollowsTo}
+use Rattle.recorded_boot.specs.{Starts.starts, declared.follow.followed.Followed.Followed, Along.IsAlong, Answer.FollowsTo}
 use Rattle.recorded_boot.proofs.{Runs.pei_leads, Along.lets_stop, ClosingStarts.closing_quiet, Itself.dxe_itself, Itself.pei_itself}
 use Rattle.pei_dispatch.specs.Ends.{pei_starts}
-use Rattle.boot_core.specs.Closing.{closing}
+use Rattle.boot_core.specs.{Closing.closing, HandOff.result_of as pei_result}
 use Rattle.recorded_boot.specs.InOrder.{BarsInDxe, BarsInPei, IsDxePlace, IsPeiPlace, LeadsTo, StandsInDxe, dxe_place, order_choices, pei_place}
-use Rattle.recorded_boot.specs.{Behind.pei_result, Following.stands_in_pei, Following.stands_in_dxe, Leaving.ComesTo}
+use Rattle.recorded_boot.specs.{Following.stands_in_pei, Following.stands_in_dxe, Leaving.ComesTo}
 use Rattle.recorded_boot.proofs.Comings.{Stand, barred_comes, ended_comes, in_order}
 use Rattle.recorded_boot.proofs.PeiOrder as P
 use Rattle.recorded_boot.proofs.PeiOrder.{Comes, IsRun, OrderBoot, PeiBar}

@@ -78,8 +78,14 @@ behind b pei = record {
 
 abbrev pub TextChoices : TextBoot → Choices
 TextChoices b =
-    choices_of (λ text starts named. NamesNext Pei b.run.names text named) (λ starts number. true) (λ text starts named. NamesNext Dxe b.run.names text named) (λ starts number. true)
-    told_by faults_of b.run.first
+    choices_of (record {
+      peims = λ text starts named. NamesNext Pei b.run.names text named;
+      lets_in_pei = λ starts number. true;
+      drivers = λ text starts named. NamesNext Dxe b.run.names text named;
+      lets_in_dxe = λ starts number. true;
+      text = told_by;
+      faults = faults_of;
+    }) b.run.first
 
 abbrev Opening : TextBoot → PeiMachine → List Line → Type 0
 Opening b pei = AreFreeDxeLines b.run.catalog b.run.fuel pei (dxe_opening b.run.catalog pei.store pei.actions)

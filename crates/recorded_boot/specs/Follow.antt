@@ -10,7 +10,7 @@ use Rattle.mod_catalog.specs.ImageFault.{IsImageFault}
 use Rattle.boot_model.specs.PlanBoard.{board_of}
 use Rattle.boot_trace.specs.Printing.{Texts}
 use Rattle.recorded_boot.specs.{Named.HasNoTwins, Named.IsFirstWithTwins, declared.order.lines.StartOrder.StartOrder}
-use Rattle.recorded_boot.specs.{declared.follow.images.FollowFault.FollowFault, declared.follow.following.Followed.Followed}
+use Rattle.recorded_boot.specs.{declared.follow.images.FollowFault.FollowFault, declared.follow.followed.Followed.Followed}
 use Rattle.recorded_boot.specs.declared.follow.images.FollowFault.TheVariants.{Image, Twins, Sink, Memory}
 use Rattle.recorded_boot.specs.Answer.{FollowsTo}
 

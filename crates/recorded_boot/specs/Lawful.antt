@@ -7,8 +7,8 @@ use Rattle.mod_catalog.specs.{declared.catalogue.Catalog.Catalog, Catalogue.IsCa
 use Rattle.boot_model.specs.{declared.line.Line.Line, PlanBoard.board_of, Text.text_of}
 use Rattle.boot_trace.specs.Printing.{Texts}
 use Rattle.free_laws.specs.FreeBoots.{AreLawfulLines}
-use Rattle.recorded_boot.specs.{declared.order.lines.StartOrder.StartOrder, declared.follow.following.Followed.Followed, Follow.Follows}
-use Rattle.recorded_boot.specs.declared.follow.following.Followed.TheVariants.{Ended, Stopped, No}
+use Rattle.recorded_boot.specs.{declared.order.lines.StartOrder.StartOrder, declared.follow.followed.Followed.Followed, Follow.Follows}
+use Rattle.recorded_boot.specs.declared.follow.followed.Followed.TheVariants.{Ended, Stopped, No}
 use Rattle.recorded_boot.specs.{declared.trace.verdict.Verdict.TheVariants.Yes, Checking.Checks}
 
 -- a boot of a plan and its images that obeys the laws has these lines

@@ -19,8 +19,6 @@ pub mod Following
 pub mod Leaving
 pub mod InOrder
 pub mod Answer
-pub mod Drivers
-pub mod Behind
 pub mod Follow
 pub mod OneBoot
 pub mod DxeAim

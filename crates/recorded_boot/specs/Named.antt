@@ -1,4 +1,5 @@
--- Modules by volume and file name. PI 1.8, volume 3, "Firmware File Section", requires the file names of a volume to differ; a catalogue may still have twins.
+-- Modules by volume and file name. PI 1.8, volume 3, "Firmware File System", has the file name in the file header, and requires the names of a volume to
+-- differ; a catalogue may still have twins.
 use Rattle.std.specs.Prelude.{◌≡◌, ◌<◌, ℕ, List, Option, Some, slice_get, length, option_and_then}
 use Rattle.pi_base.specs.{declared.guid.Guid.Guid, Lists.Each, GuidMap.value_of}
 use Rattle.line_words.specs.PrintedWords.{IsGuid}

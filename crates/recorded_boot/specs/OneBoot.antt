@@ -6,7 +6,7 @@ use Rattle.boot_plan.specs.declared.plan.Plan.{Plan}
 use Rattle.mod_catalog.specs.{declared.catalogue.Catalog.Catalog, WellFormed.IsWellFormed}
 use Rattle.store_model.specs.StoreState.{Board}
 use Rattle.boot_trace.specs.Printing.{Texts}
-use Rattle.recorded_boot.specs.{Named.HasNoTwins, declared.order.lines.StartOrder.StartOrder, declared.follow.following.Followed.Followed}
+use Rattle.recorded_boot.specs.{Named.HasNoTwins, declared.order.lines.StartOrder.StartOrder, declared.follow.followed.Followed.Followed}
 use Rattle.recorded_boot.specs.{declared.follow.images.FollowFault.FollowFault, Answer.FollowsTo, Follow.Follows}
 use Rattle.recorded_boot.specs.declared.follow.images.FollowFault.TheVariants.{Image, Twins, Sink, Memory}
 

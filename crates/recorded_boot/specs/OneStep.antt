@@ -1,5 +1,5 @@
 -- From a machine, the starts of a boot determine which of the free steps it takes: two steps that print the same starts are the same, if no volume has two
--- modules of one file name. PI 1.8, volume 3, "Firmware File System", requires the names of a volume to differ.
+-- modules of one file name. PI 1.8, volume 3, "Firmware File System", has the file name in the file header, and requires the names of a volume to differ.
 use Rattle.std.specs.Prelude.{◌≡◌, ℕ, List, None}
 use Rattle.mod_catalog.specs.declared.catalogue.Catalog.{Catalog}
 use Rattle.boot_model.specs.{FreeRun.IsFreePeiStep, FreeRun.IsFreeInDxe, PeiMachine.PeiMachine, DxeMachine.DxeMachine, DxeStep.dxe_case_of}

@@ -5,14 +5,13 @@
 
 mod against;
 mod by_order;
-mod drivers;
-mod following;
+mod followed;
 mod images;
 mod lacking;
 mod laws;
 
 pub use against::Against;
 pub use by_order::ByOrder;
-pub use following::Followed;
+pub use followed::Followed;
 pub use images::{FollowFault, follow};
 pub use laws::one_boot;

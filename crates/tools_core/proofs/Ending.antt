@@ -3,7 +3,7 @@ use Rattle.std.proofs.Common.{◌≡◌, ℕ, List, Option, Result, Ok, Err, ref
 use Rattle.pi_base.specs.declared.memory.OutOfMemory.{OutOfMemory}
 use Rattle.boot_io.specs.{declared.sink.SinkFault.SinkFault, Sink.Puts, Sink.SinkFaultsAfter}
 use Rattle.tools_core.specs.{declared.report.Report.Report, declared.status.ToolStatus.ToolStatus}
-use Rattle.recorded_boot.specs.declared.follow.following.Followed.TheVariants as F
+use Rattle.recorded_boot.specs.declared.follow.followed.Followed.TheVariants as F
 use Rattle.tools_core.specs.declared.report.Report.TheVariants as R
 use Rattle.tools_core.specs.{declared.status.ToolStatus.TheVariants.Done, FileReading.FilesTrail}
 use Rattle.boot_model.specs.declared.line.RunEnd.TheVariants as E

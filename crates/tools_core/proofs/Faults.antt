@@ -23,8 +23,8 @@ use Rattle.tools_core.specs.ReportText.{end_status, followed_status}
 use Rattle.tools_core.specs.Ends.{Answered, Ends, IsDue, NoMemory, SinkFailed, Trail, outcome, unread}
 use Rattle.tools_core.specs.FollowReport.{FollowReport, OrderReport, bad_order, boots, image_refused as of_image, in_order, long_order, long_plan, texts_read, twins as of_twins}
 use Rattle.tools_core.specs.GcdReport.{GcdReport, command_refused, done, hobs_refused}
-use Rattle.recorded_boot.specs.{declared.order.lines.StartOrder.StartOrder, declared.follow.following.Followed.Followed}
-use Rattle.recorded_boot.specs.declared.follow.following.Followed.TheVariants as F
+use Rattle.recorded_boot.specs.{declared.order.lines.StartOrder.StartOrder, declared.follow.followed.Followed.Followed}
+use Rattle.recorded_boot.specs.declared.follow.followed.Followed.TheVariants as F
 use Rattle.tools_core.specs.MpReport.{MpReport, ran, refused}
 use Rattle.tools_core.specs.Outcome.{ContentReport, Names, Outcome, both, commands_long, content, hobs_long, long, usage, words_ask_follow, words_ask_plan, words_ask_map, words_ask_tool, words_ask_trace}
 use Rattle.tools_core.specs.PrintReport.{PrintReport, printed, no_volume}

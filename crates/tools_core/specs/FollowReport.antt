@@ -6,7 +6,7 @@ use Rattle.mod_catalog.specs.{declared.catalogue.Catalog.Catalog, declared.image
 use Rattle.mod_catalog.specs.ImageFault.{IsImageFault}
 use Rattle.boot_model.specs.PlanBoard.{board_of}
 use Rattle.recorded_boot.specs.{Named.HasNoTwins, Named.IsFirstWithTwins, declared.order.lines.StartOrder.StartOrder}
-use Rattle.recorded_boot.specs.{OrderText.IsFirstBad, OrderText.IsOrder, declared.follow.following.Followed.Followed, Answer.FollowsTo}
+use Rattle.recorded_boot.specs.{OrderText.IsFirstBad, OrderText.IsOrder, declared.follow.followed.Followed.Followed, Answer.FollowsTo}
 use Rattle.boot_core.specs.{Job.IsNamedIn, Reading.plan_limit}
 use Rattle.tools_core.specs.{declared.status.ToolStatus.ToolStatus, FileReading.IsRead, FileReading.LongOutcome}
 use Rattle.tools_core.specs.declared.status.ToolStatus.TheVariants.{ImageRefused, OrderRefused, Twins}

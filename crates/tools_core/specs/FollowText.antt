@@ -2,9 +2,9 @@
 use Rattle.std.specs.Prelude.{ℕ, List, [], ◌∷◌, ◌++◌, codes, decimal, flat_map}
 use Rattle.boot_io.specs.Line.{line_of, spaced}
 use Rattle.pi_base.specs.{declared.guid.Guid.Guid, WordText.guid_text}
-use Rattle.recorded_boot.specs.{declared.follow.against.Against.Against, declared.follow.following.Followed.Followed}
+use Rattle.recorded_boot.specs.{declared.follow.against.Against.Against, declared.follow.followed.Followed.Followed}
 use Rattle.recorded_boot.specs.declared.follow.against.Against.TheVariants.{Unknown, Started, NotEligible}
-use Rattle.recorded_boot.specs.declared.follow.following.Followed.TheVariants.{Ended, Stopped, No}
+use Rattle.recorded_boot.specs.declared.follow.followed.Followed.TheVariants.{Ended, Stopped, No}
 use Rattle.tools_core.specs.Refusals.{no_line}
 
 unfoldable pub refused_order : List ℕ

@@ -4,62 +4,84 @@ ghost use Rattle.boot_io.specs.Halted.{HaltsAfter};
 ghost use Rattle.boot_model.specs.declared.phase_end.PeiEnd.TheVariants.{Handoff};
 ghost use Rattle.mod_catalog.specs.WellFormed.{IsWellFormed};
 ghost use Rattle.store_model.specs.{HandleState.no_handles, Service.Present, Service.OfEach, StoreCall.Anything};
-ghost use Rattle.boot_core.specs.{declared.whole.behind.Behind.TheVariants.Closed, Behind.BootsBehind, Closing.closing_text};
-ghost use Rattle.boot_core.specs.FirstBoot.{Tells};
+ghost use Rattle.boot_core.specs.{declared.whole.behind.Behind.TheVariants.Closed, Closing.closing_text};
+ghost use Rattle.boot_core.specs.{FirstBoot.Tells, Watched.BootsBehind};
 
 use crate::whole::closing::{put_closing, result_of};
 use boot_io::{Halt, Sink};
 use boot_laws::Choice;
 use boot_model::{PeiEnd, RunEnd};
 use dxe_core::database::Handles;
-use dxe_dispatch::{Barred, Left, boot_dxe};
+use dxe_dispatch::{Barred, DxeWatch, Left, watch_boot};
 use mod_catalog::Catalog;
 use pei_dispatch::Ended;
 use std::alloc::Global;
 use store_model::PeiStore;
 
+/// What a boot leaves behind its last line, besides its store.
+#[derive(Drop)]
+pub(crate) struct Last {
+    /// The result, which the last line tells.
+    pub(crate) end: RunEnd,
+    /// The handles, with their interfaces. There are none without a DXE.
+    pub(crate) handles: Handles,
+    /// How many starts there were in both phases.
+    pub(crate) starts: u64,
+}
+
 /// What follows PEI comes to.
 #[derive(Drop)]
 pub(crate) enum Behind {
-    /// The last line, which tells this result.
-    Closed(RunEnd),
+    /// The last line.
+    Closed(Last),
     /// The start of a driver that the choice does not let.
     Barred(Barred),
 }
 
-// The last lines, which tell this result.
-fn close<M: PeiStore, S: Sink>(
-    store: &M,
-    handles: &Handles,
-    end: RunEnd,
-    sink: &mut S,
-) -> Result<Behind, Halt>
+// The last lines, over what the boot leaves.
+fn close<M: PeiStore, S: Sink>(store: &M, last: Last, sink: &mut S) -> Result<Behind, Halt>
     requires state { Present (M.stands_for store.now) Anything }
-    requires few { length handles.now.interfaces < 2 ^ 32 }
-    ensures row { OfEach (M.stands_for store.now) Anything (λ s. Tells (λ behind. behind ≡ Closed end) (closing_text s handles.now end)
+    requires few { length last.handles.interfaces < 2 ^ 32 }
+    ensures row { OfEach (M.stands_for store.now) Anything (λ s. Tells (λ behind. behind ≡ Closed last) (closing_text s last.handles last.end)
         (record { old = S.text sink.old; new = S.text sink.new }) result) }
     ensures faults { HaltsAfter result (S.faults sink.old) (S.faults sink.new) }
 {
-    put_closing(sink, store, handles, end)?;
-    Ok(Behind::Closed(end))
+    put_closing(sink, store, &last.handles, last.end)?;
+    Ok(Behind::Closed(last))
 }
 
 // DXE behind the hand-off.
-fn boot_drivers<M: PeiStore + Drop, S: Sink, C: Choice<S>>(
+fn boot_drivers<M: PeiStore + Drop, S: Sink, C: Choice<S>, D: DxeWatch>(
     alloc: Global,
     pei: &Ended<M>,
     catalog: &Catalog,
     fuel: u32,
     choice: &C,
+    watch: &mut D,
     sink: &mut S,
 ) -> Result<Behind, Halt>
     requires catalog { IsWellFormed catalog.now }
     requires state { Present (M.stands_for pei.now.store) Anything }
-    ensures row { BootsBehind (C.peims choice.now) (C.lets_in_pei choice.now) (C.drivers choice.now) (C.lets_in_dxe choice.now)
-        S.text S.faults M.stands_for pei.now Handoff catalog.now fuel sink.old sink.new result }
+    requires watch { D.is_new watch.old }
+    ensures row { BootsBehind (D.knows_all watch.new) (record {
+      rules = record {
+        peims = C.peims choice.now;
+        lets_in_pei = C.lets_in_pei choice.now;
+        drivers = C.drivers choice.now;
+        lets_in_dxe = C.lets_in_dxe choice.now;
+        text = S.text;
+        faults = S.faults;
+      };
+      stands = M.stands_for;
+      takes = M.TAKES_MEMORY;
+      catalog = catalog.now;
+      fuel = fuel;
+      sink = sink.old;
+      shown = sink.new;
+    }) pei.now Handoff result }
     ensures faults { HaltsAfter result (S.faults sink.old) (S.faults sink.new) }
 {
-    match boot_dxe(
+    match watch_boot(
         alloc,
         &pei.store,
         catalog,
@@ -67,55 +89,81 @@ fn boot_drivers<M: PeiStore + Drop, S: Sink, C: Choice<S>>(
         pei.actions,
         pei.starts,
         choice,
+        watch,
         sink,
     )? {
         Left::Ended(ended) => {
-            let closed = close(&pei.store, &ended.handles, result_of(ended.end), sink);
-            drop(ended);
-            closed
+            let last = Last {
+                end: result_of(ended.end),
+                handles: ended.handles,
+                starts: ended.starts,
+            };
+            close(&pei.store, last, sink)
         }
         Left::Barred(barred) => Ok(Behind::Barred(barred)),
     }
 }
 
 // The last lines of a boot that ended in PEI, where there are no handles.
-fn close_pei<M: PeiStore, S: Sink>(
+fn close_pei<M: PeiStore + Drop, S: Sink>(
     alloc: Global,
-    store: &M,
+    pei: &Ended<M>,
     end: RunEnd,
     sink: &mut S,
 ) -> Result<Behind, Halt>
-    requires state { Present (M.stands_for store.now) Anything }
-    ensures row { OfEach (M.stands_for store.now) Anything (λ s. Tells (λ behind. behind ≡ Closed end) (closing_text s no_handles end)
-        (record { old = S.text sink.old; new = S.text sink.new }) result) }
+    requires state { Present (M.stands_for pei.now.store) Anything }
+    ensures row { OfEach (M.stands_for pei.now.store) Anything (λ s. Tells (λ behind. behind ≡ Closed (record {
+      «end» = end;
+      handles = no_handles;
+      starts = pei.now.starts;
+    }))
+        (closing_text s no_handles end) (record { old = S.text sink.old; new = S.text sink.new }) result) }
     ensures faults { HaltsAfter result (S.faults sink.old) (S.faults sink.new) }
 {
-    let none = Handles::new(alloc);
-    let closed = close(store, &none, end, sink);
-    drop(none);
-    closed
+    let last = Last {
+        end,
+        handles: Handles::new(alloc),
+        starts: u64::from(pei.starts),
+    };
+    close(&pei.store, last, sink)
 }
 
 /// What follows PEI.
-pub(crate) fn boot_behind<M: PeiStore + Drop, S: Sink, C: Choice<S>>(
+pub(crate) fn boot_behind<M: PeiStore + Drop, S: Sink, C: Choice<S>, D: DxeWatch>(
     alloc: Global,
     pei: &Ended<M>,
     catalog: &Catalog,
     fuel: u32,
     choice: &C,
+    watch: &mut D,
     sink: &mut S,
 ) -> Result<Behind, Halt>
     requires catalog { IsWellFormed catalog.now }
     requires state { Present (M.stands_for pei.now.store) Anything }
-    ensures row { BootsBehind (C.peims choice.now) (C.lets_in_pei choice.now) (C.drivers choice.now) (C.lets_in_dxe choice.now)
-        S.text S.faults M.stands_for pei.now pei.now.end catalog.now fuel sink.old sink.new result }
+    requires watch { D.is_new watch.old }
+    ensures row { BootsBehind (D.knows_all watch.new) (record {
+      rules = record {
+        peims = C.peims choice.now;
+        lets_in_pei = C.lets_in_pei choice.now;
+        drivers = C.drivers choice.now;
+        lets_in_dxe = C.lets_in_dxe choice.now;
+        text = S.text;
+        faults = S.faults;
+      };
+      stands = M.stands_for;
+      takes = M.TAKES_MEMORY;
+      catalog = catalog.now;
+      fuel = fuel;
+      sink = sink.old;
+      shown = sink.new;
+    }) pei.now pei.now.end result }
     ensures faults { HaltsAfter result (S.faults sink.old) (S.faults sink.new) }
 {
     match pei.end {
-        PeiEnd::Handoff => boot_drivers(alloc, pei, catalog, fuel, choice, sink),
-        PeiEnd::NoMemory => close_pei(alloc, &pei.store, RunEnd::NoMemory, sink),
-        PeiEnd::NoIpl => close_pei(alloc, &pei.store, RunEnd::NoIpl, sink),
-        PeiEnd::Spent => close_pei(alloc, &pei.store, RunEnd::Spent, sink),
-        PeiEnd::Deep => close_pei(alloc, &pei.store, RunEnd::Deep, sink),
+        PeiEnd::Handoff => boot_drivers(alloc, pei, catalog, fuel, choice, watch, sink),
+        PeiEnd::NoMemory => close_pei(alloc, pei, RunEnd::NoMemory, sink),
+        PeiEnd::NoIpl => close_pei(alloc, pei, RunEnd::NoIpl, sink),
+        PeiEnd::Spent => close_pei(alloc, pei, RunEnd::Spent, sink),
+        PeiEnd::Deep => close_pei(alloc, pei, RunEnd::Deep, sink),
     }
 }

@@ -6,6 +6,7 @@ ghost use Rattle.store_model.specs.StoreState.{Board, empty_store};
 ghost use Rattle.boot_core.specs.FirstBoot.{RunsTo, WantsOutsidePei};
 
 use crate::whole::boot::{Booted, Ran, boot_by_choice};
+use crate::whole::watch::nobody;
 use boot_io::{Halt, Sink};
 use boot_laws::{FirstEligible, dxe_runs_end, pei_runs_end};
 use mod_catalog::Catalog;
@@ -31,7 +32,16 @@ pub fn boot_store<M: PeiStore + Drop, S: Sink>(
 {
     pei_runs_end();
     dxe_runs_end();
-    match boot_by_choice(alloc, store, catalog, fuel, &FirstEligible, sink)? {
+    let mut watch = nobody();
+    match boot_by_choice(
+        alloc,
+        store,
+        catalog,
+        fuel,
+        &FirstEligible,
+        &mut watch,
+        sink,
+    )? {
         Booted::Ended(ran) => Ok(ran),
         Booted::BarredInPei(_) | Booted::BarredInDxe { .. } => unreachable!(),
     }

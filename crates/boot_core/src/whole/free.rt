@@ -8,8 +8,14 @@ use boot_laws::{
 
 /// Whatever the choice, free steps alone lead to each machine to which its boots come, and where one comes to its end its lines are those of a free boot.
 pub fn choices_are_free<S: Sink, C: Choice<S>>(choice: &C)
-    ensures { (first : S) → AreFree (choices_of (C.peims choice.now) (C.lets_in_pei choice.now)
-        (C.drivers choice.now) (C.lets_in_dxe choice.now) S.text S.faults first) }
+    ensures { (first : S) → AreFree (choices_of (record {
+      peims = C.peims choice.now;
+      lets_in_pei = C.lets_in_pei choice.now;
+      drivers = C.drivers choice.now;
+      lets_in_dxe = C.lets_in_dxe choice.now;
+      text = S.text;
+      faults = S.faults;
+    }) first) }
 {
     cursor_aims();
     pei_starts_freely();

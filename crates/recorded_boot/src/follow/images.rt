@@ -9,7 +9,7 @@ ghost use Rattle.recorded_boot.specs.{Named.AreNames, Named.HasNoTwins, Answer.F
 ghost use Rattle.recorded_boot.specs.Follow.{FaultsAfter, Follows, FollowsCatalog, IsFaultTold};
 
 use crate::follow::by_order::ByOrder;
-use crate::follow::following::{Followed, follow_boot};
+use crate::follow::followed::{Followed, follow_boot};
 use crate::order::{Names, NamesFault, StartOrder};
 use boot_core::whole::roms;
 use boot_io::{Halt, Sink};

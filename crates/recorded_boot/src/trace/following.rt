@@ -8,7 +8,7 @@ ghost use Rattle.recorded_boot.specs.FollowingText.{FollowsBoot, IsFollowed};
 use crate::order::{Names, names_are_guids};
 use crate::trace::by_text::ByText;
 use crate::trace::{Parted, Spelled, text_tells};
-use boot_core::whole::{Booted, boot_by_choice};
+use boot_core::whole::{Booted, boot_by_choice, nobody};
 use boot_io::Halt;
 use boot_laws::{
     cursor_aims, dxe_chooses_by_groups, dxe_ends, dxe_goes_on, dxe_lines_grow, dxe_opens,
@@ -62,6 +62,15 @@ pub(crate) fn follow_boot<M: PeiStore + Drop>(
     few_drivers_wait();
     dxe_lines_grow();
     dxe_ends();
-    let booted = boot_by_choice(alloc, store, catalog, fuel, &ByText { names }, text);
+    let mut watch = nobody();
+    let booted = boot_by_choice(
+        alloc,
+        store,
+        catalog,
+        fuel,
+        &ByText { names },
+        &mut watch,
+        text,
+    );
     followed(booted)
 }

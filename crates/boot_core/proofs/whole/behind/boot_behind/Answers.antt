@@ -2,7 +2,6 @@ use Rattle.std.proofs.Common.{refl}
 use Rattle.boot_model.specs.declared.line.RunEnd.TheVariants as E
 use Rattle.boot_model.specs.declared.phase_end.PeiEnd.TheVariants as M
 use Rattle.store_model.specs.HandleState.{no_handles}
-use Rattle.boot_core.specs.Choices.{choices_of}
 use Rattle.boot_core.proofs.BehindPei.{closes}
 use Rattle.boot_core.proofs.whole.behind.boot_behind.Goals as goal
 
@@ -26,40 +25,16 @@ returns-in-Handoff-clause-row g c = λ pei first left has. rw c.in-Handoff.is (c
 
 pub returns-in-NoMemory-clause-row : goal.returns-in-NoMemory-clause-row
 returns-in-NoMemory-clause-row g c = λ pei first left has.
-    let T = g.S.Sink.text in
-    let F = g.S.Sink.faults in
-    let C = g.C.Choice in
-    let choice = c.args.choice.now in
-    let choices = choices_of (C.peims choice) (C.lets_in_pei choice) (C.drivers choice) (C.lets_in_dxe choice) T F first in
-    rw c.in-NoMemory.is (closes choices T F c.args.catalog.now c.args.fuel pei M.NoMemory first c.args.sink.now c.close_pei.new.sink pei.lines no_handles E.NoMemory c.close_pei.result (record { lines_are = refl; handles_are = refl; end_is = refl }) has
-    (c.close_pei.ensures.row pei.store left.store_is tt))
+    rw c.in-NoMemory.is (closes _ _ pei M.NoMemory first c.args.sink.now pei.lines (record { «end» = E.NoMemory; handles = no_handles; starts = c.args.pei.now.starts }) c.close_pei.result (record { lines_are = refl; handles_are = refl; end_is = refl }) left.starts_are tt has (c.close_pei.ensures.row pei.store left.store_is tt))
 
 pub returns-in-NoIpl-clause-row : goal.returns-in-NoIpl-clause-row
 returns-in-NoIpl-clause-row g c = λ pei first left has.
-    let T = g.S.Sink.text in
-    let F = g.S.Sink.faults in
-    let C = g.C.Choice in
-    let choice = c.args.choice.now in
-    let choices = choices_of (C.peims choice) (C.lets_in_pei choice) (C.drivers choice) (C.lets_in_dxe choice) T F first in
-    rw c.in-NoIpl.is (closes choices T F c.args.catalog.now c.args.fuel pei M.NoIpl first c.args.sink.now c.close_pei-in-NoIpl.new.sink pei.lines no_handles E.NoIpl c.close_pei-in-NoIpl.result (record { lines_are = refl; handles_are = refl; end_is = refl }) has
-    (c.close_pei-in-NoIpl.ensures.row pei.store left.store_is tt))
+    rw c.in-NoIpl.is (closes _ _ pei M.NoIpl first c.args.sink.now pei.lines (record { «end» = E.NoIpl; handles = no_handles; starts = c.args.pei.now.starts }) c.close_pei-in-NoIpl.result (record { lines_are = refl; handles_are = refl; end_is = refl }) left.starts_are tt has (c.close_pei-in-NoIpl.ensures.row pei.store left.store_is tt))
 
 pub returns-in-Spent-clause-row : goal.returns-in-Spent-clause-row
 returns-in-Spent-clause-row g c = λ pei first left has.
-    let T = g.S.Sink.text in
-    let F = g.S.Sink.faults in
-    let C = g.C.Choice in
-    let choice = c.args.choice.now in
-    let choices = choices_of (C.peims choice) (C.lets_in_pei choice) (C.drivers choice) (C.lets_in_dxe choice) T F first in
-    rw c.in-Spent.is (closes choices T F c.args.catalog.now c.args.fuel pei M.Spent first c.args.sink.now c.close_pei-in-Spent.new.sink pei.lines no_handles E.Spent c.close_pei-in-Spent.result (record { lines_are = refl; handles_are = refl; end_is = refl }) has
-    (c.close_pei-in-Spent.ensures.row pei.store left.store_is tt))
+    rw c.in-Spent.is (closes _ _ pei M.Spent first c.args.sink.now pei.lines (record { «end» = E.Spent; handles = no_handles; starts = c.args.pei.now.starts }) c.close_pei-in-Spent.result (record { lines_are = refl; handles_are = refl; end_is = refl }) left.starts_are tt has (c.close_pei-in-Spent.ensures.row pei.store left.store_is tt))
 
 pub returns-in-Deep-clause-row : goal.returns-in-Deep-clause-row
 returns-in-Deep-clause-row g c = λ pei first left has.
-    let T = g.S.Sink.text in
-    let F = g.S.Sink.faults in
-    let C = g.C.Choice in
-    let choice = c.args.choice.now in
-    let choices = choices_of (C.peims choice) (C.lets_in_pei choice) (C.drivers choice) (C.lets_in_dxe choice) T F first in
-    rw c.in-Deep.is (closes choices T F c.args.catalog.now c.args.fuel pei M.Deep first c.args.sink.now c.close_pei-in-Deep.new.sink pei.lines no_handles E.Deep c.close_pei-in-Deep.result (record { lines_are = refl; handles_are = refl; end_is = refl }) has
-    (c.close_pei-in-Deep.ensures.row pei.store left.store_is tt))
+    rw c.in-Deep.is (closes _ _ pei M.Deep first c.args.sink.now pei.lines (record { «end» = E.Deep; handles = no_handles; starts = c.args.pei.now.starts }) c.close_pei-in-Deep.result (record { lines_are = refl; handles_are = refl; end_is = refl }) left.starts_are tt has (c.close_pei-in-Deep.ensures.row pei.store left.store_is tt))

@@ -23,7 +23,7 @@ returns-clause-row g c = λ board here.
       numbered = c.requires.catalog.parents;
     } in
     let Comes : Booted g.row.M.Denot → Type 0 = λ x. HasCome choices stands board catalog c.args.fuel (T sink) (T shown) x in
-    first_ran choices stands board catalog c.args.fuel (T sink) (T shown) c.in-Ended.ran own (subst Comes c.in-Ended.is (c.in_ok-ran.ensures.row board here))
+    first_ran choices stands board catalog c.args.fuel (T sink) (T shown) c.in-Ended.ran own (subst Comes c.in-Ended.is (c.in_ok-ran.ensures.row board here).by)
 
 pub returns-in_err-ran-clause-row : goal.returns-in_err-ran-clause-row
 returns-in_err-ran-clause-row g c = λ board here.
@@ -42,7 +42,7 @@ returns-in_err-ran-clause-row g c = λ board here.
       numbered = c.requires.catalog.parents;
     } in
     let p = err_from_is_err_and c.from_residual.result c.from_residual.ensures.1 in
-    rw p.1 (first_halts choices T F stands g.M.PeiStore.TAKES_MEMORY board catalog c.args.fuel sink shown c.in_err-ran.field-0.0 own (c.in_err-ran.ensures.row board here))
+    rw p.1 (first_halts choices T F stands g.M.PeiStore.TAKES_MEMORY board catalog c.args.fuel sink shown c.in_err-ran.field-0.0 own (c.in_err-ran.ensures.row board here).by)
 
 pub returns-in_err-ran-clause-memory : goal.returns-in_err-ran-clause-memory
 returns-in_err-ran-clause-memory g c = λ board here.
@@ -61,4 +61,4 @@ returns-in_err-ran-clause-memory g c = λ board here.
       numbered = c.requires.catalog.parents;
     } in
     let p = err_from_is_err_and c.from_residual.result c.from_residual.ensures.1 in
-    rw (p.1, p.2) (first_wants choices T F stands g.M.PeiStore.TAKES_MEMORY board catalog c.args.fuel sink shown c.in_err-ran.field-0.0 own (c.in_err-ran.ensures.row board here))
+    rw (p.1, p.2) (first_wants choices T F stands g.M.PeiStore.TAKES_MEMORY board catalog c.args.fuel sink shown c.in_err-ran.field-0.0 own (c.in_err-ran.ensures.row board here).by)

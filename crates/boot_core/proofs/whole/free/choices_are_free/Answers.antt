@@ -13,4 +13,11 @@ returns g c = λ first.
       first = c.dxe_chooses_by_groups.ensures;
       groups = c.groups_are_aimed.ensures;
     } in
-    are_free laws (choices_of (C.peims choice) (C.lets_in_pei choice) (C.drivers choice) (C.lets_in_dxe choice) g.S.Sink.text g.S.Sink.faults first)
+    are_free laws (choices_of (record {
+      peims = C.peims choice;
+      lets_in_pei = C.lets_in_pei choice;
+      drivers = C.drivers choice;
+      lets_in_dxe = C.lets_in_dxe choice;
+      text = g.S.Sink.text;
+      faults = g.S.Sink.faults;
+    }) first)

@@ -41,5 +41,5 @@ returns g c = record {
         roots = c.names_lead_to_root.ensures;
         few = c.few_drivers_wait.ensures;
       } in
-      text_follows b g.M.PeiStore.stands_for g.M.PeiStore.TAKES_MEMORY c.boot_by_choice-booted.new.sink c.boot_by_choice-booted.result c.followed.result (c.boot_by_choice-booted.ensures.row board stands) c.boot_by_choice-booted.ensures.faults c.followed.ensures;
+      text_follows b g.M.PeiStore.stands_for g.M.PeiStore.TAKES_MEMORY c.boot_by_choice-booted.new.sink c.boot_by_choice-booted.result c.followed.result (c.boot_by_choice-booted.ensures.row board stands).by c.boot_by_choice-booted.ensures.faults c.followed.ensures;
 }

@@ -1,5 +1,5 @@
 use Rattle.std.proofs.{Common.sym, Common.◌∙◌, lemmas.Result.err_from_is_err_and}
-use Rattle.recorded_boot.proofs.follow.following.come_to.Goals as goal
+use Rattle.recorded_boot.proofs.follow.followed.come_to.Goals as goal
 
 pub cause_against-requires-clause-state : goal.cause_against-requires-clause-state
 cause_against-requires-clause-state g c = c.requires.state

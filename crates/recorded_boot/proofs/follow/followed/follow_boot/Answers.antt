@@ -1,0 +1,38 @@
+use Rattle.std.proofs.lemmas.Result.{err_from_is_err_and}
+use Rattle.pi_base.specs.declared.phase.Phase.TheVariants.{Pei, Dxe}
+use Rattle.boot_model.specs.PeiMachine.{PeiMachine}
+use Rattle.pei_dispatch.specs.Choices.{NamesPeims}
+use Rattle.boot_core.specs.Choices.{NamesBehind}
+use Rattle.recorded_boot.specs.ByOrder.{NamesBy}
+use Rattle.recorded_boot.proofs.{Calls.NamesAlike, Calls.by_order, Calls.follows, Calls.stands_there, PeiOrder.OrderBoot}
+use Rattle.recorded_boot.proofs.follow.followed.follow_boot.Goals as goal
+
+pub boot_by_choice-requires-clause-opening : goal.boot_by_choice-requires-clause-opening
+boot_by_choice-requires-clause-opening g c = c.requires.opening
+
+pub returns-clause-row : goal.returns-clause-row
+returns-clause-row g c = λ board here.
+    let T = g.S.Sink.text in
+    let F = g.S.Sink.faults in
+    let by = c.args.by.now in
+    let order = by.order.now in
+    let names = by.names.now.volumes.items in
+    let sink = c.args.sink.now in
+    let b : OrderBoot = record { board = board; catalog = by.catalog.now; fuel = c.args.fuel; order = order; well = c.requires.catalog; apart = c.requires.apart; few = c.requires.order } in
+    let Peims = NamesPeims (λ sink starts named. NamesBy by.catalog.now names Pei order starts named) T F sink in
+    let Drivers = NamesBehind (λ sink starts named. NamesBy by.catalog.now names Dxe order starts named) T F sink in
+    let alike : NamesAlike b Peims Drivers = record { in_pei = λ m named may. may.is c.requires.names; in_dxe = λ pei m named may. may.is c.requires.names } in
+    follows b Peims Drivers g.M.PeiStore.stands_for c.in_ok-booted.booted (record { old = T sink; new = T c.boot_by_choice.new.sink }) c.in_ok-followed.field-0 alike (c.in_ok-booted.ensures.row board here).by c.in_ok-followed.ensures
+
+pub leave-followed-requires-clause-state : goal.leave-followed-requires-clause-state
+leave-followed-requires-clause-state g c =
+    let T = g.S.Sink.text in
+    let board = c.requires.opening.0 in
+    let b : OrderBoot = record { board = board; catalog = c.args.by.now.catalog.now; fuel = c.args.fuel; order = c.args.by.now.order.now; well = c.requires.catalog; apart = c.requires.apart; few = c.requires.order } in
+    stands_there _ g.M.PeiStore.stands_for b (T c.args.sink.now) (T c.boot_by_choice.new.sink) c.in_ok-booted.booted (c.in_ok-booted.ensures.row board c.requires.opening.1).by
+
+pub returns-in_err-booted-clause-row : goal.returns-in_err-booted-clause-row
+returns-in_err-booted-clause-row g c board here = rw (err_from_is_err_and c.from_residual.result c.from_residual.ensures.1).1 tt
+
+pub returns-in_err-followed-clause-row : goal.returns-in_err-followed-clause-row
+returns-in_err-followed-clause-row g c board here = rw (err_from_is_err_and c.from_residual-in_err-followed.result c.from_residual-in_err-followed.ensures.1).1 tt
