@@ -13,10 +13,12 @@ use Rattle.boot_laws.specs.declared.choice.Reached.TheVariants as R
 use Rattle.dxe_dispatch.specs.Choices as D
 use Rattle.pei_dispatch.specs.Ends.{pei_starts}
 use Rattle.dxe_dispatch.specs.{declared.boot.Barred.Barred, declared.boot.Ended.Ended}
-use Rattle.boot_core.specs.{declared.whole.behind.Behind.Behind, declared.whole.behind.Behind.TheVariants.Closed, declared.whole.behind.Last.Last}
+use Rattle.boot_core.specs.{declared.whole.behind.Behind.Behind, declared.whole.behind.Behind.TheVariants.Closed}
+use Rattle.boot_core.specs.{declared.whole.behind.Last.Last, Behind.HasClosed, Behind.ending_at, Closing.closing, Closing.closing_text}
 use Rattle.boot_core.specs.declared.whole.behind.Behind.TheVariants as V
-use Rattle.boot_core.specs.{Behind.HasClosed, Behind.ending_at, ByChoice.ComesInDxe, ByChoice.EndsAfter, ByChoice.starts_by, ByChoice.stops_at_last, ByChoice.stops_in_dxe}
-use Rattle.boot_core.specs.{Choices.Choices, Choices.NamesBehind, Choices.Rules, Choices.choices_of, Closing.closing, Closing.closing_text, FirstBoot.Tells}
+use Rattle.boot_core.specs.ByChoice.{ComesInDxe, EndsAfter, starts_by, stops_at_last, stops_in_dxe}
+use Rattle.boot_core.specs.Choices.{Choices, NamesBehind, Rules, choices_of}
+use Rattle.boot_core.specs.FirstBoot.{Tells}
 use Rattle.boot_core.specs.Watched.{BootCall, ComesKnown, KnowsAfter, OfDxe, knows_dxe}
 use Rattle.boot_core.proofs.ClosingTexts.{closing_is}
 

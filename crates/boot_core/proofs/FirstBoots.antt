@@ -13,18 +13,16 @@ use Rattle.boot_model.specs.declared.line.RunEnd.TheVariants as E
 use Rattle.boot_model.specs.declared.phase_end.PeiEnd.TheVariants.{Handoff, NoMemory, NoIpl, Spent, Deep}
 use Rattle.boot_model.specs.BootRun.{both_lines, boot_lines, dxe_result, lines_after}
 use Rattle.boot_model.specs.DxeRun.{dxe_bound, dxe_end, dxe_opening}
-use Rattle.boot_model.specs.{PeiMachine.PeiMachine, PeiRun.pei_end, Text.text_of}
+use Rattle.boot_model.specs.{PeiMachine.PeiMachine, PeiRun.pei_end, Text.text_of, declared.phase_end.DxeEnd.DxeEnd}
 use Rattle.boot_model.proofs.Texts.{text_of-append}
 use Rattle.pei_dispatch.specs.Ends.{IsLeft}
 use Rattle.pei_dispatch.proofs.FirstRuns as P
 use Rattle.dxe_dispatch.proofs.FirstRuns as D
-use Rattle.boot_core.specs.{declared.whole.boot.Ran.Ran, Choices.Choices, Choices.choices_of, Closing.closing}
+use Rattle.boot_core.specs.{declared.whole.boot.Ran.Ran, Closing.closing, FirstBoot.RunsTo, FirstBoot.WantsOutsidePei}
 use Rattle.boot_core.specs.WholeEnd.{IsLeftBehind, boot_text, end_after, end_of}
-use Rattle.boot_core.specs.Choices.{starts_of}
+use Rattle.boot_core.specs.Choices.{Choices, choices_of, starts_of}
 use Rattle.dxe_dispatch.specs.Choices.{IsRunBy, came}
-use Rattle.boot_model.specs.declared.phase_end.DxeEnd.{DxeEnd}
 use Rattle.boot_core.specs.ByChoice.{BootBy, BootsTo, ComesInDxe, EndsAfter, HasRun, PutsPartBehind, StopsBehind, StopsBehindPei, all_lines, ending_of, starts_by, stops_at_last, stops_in_dxe}
-use Rattle.boot_core.specs.FirstBoot.{RunsTo, WantsOutsidePei}
 use Rattle.boot_core.proofs.BootLines.{begins_with_pei, both_first, pei_first, same_whole, whole_of_pei}
 
 -- the choices of the machine itself

@@ -3,7 +3,8 @@ use Rattle.std.proofs.Common.{◌≡◌, ℕ, true, true≢false, List, Option, 
 use Rattle.pi_base.specs.declared.memory.OutOfMemory.{OutOfMemory}
 use Rattle.mod_catalog.specs.declared.catalogue.Catalog.{Catalog}
 use Rattle.store_model.specs.StoreState.{Board, StoreState}
-use Rattle.boot_model.specs.{declared.phase_end.PeiEnd.PeiEnd, declared.phase_end.PeiEnd.TheVariants.Handoff, PeiMachine.PeiMachine, PeiRun.pei_end}
+use Rattle.boot_model.specs.{declared.phase_end.PeiEnd.PeiEnd, declared.phase_end.PeiEnd.TheVariants.Handoff, PeiMachine.PeiMachine}
+use Rattle.boot_model.specs.PeiRun.{pei_end}
 use Rattle.boot_laws.specs.{RunsEnd.PeiRunsEnd, declared.choice.Reached.Reached}
 use Rattle.boot_laws.specs.declared.choice.Reached.TheVariants as R
 use Rattle.pei_core.specs.{declared.pei.Pei.Pei, Standing.StandsFor}
@@ -11,7 +12,8 @@ use Rattle.pei_dispatch.specs.{declared.queue.PeiQueue.PeiQueue, Watched.StandsL
 use Rattle.pei_dispatch.proofs.FirstRuns.{NamesNone, first_end}
 use Rattle.boot_core.specs.{declared.handing_on.HandOff.HandOff, declared.whole.boot.Booted.Booted, HandOff.HandsOn, HandOff.IsKept}
 use Rattle.boot_core.specs.declared.whole.boot.Booted.TheVariants as B
-use Rattle.boot_core.specs.{Choices.choices_of, Watched.BootCall, Watched.BootsKnown, Watched.Knowing}
+use Rattle.boot_core.specs.Choices.{choices_of}
+use Rattle.boot_core.specs.Watched.{BootCall, BootsKnown, Knowing}
 
 -- what is handed on, where there is something, by two facts of the machine
 of_machine : (handed : Result HandOff OutOfMemory) (Is Also : PeiMachine → Type 0) (m : PeiMachine) → Is m → Also m → IfOk handed (λ one. (other : PeiMachine) → Is other → Also other → HandsOn other one) → IfOk handed (HandsOn m)

@@ -5,8 +5,7 @@ use Rattle.std.specs.Io.KnownBytes.{Appends}
 use Rattle.boot_io.specs.{declared.halt.Halt.Halt, Sink.AppendsPart}
 use Rattle.boot_io.specs.declared.halt.Halt.TheVariants as H
 use Rattle.mod_catalog.specs.declared.catalogue.Catalog.{Catalog}
-use Rattle.store_model.specs.HandleState.{HandleState, no_handles}
-use Rattle.store_model.specs.StoreState.{Board, StoreState}
+use Rattle.store_model.specs.{HandleState.HandleState, HandleState.no_handles, StoreState.Board, StoreState.StoreState}
 use Rattle.boot_model.specs.{declared.line.Line.Line, declared.line.RunEnd.RunEnd, declared.phase_end.DxeEnd.DxeEnd}
 use Rattle.boot_model.specs.declared.line.RunEnd.TheVariants as E
 use Rattle.boot_model.specs.{declared.phase_end.PeiEnd.PeiEnd, BootRun.dxe_result, DxeMachine.DxeMachine, DxeRun.dxe_opening}

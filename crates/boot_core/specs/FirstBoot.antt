@@ -10,7 +10,8 @@ use Rattle.mod_catalog.specs.declared.catalogue.Catalog.{Catalog}
 use Rattle.store_model.specs.StoreState.{Board, StoreState}
 use Rattle.boot_model.specs.{PeiRun.pei_end, Text.text_of}
 use Rattle.pei_dispatch.specs.Ends.{IsLeft}
-use Rattle.boot_core.specs.{declared.whole.boot.Ran.Ran, WholeEnd.IsLeftBehind, WholeEnd.boot_text, WholeEnd.end_of}
+use Rattle.boot_core.specs.declared.whole.boot.Ran.{Ran}
+use Rattle.boot_core.specs.WholeEnd.{IsLeftBehind, boot_text, end_of}
 
 -- by the answer: a value that is as it should be with the whole text, or a part of the text
 abbrev pub Tells : {A : Type 0} → (A → Type 0) → List ℕ → Texts → Result A Halt → Type 0

@@ -3,18 +3,19 @@
 use Rattle.std.specs.Prelude.{◌≡◌, ℕ, Bool, List, Result, Ok, Err, ⊤}
 use Rattle.boot_io.specs.declared.halt.Halt.{Halt}
 use Rattle.mod_catalog.specs.declared.catalogue.Catalog.{Catalog}
-use Rattle.store_model.specs.{StoreState.Board, StoreState.StoreState, StoreState.empty_store}
-use Rattle.boot_model.specs.{declared.phase_end.DxeEnd.DxeEnd}
-use Rattle.boot_model.specs.{declared.phase_end.PeiEnd.PeiEnd, DxeMachine.DxeMachine, DxeRun.dxe_opening, PeiMachine.PeiMachine, PeiRun.pei_opening}
+use Rattle.store_model.specs.StoreState.{Board, StoreState, empty_store}
+use Rattle.boot_model.specs.{declared.phase_end.DxeEnd.DxeEnd, declared.phase_end.PeiEnd.PeiEnd, DxeMachine.DxeMachine, DxeRun.dxe_opening}
+use Rattle.boot_model.specs.{PeiMachine.PeiMachine, PeiRun.pei_opening}
 use Rattle.boot_model.specs.declared.phase_end.PeiEnd.TheVariants.{Handoff, NoMemory, NoIpl, Spent, Deep}
 use Rattle.boot_laws.specs.{declared.choice.Reached.Reached, Naming.HasPut}
 use Rattle.boot_laws.specs.declared.choice.Reached.TheVariants as R
-use Rattle.pei_dispatch.specs.{declared.boot.Ended.Ended, Choices.HasBooted, Choices.LetsPeims, Choices.NamesPeims, Ends.IsLeft}
-use Rattle.boot_core.specs.{declared.whole.behind.Behind.Behind, declared.whole.behind.Behind.TheVariants.Closed, declared.whole.behind.Behind.TheVariants.Barred}
-use Rattle.boot_core.specs.declared.whole.boot.Booted.{Booted}
+use Rattle.pei_dispatch.specs.{declared.boot.Ended.Ended, Ends.IsLeft}
+use Rattle.pei_dispatch.specs.Choices.{HasBooted, LetsPeims, NamesPeims}
+use Rattle.boot_core.specs.declared.whole.behind.Behind.{Behind}
+use Rattle.boot_core.specs.declared.whole.behind.Behind.TheVariants.{Closed, Barred}
+use Rattle.boot_core.specs.{declared.whole.boot.Booted.Booted, Behind.ComesBehind, Behind.ending_at, Choices.Rules, Choices.choices_of}
 use Rattle.boot_core.specs.declared.whole.boot.Booted.TheVariants as B
-use Rattle.boot_core.specs.Behind.{ComesBehind, ending_at}
-use Rattle.boot_core.specs.{ByChoice.BootsTo, ByChoice.Ending, ByChoice.IsEnding, ByChoice.ending_of, Choices.Rules, Choices.choices_of}
+use Rattle.boot_core.specs.ByChoice.{BootsTo, Ending, IsEnding, ending_of}
 
 -- what is known of a run of PEI, by its last machine and those before it; and of one of DXE, by its opening and the machines from which its steps were taken
 abbrev pub OfPei : Type 1

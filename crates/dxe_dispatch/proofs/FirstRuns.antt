@@ -1,8 +1,8 @@
 -- A run by choices that name none is the run of the machine.
 use Rattle.std.proofs.Common.{◌≡◌, ℕ, zero, suc, ◌+◌, arith, Bool, true, List, [], ◌∷◌, ◌++◌, Option, Some, None, refl, sym, ap, ◌∙◌, is_some, length}
 use Rattle.mod_catalog.specs.declared.catalogue.Catalog.{Catalog}
-use Rattle.boot_model.specs.{declared.line.Line.Line, declared.phase_end.DxeEnd.DxeEnd, DxeMachine.DxeMachine}
-use Rattle.boot_model.specs.{DxeRun.dxe_run, DxeStep.dxe_step}
+use Rattle.boot_model.specs.{declared.line.Line.Line, declared.phase_end.DxeEnd.DxeEnd, DxeMachine.DxeMachine, DxeRun.dxe_run}
+use Rattle.boot_model.specs.DxeStep.{dxe_step}
 use Rattle.dxe_dispatch.specs.Choices.{IsAimedBy, IsRunBy, aimed_at, came}
 use Rattle.dxe_dispatch.proofs.Runs.{goes, run_tells, stays}
 

@@ -4,8 +4,7 @@ use Rattle.std.specs.Prelude.{◌≡◌, ℕ, List, Option, Some, None}
 use Rattle.std.specs.Io.KnownBytes.{Appends}
 use Rattle.mod_catalog.specs.declared.catalogue.Catalog.{Catalog}
 use Rattle.store_model.specs.StoreState.{StoreState}
-use Rattle.boot_model.specs.{declared.phase_end.DxeEnd.DxeEnd, DxeMachine.DxeMachine, Text.text_of}
-use Rattle.boot_model.specs.DxeRun.{dxe_opening}
+use Rattle.boot_model.specs.{declared.phase_end.DxeEnd.DxeEnd, DxeMachine.DxeMachine, Text.text_of, DxeRun.dxe_opening}
 use Rattle.dxe_dispatch.specs.Queue.{Queue, IsQueueOf}
 use Rattle.dxe_core.specs.Standing.{DxeCore, StandsFor}
 

@@ -4,22 +4,19 @@ use Rattle.std.specs.Io.KnownBytes.{Appends}
 use Rattle.pi_base.specs.declared.phase.Phase.TheVariants.{Pei, Dxe}
 use Rattle.store_model.specs.{HandleState.HandleState, HandleState.no_handles, StoreCall.Anything, StoreState.StoreState}
 use Rattle.store_model.specs.Service.{OfEach, Present}
-use Rattle.boot_model.specs.{declared.line.Line.Line, declared.line.RunEnd.RunEnd, declared.phase_end.PeiEnd.PeiEnd}
-use Rattle.boot_model.specs.{BootRun.dxe_result, DxeMachine.DxeMachine, PeiMachine.PeiMachine, Text.text_of}
+use Rattle.boot_model.specs.{declared.line.Line.Line, declared.line.RunEnd.RunEnd, declared.phase_end.PeiEnd.PeiEnd, BootRun.dxe_result}
+use Rattle.boot_model.specs.{DxeMachine.DxeMachine, PeiMachine.PeiMachine, Text.text_of}
 use Rattle.boot_model.specs.declared.line.RunEnd.TheVariants as E
 use Rattle.boot_model.specs.declared.phase_end.PeiEnd.TheVariants.{Handoff, NoMemory, NoIpl, Spent, Deep}
 use Rattle.boot_trace.specs.Printing.{Texts}
-use Rattle.pei_dispatch.specs.Ends.{pei_starts}
+use Rattle.pei_dispatch.specs.{Ends.pei_starts, declared.boot.Barred.Barred, Choices.IsHeldBack, Choices.IsRunBy, declared.boot.Ended.Ended}
 use Rattle.boot_core.specs.{declared.whole.boot.Booted.Booted, Choices.Choices, Choices.starts_of, Closing.closing, HandOff.result_of}
 use Rattle.boot_core.specs.declared.whole.boot.Booted.TheVariants as B
 use Rattle.boot_core.specs.ByChoice.{EndsAfter, EndsInPei, HasCome, HasRun, IsBarredInDxe, starts_by}
-use Rattle.pei_dispatch.specs.declared.boot.Barred.{Barred}
-use Rattle.pei_dispatch.specs.Choices.{IsHeldBack, IsRunBy}
 use Rattle.dxe_dispatch.specs.declared.boot.Barred.{Barred as BarredDriver}
-use Rattle.pei_dispatch.specs.declared.boot.Ended.{Ended}
 use Rattle.boot_core.specs.declared.whole.boot.Ran.{Ran}
-use Rattle.recorded_boot.specs.{declared.follow.followed.Followed.Followed, Answer.FollowsTo}
-use Rattle.recorded_boot.specs.{ByOrder.NamesAsked, ByOrder.lets_by, Leaving.ComesTo, Leaving.LeavesBoot, Leaving.store_of}
+use Rattle.recorded_boot.specs.{declared.follow.followed.Followed.Followed, Answer.FollowsTo, ByOrder.NamesAsked, ByOrder.lets_by}
+use Rattle.recorded_boot.specs.Leaving.{ComesTo, LeavesBoot, store_of}
 use Rattle.recorded_boot.proofs.PeiOrder.{IsRun, OrderBoot, PeiBar, along, comes, lets_peim, peims}
 use Rattle.recorded_boot.proofs.PeiOrder as P
 use Rattle.recorded_boot.proofs.DxeOrder.{DxeBar, DxeCome, Handed, IsDxeRun, came, comes_in_dxe, drivers, lets_driver, opening}

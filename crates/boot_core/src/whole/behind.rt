@@ -4,8 +4,8 @@ ghost use Rattle.boot_io.specs.Halted.{HaltsAfter};
 ghost use Rattle.boot_model.specs.declared.phase_end.PeiEnd.TheVariants.{Handoff};
 ghost use Rattle.mod_catalog.specs.WellFormed.{IsWellFormed};
 ghost use Rattle.store_model.specs.{HandleState.no_handles, Service.Present, Service.OfEach, StoreCall.Anything};
-ghost use Rattle.boot_core.specs.{declared.whole.behind.Behind.TheVariants.Closed, Closing.closing_text};
-ghost use Rattle.boot_core.specs.{FirstBoot.Tells, Watched.BootsBehind};
+ghost use Rattle.boot_core.specs.{declared.whole.behind.Behind.TheVariants.Closed, Closing.closing_text, FirstBoot.Tells};
+ghost use Rattle.boot_core.specs.Watched.{BootsBehind};
 
 use crate::whole::closing::{put_closing, result_of};
 use boot_io::{Halt, Sink};

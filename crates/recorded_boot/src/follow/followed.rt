@@ -2,8 +2,8 @@
 ghost use Rattle.std.specs.Prelude.{◌≤◌, ◌-◌, ◌^◌, None, IfOk, length};
 ghost use Rattle.boot_io.specs.Halted.{HaltsAfter};
 ghost use Rattle.mod_catalog.specs.WellFormed.{IsWellFormed};
-ghost use Rattle.recorded_boot.specs.{Named.AreNames, Named.HasNoTwins, Answer.FollowsTo, Leaving.ComesTo, Leaving.LeavesBoot};
-ghost use Rattle.recorded_boot.specs.Leaving.{store_of};
+ghost use Rattle.recorded_boot.specs.{Named.AreNames, Named.HasNoTwins, Answer.FollowsTo};
+ghost use Rattle.recorded_boot.specs.Leaving.{ComesTo, LeavesBoot, store_of};
 ghost use Rattle.store_model.specs.{HandleState.no_handles, Service.Present, Service.OfEach, StoreCall.Anything};
 ghost use Rattle.store_model.specs.StoreState.{Board, empty_store};
 

@@ -2,12 +2,10 @@ use Rattle.std.proofs.Common.{ℕ, List, Ok, Err, Result, subst}
 use Rattle.std.proofs.lemmas.Result.{err_from_is_err_and}
 use Rattle.boot_io.specs.declared.halt.Halt.{Halt}
 use Rattle.boot_model.specs.DxeRun.{dxe_opening}
-use Rattle.dxe_dispatch.specs.declared.boot.Left.{Left}
+use Rattle.dxe_dispatch.specs.{declared.boot.Left.Left, Watched.BootsKnown}
 use Rattle.dxe_dispatch.specs.declared.boot.Left.TheVariants as V
 use Rattle.dxe_dispatch.specs.Choices.{DxeBoot, LetsDrivers, NamesDrivers}
-use Rattle.dxe_dispatch.specs.Watched.{BootsKnown}
-use Rattle.boot_core.specs.declared.whole.behind.Behind.{Behind}
-use Rattle.boot_core.specs.Watched.{ComesKnown}
+use Rattle.boot_core.specs.{declared.whole.behind.Behind.Behind, Watched.ComesKnown}
 use Rattle.boot_core.proofs.BehindPei.{by_counts, drivers_bar, drivers_close, drivers_stop}
 use Rattle.boot_core.proofs.whole.behind.boot_drivers.Goals as goal
 

@@ -1,9 +1,11 @@
-use Rattle.std.proofs.{Common.Ok, Common.sym, Common.subst, lemmas.Result.err_from_is_err_and}
+use Rattle.std.proofs.Common.{Ok, sym, subst}
+use Rattle.std.proofs.lemmas.Result.{err_from_is_err_and}
 use Rattle.boot_model.specs.PeiRun.{pei_opening}
 use Rattle.boot_laws.specs.declared.choice.Reached.TheVariants as R
 use Rattle.boot_core.specs.declared.whole.boot.Booted.TheVariants as B
 use Rattle.boot_core.specs.Choices.{Rules, choices_of}
-use Rattle.boot_core.proofs.{FreeBoots.goes_freely, Giving.freely, Giving.given_up_in_pei, Giving.known_from, Giving.knows_none}
+use Rattle.boot_core.proofs.FreeBoots.{goes_freely}
+use Rattle.boot_core.proofs.Giving.{freely, given_up_in_pei, known_from, knows_none}
 use Rattle.boot_core.proofs.whole.boot.boot_by_choice.Goals as goal
 
 pub watch_boot-requires-clause-opening : goal.watch_boot-requires-clause-opening

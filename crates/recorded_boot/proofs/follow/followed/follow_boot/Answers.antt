@@ -4,7 +4,8 @@ use Rattle.boot_model.specs.PeiMachine.{PeiMachine}
 use Rattle.pei_dispatch.specs.Choices.{NamesPeims}
 use Rattle.boot_core.specs.Choices.{NamesBehind}
 use Rattle.recorded_boot.specs.ByOrder.{NamesBy}
-use Rattle.recorded_boot.proofs.{Calls.NamesAlike, Calls.by_order, Calls.follows, Calls.stands_there, PeiOrder.OrderBoot}
+use Rattle.recorded_boot.proofs.Calls.{NamesAlike, by_order, follows, stands_there}
+use Rattle.recorded_boot.proofs.PeiOrder.{OrderBoot}
 use Rattle.recorded_boot.proofs.follow.followed.follow_boot.Goals as goal
 
 pub boot_by_choice-requires-clause-opening : goal.boot_by_choice-requires-clause-opening
