@@ -1,7 +1,10 @@
 // Reports to a person on a run: what is at fault, and what to do.
 use crate::forms::PROGRAM;
 use boot_core::Status;
-use program_edge::{Heard, MOST_VOLUMES, count_behind, first_behind, lost_drivers, refused_memory, starts_in, text_of};
+use program_edge::{
+    Heard, MOST_VOLUMES, count_behind, first_behind, lost_drivers, refused_memory, starts_in,
+    text_of,
+};
 
 // The words that have no form.
 fn tell_usage(rt: &HostRuntime, words: &[String]) {
@@ -46,7 +49,7 @@ fn tell_memory(rt: &HostRuntime, plan: &str, heard: &Heard, text: &[u8]) -> Opti
     let board = PROGRAM.plan_in(rt, plan, heard)?;
     let (ram, len, least) = (board.ram.base, board.ram.len, board.temp.len);
     let _ = eprintln!(rt;
-        "piboot: {plan}: `memory` was refused with {status} behind the line `{start}`: memory is installed once; its begin and its length are multiples of 0x1000, and it is at least {least:#x} bytes, as temp has, of the {len:#x} bytes of ram at {ram:#x}"
+        "piboot: {plan}: `memory` was refused with {status} after the line `{start}`: memory is installed once; its start and its length are multiples of 0x1000, and it has at least {least:#x} bytes, as temp has, of the {len:#x} bytes of ram at {ram:#x}"
     );
     Some(())
 }
@@ -60,7 +63,7 @@ fn tell_lost(rt: &HostRuntime, heard: &Heard, text: &[u8]) {
         let drivers = lost_drivers(noted.as_slice(), text, volume);
         if drivers > 0 {
             let _ = eprintln!(rt;
-                "piboot: volume {volume} (drivers: {drivers}) was never discovered by DXE: no FV HOB has its base or that of a volume around it, and no action `process` named it"
+                "piboot: volume {volume} (drivers: {drivers}) was never discovered by DXE: no FV HOB has its base, or that of a volume around it, and no action `process` named it"
             );
         }
     }
@@ -71,7 +74,7 @@ fn tell_waiting(rt: &HostRuntime, text: &[u8]) -> Option<()> {
     let first = text_of(first_behind(text, b"waiting ")?);
     let count = count_behind(text, b"waiting ");
     let _ = eprintln!(rt;
-        "piboot: modules that wait at the end: {count}; the first is {first}; `pitools explain` says what each of them lacks"
+        "piboot: modules that wait at the end: {count}; the first is {first}; `pitools explain` says what each of them is missing"
     );
     Some(())
 }
