@@ -14,11 +14,14 @@ const PLAN_LIMIT: usize = 0x1_0000;
 
 // The printed line that a refusal is.
 fn refusal_in(alloc: Global, line: &str) -> Option<Line> {
-    let line = line.as_bytes();
-    if line.len() > PLAN_LIMIT {
+    let mut text = Vec::new(alloc);
+    text.extend_from_slice(line.as_bytes()).ok()?;
+    // A printed line ends with a line feed, which is not kept.
+    text.push(b'\n').ok()?;
+    if text.len() > PLAN_LIMIT {
         return None;
     }
-    let mut lines = read_trace(alloc, line).ok()?;
+    let mut lines = read_trace(alloc, text.as_slice()).ok()?;
     lines.pop()
 }
 
