@@ -39,12 +39,21 @@ def volume(files: str, length: int = 4 * MIB) -> bytes:
 
 
 def fitting(files: str) -> bytes:
-    """An FFS3 volume of files, of the least length that is a multiple of 4 KiB."""
-    _, refused = answered(f"volume {HEADER_LENGTH} ffs3\n{files}end\n")
-    *_, cause, need = refused.split()
-    if cause != b"NoRoom":
-        raise ValueError(f"pitools volume: {refused.decode().strip()}")
-    return made(f"volume {-(-int(need) // 4096) * 4096} ffs3\n{files}end\n")
+    """An FFS3 volume of files, of the least length that is a multiple of 4 KiB. A refusal at the `end` says the whole need, one before it only what is needed so far."""
+    end, length, short, enough, fitted = files.count("\n") + 2, 4096, 0, 0, b""
+    while enough - short != 4096:
+        status, printed = answered(f"volume {length} ffs3\n{files}end\n")
+        if status:
+            *_, line, cause, need = printed.split()
+            if cause != b"NoRoom":
+                raise ValueError(f"pitools volume: {printed.decode().strip()}")
+            if int(line) == end:
+                return made(f"volume {-(-int(need) // 4096) * 4096} ffs3\n{files}end\n")
+            short = length
+        else:
+            enough, fitted = length, printed
+        length = -(-(short + enough) // 8192) * 4096 if enough else 2 * length
+    return fitted
 
 
 def aligned(data: bytes) -> bytes:

@@ -12,6 +12,8 @@ A_PRIORI = ("1b45cc0a-156a-428a-af62-49864da0e6e6", "fc510ee7-ffdc-11d4-bd41-008
 # The types of files as a text has them, and the phases for which they have a part.
 PHASES = {"peim": ["pei"], "driver": ["dxe"], "combined": ["pei", "dxe"], "mm-dxe": ["dxe"]}
 FREEFORM, PEI_CORE, DXE_CORE, VOLUME_IMAGE = "freeform", "04", "05", "volume-image"
+# The types of cores and of applications, which a text has as words.
+TYPE_OF = {"security-core": "03", "pei-core": PEI_CORE, "dxe-core": DXE_CORE, "application": "09"}
 # Modules without a part for PEI or DXE, by the types of their files (PI 1.8, volume 3, "EFI_FV_FILETYPE").
 NOT_LOOKED_AT = {
     "03": "SEC core", PEI_CORE: "PEI core", DXE_CORE: "DXE core", "09": "application", "0a": "MM driver", "0d": "MM core", "0e": "standalone MM driver",
@@ -42,7 +44,8 @@ class File:
 
     def __init__(self, volume: "Volume", line: str) -> None:
         self.volume, self.line = volume, line
-        _, self.kind, self.name, *_ = line.split()
+        _, word, self.name, *_ = line.split()
+        self.kind = TYPE_OF.get(word, word)
         self.body: list[str] = []
         self.nested: list[Volume] = []
         self.titles: list[list[str]] = []  # the lines of its name for a person

@@ -1,14 +1,14 @@
 -- How many bytes the files of a volume hold.
-use Rattle.std.proofs.Common.{◌≡◌, ℕ, ◌+◌, ◌-◌, ◌^◌, ◌<◌, ◌≤◌, Bool, true, false, List, [], ◌∷◌, ◌++◌, length, Option, Some, None, Result, Ok, Err, refl, sym, ap, ◌∙◌, arith, min, nat_le, replicate, length-replicate}
-use Rattle.std.proofs.{lemmas.Bool.Decides.nat_tests, lemmas.List.Sums.sum_by_push}
+use Rattle.std.proofs.Common.{◌≡◌, ℕ, ◌+◌, ◌-◌, ◌^◌, ◌<◌, ◌≤◌, Bool, true, false, List, [], ◌∷◌, ◌++◌, length, Option, Some, None, Result, Ok, Err, refl, sym, ap, ◌∙◌, subst, arith, min, nat_le, replicate, eqb-true}
+use Rattle.std.proofs.{lemmas.Bool.Decides.nat_tests, lemmas.List.length-replicate, lemmas.List.Sums.sum_by_push}
 use Rattle.fv_volume.specs.{declared.build.new_file.NewFile.NewFile, declared.build.new_file.NewSection.NewSection}
 use Rattle.fv_volume.specs.declared.build.new_file.Body.{Body}
 use Rattle.fv_volume.specs.declared.build.new_file.Body.TheVariants.{Sections, Bytes}
 use Rattle.volume_text.specs.{declared.fault.Cause.Cause, declared.fault.Stop.Stop}
 use Rattle.volume_text.specs.declared.fault.Cause.TheVariants as cause
 use Rattle.volume_text.specs.declared.fault.Stop.TheVariants as stop
-use Rattle.volume_text.specs.{declared.volume.OpenVolume.OpenVolume, Reading.◌>>=◌, Reading.only_if, Reading.Stops}
-use Rattle.volume_text.specs.Open.{last_of, held_in, holding, is_empty, with_body, with_bytes, with_files, with_last, bytes_held_in, bytes_held, room_for, fitting, pad_file}
+use Rattle.volume_text.specs.{declared.volume.OpenVolume.OpenVolume, Reading.◌>>=◌, Reading.only_if, Reading.Stops, Reading.Gives}
+use Rattle.volume_text.specs.Open.{last_of, held_in, holding, is_empty, with_body, with_bytes, with_files, with_last, bytes_held_in, bytes_held, room_for, fitting, pad_file, section_added, last_body_set, with_new_file}
 use Rattle.volume_text.proofs.Lasts.{last_is}
 
 same_Ok : {A E : Type 0} (x y : A) → ◌≡◌ {A = Result A E} (Ok x) (Ok y) → x ≡ y
@@ -46,14 +46,15 @@ holding_more one last next e = holding_by one last next last.body refl e
 -- bytes as the body
 empty_by : (body : Body) → is_empty body ≡ true → bytes_held_in body ≡ 0
 empty_by (Sections []) e = refl
-empty_by (Sections (section ∷ sections)) e = absurd cc
+empty_by (Sections (section ∷ sections)) e = absurd (omega (arith, eqb-true (length (section ∷ sections)) 0 e))
 empty_by (Bytes bytes) e = absurd cc
 
 bytes_by : (bytes : List ℕ) (last next : NewFile) (test : Bool) → is_empty last.body ≡ test → only_if test cause.TwoBodies (with_body last (Bytes bytes)) ≡ Ok next
     → bytes_held_in next.body ≡ bytes_held_in last.body + length bytes
 bytes_by bytes last next true is e =
     let same : with_body last (Bytes bytes) ≡ next = same_Ok (with_body last (Bytes bytes)) next e in
-    ap (λ (f : NewFile). bytes_held_in f.body) (sym same) ∙ ap (λ n. n + length bytes) (sym (empty_by last.body is))
+    let grown : bytes_held_in next.body ≡ length bytes = ap (λ (f : NewFile). bytes_held_in f.body) (sym same) in
+    omega (arith, grown, empty_by last.body is)
 bytes_by bytes last next false is e = absurd cc
 
 pub bytes_more : (bytes : List ℕ) (last next : NewFile) → with_bytes bytes last ≡ Ok next → bytes_held_in next.body ≡ bytes_held_in last.body + length bytes
@@ -119,3 +120,35 @@ counted_not made next held (stop.Fault c) is here room =
 pub stops_first : (made : Result OpenVolume Cause) (why : Stop) → Stops why made → Stops why (made >>= fitting)
 stops_first made stop.Memory stops = tt
 stops_first made (stop.Fault c) stops = ap (λ (r : Result OpenVolume Cause). r >>= fitting) stops
+
+-- the bytes that are counted are those that the files hold
+pub section_counted : (volume next : OpenVolume) (one : NewSection) (held more : ℕ) → held ≡ bytes_held volume.files → more ≡ length one.body → section_added volume one ≡ Ok next
+    → bytes_held next.files ≡ held + more
+section_counted volume next one held more here long e = let h = section_held volume next one e in omega (arith, h.0, here, long)
+
+pub body_counted : (volume next : OpenVolume) (bytes : List ℕ) (held more : ℕ) → held ≡ bytes_held volume.files → more ≡ length bytes → last_body_set volume bytes ≡ Ok next
+    → bytes_held next.files ≡ held + more
+body_counted volume next bytes held more here long e = let h = body_held volume next bytes e in omega (arith, h.0, here, long)
+
+-- what is made of a volume as it has become
+pub then_fitting : (made : Result OpenVolume Cause) (next : OpenVolume) (result : Result OpenVolume Stop) → made ≡ Ok next → Gives (λ x. x) result (fitting next)
+    → Gives (λ x. x) result (made >>= fitting)
+then_fitting made next result is told = subst (λ (r : Result OpenVolume Cause). Gives (λ x. x) result (r >>= fitting)) (sym is) told
+
+-- a pad more
+pub pad_there : (volume next : OpenVolume) (len held all : ℕ) → held ≡ bytes_held volume.files → next ≡ with_new_file volume (pad_file len) → room_for (held + len) volume.len ≡ Ok all
+    → fitting (with_new_file volume (pad_file len)) ≡ Ok next
+pad_there volume next len held all here is room =
+    let grown : bytes_held (volume.files ++ pad_file len ∷ []) ≡ held + len = pad_held volume.files len ∙ ap (λ n. n + len) (sym here) in
+    counted_there (Ok (with_new_file volume (pad_file len))) (with_new_file volume (pad_file len)) (held + len) all refl grown room ∙ ap Ok (sym is)
+
+pub pad_counted : (volume next : OpenVolume) (len held all : ℕ) → held ≡ bytes_held volume.files → next ≡ with_new_file volume (pad_file len) → room_for (held + len) volume.len ≡ Ok all
+    → all ≡ bytes_held next.files
+pad_counted volume next len held all here is room =
+    counted (held + len) volume.len all room ∙ ap (λ n. n + len) here ∙ sym (pad_held volume.files len) ∙ ap (λ (v : OpenVolume). bytes_held v.files) (sym is)
+
+pub pad_not : (volume : OpenVolume) (len held : ℕ) (why : Stop) → held ≡ bytes_held volume.files → Stops why (room_for (held + len) volume.len)
+    → Stops why (fitting (with_new_file volume (pad_file len)))
+pad_not volume len held why here room =
+    let grown : bytes_held (volume.files ++ pad_file len ∷ []) ≡ held + len = pad_held volume.files len ∙ ap (λ n. n + len) (sym here) in
+    counted_not (Ok (with_new_file volume (pad_file len))) (with_new_file volume (pad_file len)) (held + len) why refl grown room

@@ -1,7 +1,7 @@
 // A volume whose `end` has not come yet, and how many bytes its files hold.
 ghost use Rattle.std.specs.Prelude.{◌≡◌, ◌+◌, nat_le, Ok};
 ghost use Rattle.volume_text.specs.{Reading.Gives, Step.new_volume};
-ghost use Rattle.volume_text.specs.Open.{room_for, with_section, with_last_body, with_pad, with_file, with_name};
+ghost use Rattle.volume_text.specs.Open.{bytes_held, room_for, fitting, with_section, with_last_body, with_pad, with_file, with_name};
 
 use crate::fault::{Cause, Stop};
 use crate::volume::{OpenVolume, add_file, add_pad, add_section, set_last_body, set_name};
@@ -53,6 +53,20 @@ fn room_for(held: u64, more: u64, len: u64) -> Result<u64, Stop>
     }
 }
 
+// A volume with so many bytes more in its files, where it has room for them.
+fn fitting(volume: OpenVolume, held: u64, more: u64) -> Result<CountedVolume, Stop>
+    requires here { bytes_held volume.files ≡ held + more }
+    ensures { Gives (λ x. x) result (fitting volume) }
+{
+    match room_for(held, more, volume.len) {
+        Ok(held) => Ok(CountedVolume { volume, held }),
+        Err(stop) => {
+            drop(volume);
+            Err(stop)
+        }
+    }
+}
+
 /// A volume of this form and length, which has no file yet.
 pub(crate) fn opened(alloc: Global, form: VolumeForm, len: u64) -> CountedVolume
     ensures { result ≡ new_volume form len }
@@ -83,8 +97,7 @@ impl CountedVolume {
         let CountedVolume { mut volume, held } = self;
         let more = section.body.len() as u64;
         add_section(&mut volume, section)?;
-        let held = room_for(held, more, volume.len)?;
-        Ok(CountedVolume { volume, held })
+        fitting(volume, held, more)
     }
 
     /// It with these bytes as the body of its last file.
@@ -94,8 +107,7 @@ impl CountedVolume {
         let CountedVolume { mut volume, held } = self;
         let more = bytes.len() as u64;
         set_last_body(&mut volume, bytes)?;
-        let held = room_for(held, more, volume.len)?;
-        Ok(CountedVolume { volume, held })
+        fitting(volume, held, more)
     }
 
     /// It with one more pad file, whose bytes are made only where there is room for them.
@@ -103,9 +115,16 @@ impl CountedVolume {
         ensures { Gives (λ x. x) result (with_pad self len) }
     {
         let CountedVolume { mut volume, held } = self;
-        let held = room_for(held, len, volume.len)?;
-        add_pad(alloc, &mut volume, len)?;
-        Ok(CountedVolume { volume, held })
+        match room_for(held, len, volume.len) {
+            Ok(held) => {
+                add_pad(alloc, &mut volume, len)?;
+                Ok(CountedVolume { volume, held })
+            }
+            Err(stop) => {
+                drop(volume);
+                Err(stop)
+            }
+        }
     }
 
     /// It with one more file, which has no section yet.

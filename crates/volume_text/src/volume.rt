@@ -127,8 +127,8 @@ fn pad_file(alloc: Global, len: u64) -> Result<NewFile, OutOfMemory>
 }
 
 /// Gives a volume one more pad file.
-pub(crate) fn add_pad(alloc: Global, volume: &mut OpenVolume, len: u64) -> Result<(), Stop>
-    ensures { Gives (λ _. volume.new) result (Ok (with_new_file volume.old (pad_file len))) }
+pub(crate) fn add_pad(alloc: Global, volume: &mut OpenVolume, len: u64) -> Result<(), OutOfMemory>
+    ensures { IfOk result (λ _. volume.new ≡ with_new_file volume.old (pad_file len)) }
 {
     let file = pad_file(alloc, len)?;
     volume.files.push(file)?;
