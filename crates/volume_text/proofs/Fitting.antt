@@ -1,5 +1,5 @@
 -- A volume that is built has room for the bytes in its files.
-use Rattle.std.proofs.Common.{◌≡◌, ℕ, ◌+◌, ◌≤◌, Bool, true, false, List, [], ◌∷◌, ◌++◌, length, map, Some, None, Result, Ok, Err, refl, arith, min, ◌-◌, ◌^◌, replicate, length-append, nat_lt, if◌then◌else◌}
+use Rattle.std.proofs.Common.{◌≡◌, ℕ, ◌+◌, ◌≤◌, Bool, true, false, List, [], ◌∷◌, ◌++◌, length, map, Some, None, Ok, Err, refl, arith, min, ◌-◌, ◌^◌, replicate, length-append, nat_lt, if◌then◌else◌}
 use Rattle.std.specs.List.{list_any, sum_by}
 use Rattle.std.proofs.{lemmas.Bool.Decides.nat_tests, lemmas.List.Sums.sum_by-cons}
 use Rattle.fv_volume.specs.{declared.build.new_file.NewFile.NewFile, declared.build.new_file.NewSection.NewSection}
@@ -9,7 +9,7 @@ use Rattle.fv_volume.specs.declared.build.fault.BuildFault.TheVariants.{TooMany,
 use Rattle.fv_volume.specs.{declared.build.file_system.FileSystem.FileSystem, Placing.gap, Placing.laid, Sections.section_header, Sections.section_bytes}
 use Rattle.fv_volume.specs.Files.{head_of, file_header, bytes_in, file_bytes, is_file_too_long}
 use Rattle.fv_volume.specs.{Building.need, Front.front_len, declared.search.TheConstants.MOST_FILES}
-use Rattle.volume_text.specs.{declared.volume.OpenVolume.OpenVolume, declared.fault.Cause.Cause, declared.fault.Cause.TheVariants.Range}
+use Rattle.volume_text.specs.{declared.volume.OpenVolume.OpenVolume, declared.fault.Cause.TheVariants.Range}
 use Rattle.volume_text.specs.Open.{bytes_held_in, bytes_held, refused_by, is_in_range, built_of}
 
 -- texts are as long as all of them together, or longer

@@ -4,7 +4,7 @@ use Rattle.std.proofs.{lemmas.Bool.Decides.nat_tests}
 use Rattle.fv_volume.specs.{declared.build.volume_name.VolumeName.VolumeName, declared.build.volume_header.VolumeForm.VolumeForm}
 use Rattle.fv_volume.specs.declared.sections.section_type.TheConstants.{RAW, VOLUME_IMAGE}
 use Rattle.fv_volume.specs.{declared.build.new_file.NewFile.NewFile, declared.build.new_file.NewSection.NewSection}
-use Rattle.volume_text.specs.{declared.fault.Cause.Cause, declared.fault.Fault.Fault, declared.volume.OpenVolume.OpenVolume, declared.step.State.State}
+use Rattle.volume_text.specs.{declared.fault.Fault.Fault, declared.volume.OpenVolume.OpenVolume, declared.step.State.State}
 use Rattle.volume_text.specs.declared.fault.Cause.TheVariants as cause
 use Rattle.volume_text.specs.declared.statement.Statement.TheVariants as said
 use Rattle.volume_text.specs.declared.step.State.TheVariants.{Filling, Writing}
