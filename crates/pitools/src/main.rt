@@ -39,11 +39,11 @@ fn run(rt: &HostRuntime, call: &Call) -> ToolStatus {
 fn main(rt: HostRuntime) -> ExitCode {
     // This fails only if memory runs out.
     let Ok(call) = Call::of(&rt) else {
-        return ExitCode::from(ToolStatus::Memory as u8);
+        return ExitCode::from(ToolStatus::Memory.number());
     };
     let status = run(&rt, &call);
     if let Some(asked) = call.asked() {
         PROGRAM.answer(&rt, asked);
     }
-    ExitCode::from(status as u8)
+    ExitCode::from(status.number())
 }

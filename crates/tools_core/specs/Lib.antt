@@ -1,4 +1,5 @@
 pub mod CommandLine
+pub mod ExitNumber
 pub mod FileReading
 pub mod FileRefusal
 pub mod Refusals

@@ -1,4 +1,6 @@
 // What the tools answer.
+ghost use Rattle.std.specs.Prelude.{◌≡◌};
+ghost use Rattle.tools_core.specs.ExitNumber.{exit_number};
 
 /// The exit status of the tools.
 #[derive(Clone, Copy, PartialEq, Eq)]
@@ -37,4 +39,13 @@ pub enum ToolStatus {
     TextRefused = 15,
     /// A line of an order of starts has no form.
     OrderRefused = 16,
+}
+
+impl ToolStatus {
+    /// The number that the program ends with.
+    pub fn number(self) -> u8
+        ensures { result ≡ exit_number self }
+    {
+        self as u8
+    }
 }
