@@ -15,7 +15,7 @@ use Rattle.tools_core.specs.ReportText.{followed_status}
 
 -- how many bytes an order may have
 abbrev pub order_limit : ℕ
-order_limit = 0x10000
+order_limit = 0x100000
 
 -- a boot over the catalogue of the images ends this way in the order, with these lines
 abbrev pub BootsSo : Plan → List (List ℕ) → Catalog → StartOrder → Followed → List ℕ → Type 0

@@ -16,7 +16,7 @@ use recorded_boot::order::{OrderFault, StartOrder, one_reading, read_order};
 use std::alloc::Global;
 
 // The most bytes of an order.
-const ORDER_LIMIT: usize = 0x1_0000;
+const ORDER_LIMIT: usize = 0x10_0000;
 
 // What a plan, the images of its volumes and an order lead to.
 fn order_report(alloc: Global, job: Job, order: &StartOrder) -> Result<Report, OutOfMemory>
@@ -43,7 +43,7 @@ fn order_report(alloc: Global, job: Job, order: &StartOrder) -> Result<Report, O
 fn follow_report(alloc: Global, job: Job, text: &[u8]) -> Result<Report, OutOfMemory>
     requires in_range { IsPlanInRange job.plan }
     requires as_many { length job.images ≡ length job.plan.volumes }
-    requires text { length text.now ≤ 0x10000 }
+    requires text { length text.now ≤ 0x100000 }
     ensures { IfOk result (Tells (FollowReport job.plan job.images text.now)) }
 {
     one_reading();
@@ -62,7 +62,7 @@ fn with_texts<F: Files>(
     files: &mut F,
 ) -> Result<Report, OutOfMemory>
     requires content { length content.now ≤ 0x10000 }
-    requires text { length text.now ≤ 0x10000 }
+    requires text { length text.now ≤ 0x100000 }
     ensures report { IfOk result (λ report. Reports (OrderTextsOutcome (F.told files.old) content.now text.now)
         (IsNamedIn (F.told files.old) content.now) report
         (record { before = F.faults files.old; now = F.faults files.new; missed = F.missed files.new })) }
