@@ -1,7 +1,7 @@
 // Reports to a person on a run: what is at fault, and what to do.
 use crate::forms::PROGRAM;
 use boot_core::Status;
-use program_edge::{Heard, starts_in};
+use program_edge::{Heard, MOST_VOLUMES, count_behind, first_behind, lost_drivers, refused_memory, starts_in, text_of};
 
 // The words that have no form.
 fn tell_usage(rt: &HostRuntime, words: &[String]) {
@@ -36,6 +36,54 @@ fn tell_starts(rt: &HostRuntime, heard: &Heard) -> Option<()> {
         );
     }
     Some(())
+}
+
+// The first refused `memory`, with the rules that the plan gives it.
+fn tell_memory(rt: &HostRuntime, plan: &str, heard: &Heard, text: &[u8]) -> Option<()> {
+    let refused = refused_memory(text)?;
+    let status = text_of(first_behind(refused.line, b"call memory ")?);
+    let start = text_of(refused.start);
+    let board = PROGRAM.plan_in(rt, plan, heard)?;
+    let (ram, len, least) = (board.ram.base, board.ram.len, board.temp.len);
+    let _ = eprintln!(rt;
+        "piboot: {plan}: `memory` was refused with {status} behind the line `{start}`: memory is installed once; its begin and its length are multiples of 0x1000, and it is at least {least:#x} bytes, as temp has, of the {len:#x} bytes of ram at {ram:#x}"
+    );
+    Some(())
+}
+
+// The drivers that were never discovered, volume by volume.
+fn tell_lost(rt: &HostRuntime, heard: &Heard, text: &[u8]) {
+    let Some(noted) = &heard.noted else {
+        return;
+    };
+    for volume in 0..MOST_VOLUMES as u32 {
+        let drivers = lost_drivers(noted.as_slice(), text, volume);
+        if drivers > 0 {
+            let _ = eprintln!(rt;
+                "piboot: volume {volume} (drivers: {drivers}) was never discovered by DXE: no FV HOB has its base or that of a volume around it, and no action `process` named it"
+            );
+        }
+    }
+}
+
+// How many modules wait at the end, and the first of them.
+fn tell_waiting(rt: &HostRuntime, text: &[u8]) -> Option<()> {
+    let first = text_of(first_behind(text, b"waiting ")?);
+    let count = count_behind(text, b"waiting ");
+    let _ = eprintln!(rt;
+        "piboot: modules that wait at the end: {count}; the first is {first}; `pitools explain` says what each of them lacks"
+    );
+    Some(())
+}
+
+// What the lines of a boot show that no status says.
+fn tell_story(rt: &HostRuntime, plan: &str, heard: &Heard) -> Option<()> {
+    let text = heard.boot()?;
+    let _ = tell_memory(rt, plan, heard, text);
+    if first_behind(text, b"handoff ").is_some() {
+        tell_lost(rt, heard, text);
+    }
+    tell_waiting(rt, text)
 }
 
 // Why a boot ended before the hand-off.
@@ -93,7 +141,7 @@ fn meaning_of(status: Status) -> &'static str {
     }
 }
 
-/// Tells what came of a run: a line for each status but Done, and once how many started modules have no script.
+/// Tells what came of a run: a line for each status but Done, and of a boot what its lines show that no status says.
 pub(crate) fn tell(rt: &HostRuntime, words: &[String], status: Status, heard: &Heard) {
     let plan = plan_of(words);
     match status {
@@ -111,6 +159,7 @@ pub(crate) fn tell(rt: &HostRuntime, words: &[String], status: Status, heard: &H
     }
     if is_booted(words, status) {
         // If the lines were not kept, nothing is reported about them.
+        let _ = tell_story(rt, plan, heard);
         let _ = tell_starts(rt, heard);
     }
 }
