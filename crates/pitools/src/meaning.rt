@@ -1,13 +1,14 @@
 // Reports to a person on a run: what is at fault, and what to do.
 use crate::cause_meaning::{source_words, words_for};
 use crate::forms::PROGRAM;
+use crate::line_forms::{Misfit, misfit_in, open_line};
 use crate::order_meaning::{LINE_FORMS, against_words, boot_words};
 use crate::source_meaning::tell_readings;
-use program_edge::{Heard, line_at, text_of};
+use program_edge::{FileKind, Heard, line_at, text_of};
 use tools_core::ToolStatus;
 
 // The most bytes of a line that is shown.
-const SHOWN_LEN: usize = 60;
+const SHOWN_LEN: usize = 200;
 
 const USAGE: &str =
     "usage: pitools check PLAN TRACE | pitools follow PLAN ORDER | pitools hobs PLAN | pitools explain PLAN [TRACE] | pitools gcd HOBS COMMANDS | pitools mp FILE | pitools volume TEXT | pitools text VOLUME | pitools asm depex|script FILE | pitools dis pei|dxe|script FILE";
@@ -108,8 +109,34 @@ fn tell_start(rt: &HostRuntime, name: &str, heard: &Heard) -> Option<()> {
 fn tell_source(rt: &HostRuntime, name: &str, heard: &Heard) -> Option<()> {
     let mut words = heard.last()?.split_whitespace().skip(2);
     let number = words.next()?.parse::<u32>().ok()?;
-    let why = source_words(words.next()?);
-    tell_numbered(rt, name, heard, number, why)
+    let cause = words.next()?;
+    tell_numbered(rt, name, heard, number, source_words(cause))?;
+    tell_misfit(rt, heard.content(name)?, number);
+    tell_open(rt, heard.content(name)?, cause)
+}
+
+// The first word of a line that does not fit its form.
+fn tell_misfit(rt: &HostRuntime, text: &[u8], number: u32) {
+    if let Some(Misfit { column, word, form }) = misfit_in(text, number) {
+        let word = text_of(word);
+        let _ = if word.is_empty() {
+            eprintln!(rt; "pitools: the line ends at column {column}, and its form is: {form}")
+        } else {
+            eprintln!(rt;
+                "pitools: {word:?} at column {column} does not fit; the form of the line is: {form}"
+            )
+        };
+    }
+}
+
+// Which lines are open at the end of a text.
+fn tell_open(rt: &HostRuntime, text: &[u8], cause: &str) -> Option<()> {
+    if cause == "NoEnd" {
+        let number = open_line(rt.alloc(), text).ok()??;
+        let line = text_of(line_at(text, number)?);
+        let _ = eprintln!(rt; "pitools: line {number}, {line:?}, has no line `end`");
+    }
+    Some(())
 }
 
 // The causes of a HOB list, and what each means.
@@ -222,9 +249,25 @@ fn command_words(words: &[String]) -> &'static str {
     }
 }
 
+// What a file is that is of another kind than the tool asks for.
+fn tell_other_kind(rt: &HostRuntime, words: &[String], status: ToolStatus) -> Option<()> {
+    let verb = word_at(words, 0);
+    let (place, asked) = match status {
+        ToolStatus::ImageRefused if verb == "text" => (1, FileKind::Volume),
+        ToolStatus::HobsRefused => (1, FileKind::HobList),
+        ToolStatus::No if verb != "follow" => (2, FileKind::Trace),
+        ToolStatus::No | ToolStatus::OrderRefused => (2, FileKind::Order),
+        _ => return None,
+    };
+    PROGRAM.tell_kind(rt, word_at(words, place), Some(asked))
+}
+
 // Reports on a status that names a place of a file, if the files and the text were kept.
 fn tell_fault(rt: &HostRuntime, words: &[String], status: ToolStatus, heard: &Heard) -> Option<()> {
     let first = word_at(words, 1);
+    if tell_other_kind(rt, words, status).is_some() {
+        return Some(());
+    }
     match status {
         ToolStatus::PlanRefused => PROGRAM.tell_plan(rt, first, heard),
         ToolStatus::ImageRefused if word_at(words, 0) == "text" => None,

@@ -1,4 +1,5 @@
 // Reports on files, plans and images that are refused, and on an output that failed.
+use crate::file_kind::{FileKind, beginning_of, kind_of};
 use crate::heard::Heard;
 use crate::image::image_words;
 use crate::kept_files::AskedFile;
@@ -31,7 +32,15 @@ impl Program {
             return self.put(rt, "a file", why);
         };
         let name = text_of(name.as_slice());
+        if !is_long && name.starts_with("-") {
+            let why =
+                "a word that begins with - is no file, and no option stands behind a command; ./ in front makes it a file's name";
+            return self.put(rt, name, why);
+        }
         if is_long {
+            if self.tell_kind(rt, name, None).is_some() {
+                return;
+            }
             let _ = eprintln!(rt;
                 "{program}: {name}: the file is longer than {limit} bytes, its limit"
             );
@@ -42,9 +51,27 @@ impl Program {
         }
     }
 
+    /// Reports what a file is, if its beginning shows that it is of another kind than is asked for.
+    pub fn tell_kind(&self, rt: &HostRuntime, name: &str, asked: Option<FileKind>) -> Option<()> {
+        let beginning = beginning_of(rt, name)?;
+        let kind = kind_of(beginning.as_slice())?;
+        if asked == Some(kind) {
+            return None;
+        }
+        let program = self.name;
+        let words = kind.words();
+        let _ = eprintln!(rt;
+            "{program}: {name}: this file is not of the kind that is asked for: it is {words}"
+        );
+        Some(())
+    }
+
     /// Reports the line of a plan that is at fault, if the plan was kept.
     pub fn tell_plan(&self, rt: &HostRuntime, plan: &str, heard: &Heard) -> Option<()> {
         let text = heard.content(plan)?;
+        if self.tell_kind(rt, plan, Some(FileKind::Plan)).is_some() {
+            return Some(());
+        }
         if text.len() > PLAN_LIMIT {
             return None;
         }
@@ -73,6 +100,9 @@ impl Program {
         let plan = self.plan_in(rt, plan, heard)?;
         let volume = plan.volumes.as_slice().get(volume as usize)?;
         let name = text_of(volume.name.as_slice());
+        if at == 40 && self.tell_kind(rt, name, Some(FileKind::Volume)).is_some() {
+            return Some(());
+        }
         let why = image_words(cause);
         let program = self.name;
         let _ = eprintln!(rt; "{program}: {name}: at {at}: {why}");
