@@ -1,4 +1,5 @@
 pub mod Asked
+pub mod BootStory
 pub mod KeptLines
 pub mod Mistake
 pub mod NotedVolumes

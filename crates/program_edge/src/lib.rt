@@ -6,6 +6,7 @@
 #![tactic(auto)]
 
 mod asked;
+mod boot_story;
 mod call;
 mod heard;
 mod image;
@@ -28,6 +29,7 @@ mod starts;
 mod version;
 
 pub use asked::{Asked, asked_by_person};
+pub use boot_story::{RefusedMemory, count_behind, first_behind, lost_drivers, refused_memory};
 pub use call::Call;
 pub use heard::Heard;
 pub use kept_files::{AskedFile, Keeping, KeptFiles};
@@ -35,6 +37,7 @@ pub use kept_lines::KeptLines;
 pub use kept_text::KeptText;
 pub use kind::Kind;
 pub use mistake::Mistake;
+pub use mod_catalog::MOST_VOLUMES;
 pub use noted_volumes::{NotedVolume, NotedVolumes, has_start};
 pub use plan_mistake::{line_at, mistake_in};
 pub use program::{Program, text_of};

@@ -1,14 +1,14 @@
 // The modules without a script, noted as the volumes of a plan are read.
-ghost use Rattle.std.specs.Prelude.{◌≡◌, List, IfSome};
+ghost use Rattle.std.specs.Prelude.{◌≡◌, List, IfOk, IfSome};
 ghost use Rattle.mod_catalog.specs.declared.catalogue.Catalog.{Catalog as Catalogue};
-ghost use Rattle.program_edge.specs.NotedVolumes.{AreNotedOf, IsNoted, IsNotedOf, lacks_script, starts_scriptless};
+ghost use Rattle.program_edge.specs.NotedVolumes.{AreNotedOf, IsNoted, IsNotedOf, driver_volumes, lacks_script, starts_scriptless};
 
 use crate::scriptless::Scriptless;
 use boot_io::{FileFault, Files};
 use boot_model::Line;
 use boot_plan::read_plan;
-use mod_catalog::{Catalog, catalog};
-use pi_base::{Guid, Phase, Seq};
+use mod_catalog::{Catalog, Module, catalog};
+use pi_base::{Guid, OutOfMemory, Phase, Seq};
 use std::alloc::Global;
 use std::slice;
 
@@ -22,6 +22,24 @@ pub struct NotedVolume {
     pub count: u32,
     /// The modules.
     pub scriptless: Scriptless,
+    /// The volume of each module that has a part for DXE, in the order of the modules.
+    pub drivers: Seq<u32>,
+}
+
+// The volume of each module that has a part for DXE.
+#[tactic(auto, using(crate::proofs::Drivers::driver_on, crate::proofs::Drivers::no_driver, crate::proofs::Drivers::all_found))]
+fn drivers_of(alloc: Global, modules: &[Module]) -> Result<Seq<u32>, OutOfMemory>
+    ensures { IfOk result (λ found. found ≡ driver_volumes modules.now) }
+{
+    let mut found = Seq::new(alloc);
+    let mut rest = modules;
+    'modules: while let [entry, after @ ..] = rest {
+        if entry.dxe.is_some() {
+            found.push(entry.volume)?;
+        }
+        rest = after;
+    }
+    Ok(found)
 }
 
 // The modules without a script of a catalogue. None if memory runs out.
@@ -31,10 +49,13 @@ fn noted_of(alloc: Global, catalog: &Catalog) -> Option<NotedVolume>
     let Ok(count) = u32::try_from(catalog.volumes.len()) else {
         return None;
     };
-    match Scriptless::of(alloc, catalog) {
-        Ok(scriptless) => Some(NotedVolume { count, scriptless }),
-        Err(_) => None,
-    }
+    let drivers = drivers_of(alloc, catalog.modules.as_slice()).ok()?;
+    let scriptless = Scriptless::of(alloc, catalog).ok()?;
+    Some(NotedVolume {
+        count,
+        scriptless,
+        drivers,
+    })
 }
 
 // The modules without a script in the image of a volume. None if it has no catalogue, or memory runs out.
