@@ -1,5 +1,5 @@
 -- What a text shows is what its first line and the lines behind it show.
-use Rattle.std.proofs.Common.{◌≡◌, ℕ, ◌+◌, Bool, true, false, cond, ◌||◌, List, [], ◌∷◌, Option, Some, None, length, drop, refl, sym, ap, ◌∙◌}
+use Rattle.std.proofs.Common.{◌≡◌, ℕ, ◌+◌, true, false, cond, ◌||◌, List, [], ◌∷◌, Some, length, drop, ap, ◌∙◌}
 use Rattle.line_words.specs.Line.{lines}
 use Rattle.program_edge.specs.BootStory.{count_behind, first_behind, has_front, is_discovered, is_discovery, is_refusal, last_start, refusal_behind}
 
