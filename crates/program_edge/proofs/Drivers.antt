@@ -1,5 +1,5 @@
 -- Drivers are found one by one.
-use Rattle.std.proofs.Common.{◌≡◌, ℕ, Bool, true, false, cond, List, [], ◌∷◌, ◌++◌, ◌-◌, ◌<◌, ◌≤◌, ◌==◌, nat_lt, is_some, map, filter, length, refl, sym, ap, arith, ◌∙◌}
+use Rattle.std.proofs.Common.{◌≡◌, ℕ, true, false, cond, List, [], ◌∷◌, ◌++◌, ◌-◌, ◌<◌, ◌≤◌, ◌==◌, nat_lt, is_some, map, filter, length, sym, ap, arith, ◌∙◌}
 use Rattle.std.proofs.lemmas.Bool.Decides.{nat_tests}
 use Rattle.std.proofs.lemmas.List.{append-nil, append_assoc}
 use Rattle.mod_catalog.specs.declared.catalogue.Module.{Module}
@@ -9,7 +9,7 @@ pub driver_on : (found : List ℕ) (rest after : List Module) (entry : Module) �
     → found ++ driver_volumes rest ≡ (found ++ entry.volume ∷ []) ++ driver_volumes after
 driver_on found rest after entry here is_so =
     let one : driver_volumes (entry ∷ after) ≡ entry.volume ∷ driver_volumes after =
-        ap (λ b. map (λ m. m.volume) (cond b (entry ∷ filter (λ m. is_some m.dxe) after) (filter (λ m. is_some m.dxe) after))) is_so in
+    ap (λ b. map (λ m. m.volume) (cond b (entry ∷ filter (λ m. is_some m.dxe) after) (filter (λ m. is_some m.dxe) after))) is_so in
     ap (λ all. found ++ driver_volumes all) here ∙ ap (λ all. found ++ all) one ∙ sym (append_assoc found (entry.volume ∷ []) (driver_volumes after))
 
 pub no_driver : (rest after : List Module) (entry : Module) → rest ≡ entry ∷ after → is_some entry.dxe ≡ false → driver_volumes rest ≡ driver_volumes after

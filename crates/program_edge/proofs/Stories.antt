@@ -1,5 +1,5 @@
 -- What a text shows is what its first line and the lines behind it show.
-use Rattle.std.proofs.Common.{◌≡◌, ℕ, ◌+◌, Bool, true, false, cond, ◌||◌, List, [], ◌∷◌, Option, Some, None, length, drop, refl, sym, ap, ◌∙◌}
+use Rattle.std.proofs.Common.{◌≡◌, ℕ, ◌+◌, true, false, cond, ◌||◌, List, [], ◌∷◌, Some, length, drop, ap, ◌∙◌}
 use Rattle.line_words.specs.Line.{lines}
 use Rattle.program_edge.specs.BootStory.{count_behind, first_behind, has_front, is_discovered, is_discovery, is_refusal, last_start, refusal_behind}
 
@@ -16,10 +16,6 @@ front_later front first all others here is_not =
 pub one_more : (front first : List ℕ) (all others : List (List ℕ)) → all ≡ first ∷ others → has_front front first ≡ true
     → count_behind front all ≡ 1 + count_behind front others
 one_more front first all others here is_so = ap (count_behind front) here ∙ ap (λ b. cond b 1 0 + count_behind front others) is_so
-
-pub no_more : (front first : List ℕ) (all others : List (List ℕ)) → all ≡ first ∷ others → has_front front first ≡ false
-    → count_behind front all ≡ count_behind front others
-no_more front first all others here is_not = ap (count_behind front) here ∙ ap (λ b. cond b 1 0 + count_behind front others) is_not
 
 pub refused_here : (start first : List ℕ) (all others : List (List ℕ)) → all ≡ first ∷ others → is_refusal first ≡ true
     → refusal_behind start all ≡ Some (start, first)

@@ -28,7 +28,7 @@ pub fn first_behind<'a>(text: &'a [u8], front: &[u8]) -> Option<&'a [u8]>
 }
 
 /// How many lines of a text begin with `front`.
-#[tactic(auto, using(crate::proofs::Stories::one_more, crate::proofs::Stories::no_more, crate::proofs::Stories::no_lines))]
+#[tactic(auto, using(crate::proofs::Stories::one_more, crate::proofs::Stories::no_lines))]
 pub fn count_behind(text: &[u8], front: &[u8]) -> usize
     ensures { result ≡ count_behind front.now (lines text.now) }
 {
