@@ -14,7 +14,7 @@ mod sound;
 mod whole_boot;
 
 pub use boards::{boards_are_sound, boots_are_licensed, boots_have_facts};
-pub use choice::{Choice, FirstEligible, Reached};
+pub use choice::{Before, Choice, FirstEligible, Reached};
 pub use dxe::{
     companions_start_beside, discovered_order_has_each_once, driver_starts_are_printed,
     driver_steps_grow, drivers_are_few, drivers_start_licensed, drivers_start_once, dxe_runs_end,
