@@ -4,7 +4,7 @@ use Rattle.std.specs.Io.KnownBytes.{Appends}
 use Rattle.boot_io.proofs.PutsLaws.{appends_then, part_then}
 use Rattle.boot_io.specs.{declared.halt.Halt.Halt, Sink.AppendsPart}
 use Rattle.boot_io.specs.declared.halt.Halt.TheVariants as H
-use Rattle.boot_laws.specs.RunsEnd.{DxeRunsEnd, PeiRunsEnd}
+use Rattle.boot_laws.specs.{declared.choice.Before.Before, Naming.first_eligible_rules, RunsEnd.DxeRunsEnd, RunsEnd.PeiRunsEnd}
 use Rattle.boot_trace.proofs.Lines.{part_of_longer}
 use Rattle.mod_catalog.specs.{declared.catalogue.Catalog.Catalog, WellFormed.AreNumbered}
 use Rattle.store_model.specs.{HandleState.HandleState, StoreState.Board, StoreState.StoreState}
@@ -22,33 +22,27 @@ use Rattle.boot_core.specs.{declared.whole.boot.Ran.Ran, Closing.closing, FirstB
 use Rattle.boot_core.specs.WholeEnd.{IsLeftBehind, boot_text, end_after, end_of}
 use Rattle.boot_core.specs.Choices.{Choices, choices_of, starts_of}
 use Rattle.dxe_dispatch.specs.Choices.{IsRunBy, came}
-use Rattle.boot_core.specs.ByChoice.{BootBy, BootsTo, ComesInDxe, EndsAfter, HasRun, PutsPartBehind, StopsBehind, StopsBehindPei, all_lines, ending_of, starts_by, stops_at_last, stops_in_dxe}
+use Rattle.boot_core.specs.ByChoice.{BootBy, BootsTo, ComesInDxe, EndsAfter, HasRun, PutsPartBehind, StopsBehind, StopsBehindPei, all_lines, before_by, ending_of, stops_at_last, stops_in_dxe}
 use Rattle.boot_core.proofs.BootLines.{begins_with_pei, both_first, pei_first, same_whole, whole_of_pei}
 
 -- the choices of the machine itself
-abbrev pub first_choices : {S : Type 0} → (S → Option (List ℕ)) → (S → ℕ) → S → Choices
-first_choices text faults first =
-    choices_of (record {
-      peims = λ sink starts named. named ≡ None;
-      lets_in_pei = λ starts number. true;
-      drivers = λ sink starts named. named ≡ None;
-      lets_in_dxe = λ starts number. true;
-      text = text;
-      faults = faults;
-    }) first
+abbrev pub first_choices : {S : Type 0} → (S → Option (List ℕ)) → (S → ℕ) → Catalog → ℕ → S → Choices
+first_choices text faults catalog fuel first = choices_of (record { rules = first_eligible_rules; text = text; faults = faults }) catalog fuel first
 
 -- what is known of such a boot
-pub record NamesNone (choices : Choices) (catalog : Catalog) : Type 0 where
+pub record NamesNone (choices : Choices) (catalog : Catalog) (fuel : ℕ) : Type 0 where
   pub peims : P.NamesNone choices.peims
   pub drivers : (pei : PeiMachine) → D.NamesNone (choices.drivers pei)
   pub pei_ends : PeiRunsEnd
   pub dxe_ends : DxeRunsEnd
   pub numbered : AreNumbered 0 catalog.volumes
+  pub counts : (pei : PeiMachine) (earlier : List DxeMachine)
+      → (choices.told pei earlier).starts ≡ starts_of pei (came catalog fuel (dxe_opening catalog pei.store pei.actions) earlier)
 
-pei_is : (choices : Choices) (board : Board) (catalog : Catalog) (fuel : ℕ) → NamesNone choices catalog → (boot : BootBy choices board catalog fuel) → boot.pei ≡ pei_end board catalog fuel
+pei_is : (choices : Choices) (board : Board) (catalog : Catalog) (fuel : ℕ) → NamesNone choices catalog fuel → (boot : BootBy choices board catalog fuel) → boot.pei ≡ pei_end board catalog fuel
 pei_is choices board catalog fuel own boot = P.first_end own.pei_ends choices.peims choices.lets_peim board catalog fuel boot.pei boot.how own.peims boot.comes boot.ended
 
-dxe_is : (choices : Choices) (catalog : Catalog) (fuel : ℕ) (pei : PeiMachine) (earlier : List DxeMachine) (how : DxeEnd) → NamesNone choices catalog
+dxe_is : (choices : Choices) (catalog : Catalog) (fuel : ℕ) (pei : PeiMachine) (earlier : List DxeMachine) (how : DxeEnd) → NamesNone choices catalog fuel
     → IsRunBy (choices.drivers pei) (choices.lets_driver pei) catalog fuel (dxe_opening catalog pei.store pei.actions) earlier → (came catalog fuel (dxe_opening catalog pei.store pei.actions) earlier).ended ≡ Some how
     → came catalog fuel (dxe_opening catalog pei.store pei.actions) earlier ≡ dxe_end catalog fuel pei.store pei.actions
 dxe_is choices catalog fuel pei earlier how own run ended =
@@ -60,19 +54,19 @@ record IsWhole (catalog : Catalog) (fuel : ℕ) (all : List Line) (end : RunEnd)
   pub end_is : end_after catalog fuel pei pei.ended ≡ Some end
 
 -- its handles, and how many starts there were
-left_by : (choices : Choices) (catalog : Catalog) (fuel : ℕ) (pei : PeiMachine) (how : PeiEnd) (lines : List Line) (handles : HandleState) (end : RunEnd) → NamesNone choices catalog
+left_by : (choices : Choices) (catalog : Catalog) (fuel : ℕ) (pei : PeiMachine) (how : PeiEnd) (lines : List Line) (handles : HandleState) (end : RunEnd) → NamesNone choices catalog fuel
     → (ends : EndsAfter choices catalog fuel pei how lines handles end)
-    → IsLeftBehind catalog fuel pei (Some how) handles (starts_by (record { by = choices; catalog = catalog; fuel = fuel; pei = pei; lines = lines; handles = handles; result = end }) how ends)
+    → IsLeftBehind catalog fuel pei (Some how) handles (before_by (record { by = choices; catalog = catalog; fuel = fuel; pei = pei; lines = lines; handles = handles; result = end }) how ends).starts
 left_by choices catalog fuel pei Handoff lines handles end own ends =
     let here = ap (λ (x : DxeMachine). x.ended) (sym ends.comes.is) ∙ ends.ended in
     let is = dxe_is choices catalog fuel pei ends.comes.earlier ends.how own ends.comes.run here in
-    (ends.handles_are ∙ ap (λ (x : DxeMachine). x.handles) (ends.comes.is ∙ is), ap (starts_of pei) (ends.comes.is ∙ is))
+    (ends.handles_are ∙ ap (λ (x : DxeMachine). x.handles) (ends.comes.is ∙ is), own.counts pei ends.comes.earlier ∙ ap (starts_of pei) is)
 left_by choices catalog fuel pei NoMemory lines handles end own ends = (ends.handles_are, refl)
 left_by choices catalog fuel pei NoIpl lines handles end own ends = (ends.handles_are, refl)
 left_by choices catalog fuel pei Spent lines handles end own ends = (ends.handles_are, refl)
 left_by choices catalog fuel pei Deep lines handles end own ends = (ends.handles_are, refl)
 
-whole_by : (choices : Choices) (catalog : Catalog) (fuel : ℕ) (pei : PeiMachine) (how : PeiEnd) (lines : List Line) (handles : HandleState) (end : RunEnd) → NamesNone choices catalog → pei.ended ≡ Some how
+whole_by : (choices : Choices) (catalog : Catalog) (fuel : ℕ) (pei : PeiMachine) (how : PeiEnd) (lines : List Line) (handles : HandleState) (end : RunEnd) → NamesNone choices catalog fuel → pei.ended ≡ Some how
     → EndsAfter choices catalog fuel pei how lines handles end → IsWhole catalog fuel (lines ++ closing pei.store handles end) end pei
 whole_by choices catalog fuel pei Handoff lines handles end own e ends =
     let opening = dxe_opening catalog pei.store pei.actions in
@@ -120,7 +114,7 @@ part_of_boot board catalog fuel lines old new begins part =
     subst P (text_is board catalog fuel (lines ++ begins.0) (sym begins.1)) (part_of_longer old new lines begins.0 part)
 
 -- all lines of a boot that handed off begin with those of each machine of its DXE
-dxe_begins : (choices : Choices) (catalog : Catalog) (fuel : ℕ) (pei : PeiMachine) (m : DxeMachine) → NamesNone choices catalog → pei.ended ≡ Some Handoff → ComesInDxe choices catalog fuel pei m
+dxe_begins : (choices : Choices) (catalog : Catalog) (fuel : ℕ) (pei : PeiMachine) (m : DxeMachine) → NamesNone choices catalog fuel → pei.ended ≡ Some Handoff → ComesInDxe choices catalog fuel pei m
     → BeginsAfter catalog fuel (pei.lines ++ m.lines) pei
 dxe_begins choices catalog fuel pei m own e comes =
     let opening = dxe_opening catalog pei.store pei.actions in
@@ -136,7 +130,7 @@ puts_part text faults first shown lines next by =
     let P : List ℕ → Type 0 = λ t. AppendsPart (text first) (text shown) t in
     subst P (sym (text_of-append lines next)) (part_then (text first) (text by.sink) (text shown) (text_of lines) (text_of next) by.has.put by.part)
 
-behind_part : {S : Type 0} (choices : Choices) (text : S → Option (List ℕ)) (faults : S → ℕ) (board : Board) (catalog : Catalog) (fuel : ℕ) (first shown : S) → NamesNone choices catalog
+behind_part : {S : Type 0} (choices : Choices) (text : S → Option (List ℕ)) (faults : S → ℕ) (board : Board) (catalog : Catalog) (fuel : ℕ) (first shown : S) → NamesNone choices catalog fuel
     → (by : StopsBehindPei choices text faults board catalog fuel first shown) → AppendsPart (text first) (text shown) (boot_text board catalog fuel)
 behind_part {S = S} choices text faults board catalog fuel first shown own by = stage by.stops
   where
@@ -155,18 +149,18 @@ behind_part {S = S} choices text faults board catalog fuel first shown own by = 
         subst P (text_is board catalog fuel (lines ++ last) all.lines) (puts_part text faults first shown lines last put)
 
 -- its handles and its starts behind the last machine of its PEI
-behind_by : {M : Type 0} (choices : Choices) (stands : M → StoreState → Type 0) (board : Board) (catalog : Catalog) (fuel : ℕ) (old new : Option (List ℕ)) (ran : Ran M) → NamesNone choices catalog
-    → (by : HasRun choices stands board catalog fuel ran old new) → IsLeftBehind catalog fuel by.boot.pei by.boot.pei.ended ran.handles ran.starts
+behind_by : {M : Type 0} (choices : Choices) (stands : M → StoreState → Type 0) (board : Board) (catalog : Catalog) (fuel : ℕ) (old new : Option (List ℕ)) (ran : Ran M) → NamesNone choices catalog fuel
+    → (by : HasRun choices stands board catalog fuel ran old new) → IsLeftBehind catalog fuel by.boot.pei by.boot.pei.ended ran.handles ran.before.starts
 behind_by choices stands board catalog fuel old new ran own by =
     let boot = by.boot in
     let pei = boot.pei in
     let So : HandleState → ℕ → Type 0 = λ handles starts. IsLeftBehind catalog fuel pei (Some boot.how) handles starts in
-    let left : So boot.handles (starts_by (ending_of boot) boot.how boot.ends) = left_by choices catalog fuel pei boot.how boot.lines boot.handles boot.result own boot.ends in
-    let same : So ran.handles ran.starts = subst (λ n. So ran.handles n) (sym by.starts_are) (subst (λ h. So h (starts_by (ending_of boot) boot.how boot.ends)) (sym by.handles_are) left) in
-    subst (λ o. IsLeftBehind catalog fuel pei o ran.handles ran.starts) (sym boot.ended) same
+    let left : So boot.handles (before_by (ending_of boot) boot.how boot.ends).starts = left_by choices catalog fuel pei boot.how boot.lines boot.handles boot.result own boot.ends in
+    let same : So ran.handles ran.before.starts = subst (λ (b : Before). So ran.handles b.starts) (sym by.before_is) (subst (λ h. So h (before_by (ending_of boot) boot.how boot.ends).starts) (sym by.handles_are) left) in
+    subst (λ o. IsLeftBehind catalog fuel pei o ran.handles ran.before.starts) (sym boot.ended) same
 
 -- what it leaves at its end
-pub first_ran : {M : Type 0} (choices : Choices) (stands : M → StoreState → Type 0) (board : Board) (catalog : Catalog) (fuel : ℕ) (old new : Option (List ℕ)) (ran : Ran M) → NamesNone choices catalog
+pub first_ran : {M : Type 0} (choices : Choices) (stands : M → StoreState → Type 0) (board : Board) (catalog : Catalog) (fuel : ℕ) (old new : Option (List ℕ)) (ran : Ran M) → NamesNone choices catalog fuel
     → HasRun choices stands board catalog fuel ran old new → RunsTo stands board catalog fuel (record { old = old; new = new }) (Ok ran)
 first_ran choices stands board catalog fuel old new ran own by =
     let boot = by.boot in
@@ -175,11 +169,11 @@ first_ran choices stands board catalog fuel old new ran own by =
     let all = subst (IsWhole catalog fuel (all_lines boot) boot.result) is whole in
     let P : List ℕ → Type 0 = λ t. Appends old new t in
     let Left : PeiMachine → Type 0 = λ pei. IsLeft stands catalog pei ran.pei in
-    let Behind : PeiMachine → Type 0 = λ pei. IsLeftBehind catalog fuel pei pei.ended ran.handles ran.starts in
+    let Behind : PeiMachine → Type 0 = λ pei. IsLeftBehind catalog fuel pei pei.ended ran.handles ran.before.starts in
     (record { end_is = end_is_of board catalog fuel boot.result all.end_is ∙ ap Some (sym by.end_is); left = subst Left is by.left; behind = subst Behind is (behind_by choices stands board catalog fuel old new ran own by) }, subst P (text_is board catalog fuel (all_lines boot) all.lines) by.text)
 
 -- or puts, where it is given up
-pub first_halts : {M S : Type 0} (choices : Choices) (text : S → Option (List ℕ)) (faults : S → ℕ) (stands : M → StoreState → Type 0) (takes : Bool) (board : Board) (catalog : Catalog) (fuel : ℕ) (sink shown : S) (halt : Halt) → NamesNone choices catalog
+pub first_halts : {M S : Type 0} (choices : Choices) (text : S → Option (List ℕ)) (faults : S → ℕ) (stands : M → StoreState → Type 0) (takes : Bool) (board : Board) (catalog : Catalog) (fuel : ℕ) (sink shown : S) (halt : Halt) → NamesNone choices catalog fuel
     → BootsTo choices text faults stands takes board catalog fuel sink shown (Err halt) → AppendsPart (text sink) (text shown) (boot_text board catalog fuel)
 first_halts choices text faults stands takes board catalog fuel sink shown H.Sink own (inl by) =
     let last = pei_end board catalog fuel in
@@ -191,7 +185,7 @@ first_halts choices text faults stands takes board catalog fuel sink shown H.Mem
 first_halts choices text faults stands takes board catalog fuel sink shown H.Memory own (inr by) = behind_part choices text faults board catalog fuel sink shown own by
 
 -- all lines of PEI were put, and then a part of what follows
-outside_pei : {S : Type 0} (choices : Choices) (text : S → Option (List ℕ)) (faults : S → ℕ) (board : Board) (catalog : Catalog) (fuel : ℕ) (first shown : S) → NamesNone choices catalog
+outside_pei : {S : Type 0} (choices : Choices) (text : S → Option (List ℕ)) (faults : S → ℕ) (board : Board) (catalog : Catalog) (fuel : ℕ) (first shown : S) → NamesNone choices catalog fuel
     → (by : StopsBehindPei choices text faults board catalog fuel first shown) → PutsPei (text first) (text shown) (pei_end board catalog fuel)
 outside_pei {S = S} choices text faults board catalog fuel first shown own by = subst (PutsPei (text first) (text shown)) is (stage by.stops)
   where
@@ -207,7 +201,7 @@ outside_pei {S = S} choices text faults board catalog fuel first shown own by = 
         (text_of more.0 ++ put.part.0, subst P (ap (λ t. t ++ put.part.0) split ∙ append_assoc (text_of by.pei.lines) (text_of more.0) put.part.0) (appends_then (text first) (text put.sink) (text shown) (text_of lines) put.part.0 put.has.put put.part.2))
 
 -- where memory is wanting
-pub first_wants : {M S : Type 0} (choices : Choices) (text : S → Option (List ℕ)) (faults : S → ℕ) (stands : M → StoreState → Type 0) (takes : Bool) (board : Board) (catalog : Catalog) (fuel : ℕ) (sink shown : S) (halt : Halt) → NamesNone choices catalog
+pub first_wants : {M S : Type 0} (choices : Choices) (text : S → Option (List ℕ)) (faults : S → ℕ) (stands : M → StoreState → Type 0) (takes : Bool) (board : Board) (catalog : Catalog) (fuel : ℕ) (sink shown : S) (halt : Halt) → NamesNone choices catalog fuel
     → BootsTo choices text faults stands takes board catalog fuel sink shown (Err halt) → WantsOutsidePei takes board catalog fuel (record { old = text sink; new = text shown }) halt
 first_wants choices text faults stands takes board catalog fuel sink shown H.Sink own by = tt
 first_wants choices text faults stands takes board catalog fuel sink shown H.Memory own (inl by) = λ none. inl (by.before none)

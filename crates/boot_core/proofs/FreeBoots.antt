@@ -46,12 +46,12 @@ step_free laws catalog fuel m target (Own own) = laws.dxe catalog fuel m
 step_free laws catalog fuel m target (First root found c) = laws.dxe catalog fuel m
 step_free laws catalog fuel m target (Aimed root c) = (laws.groups catalog m root c.choosing c.may).step fuel
 
-dxe_leads : (laws : Laws) (Names : DxeMachine → Option ℕ → Type 0) (Lets : DxeMachine → ℕ → Bool) (catalog : Catalog) (fuel : ℕ) (opening : DxeMachine) (earlier : List DxeMachine) → D.IsRunBy Names Lets catalog fuel opening earlier
+dxe_leads : (laws : Laws) (Names : List DxeMachine → DxeMachine → Option ℕ → Type 0) (Lets : List DxeMachine → DxeMachine → ℕ → Bool) (catalog : Catalog) (fuel : ℕ) (opening : DxeMachine) (earlier : List DxeMachine) → D.IsRunBy Names Lets catalog fuel opening earlier
     → DxeComesTo catalog fuel opening (came_over catalog fuel opening earlier) (D.came catalog fuel opening earlier)
 dxe_leads laws Names Lets catalog fuel opening [] run = refl
 dxe_leads laws Names Lets catalog fuel opening (target ∷ earlier) run =
     let m = D.came catalog fuel opening earlier in
-    (run.2, step_free laws catalog fuel m target (target_at Names catalog m target laws.first run.2 run.0), dxe_leads laws Names Lets catalog fuel opening earlier run.3)
+    (run.2, step_free laws catalog fuel m target (target_at (Names earlier) catalog m target laws.first run.2 run.0), dxe_leads laws Names Lets catalog fuel opening earlier run.3)
 
 dxe_free : (catalog : Catalog) (fuel : ℕ) (pei : PeiMachine) (opening m : DxeMachine) (earlier : List DxeMachine) (lines : List Line) → DxeComesTo catalog fuel opening earlier m
     → AreFreeDxeLines catalog fuel pei m lines → AreFreeDxeLines catalog fuel pei opening lines

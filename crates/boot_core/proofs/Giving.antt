@@ -20,14 +20,14 @@ use Rattle.boot_core.specs.ByChoice.{BarsInDxe, BootsTo, HasCome, HasRun, IsBarr
 -- it has come to its end
 unfoldable pub has_run : {M : Type 0} (choices : Choices) (stands : M → StoreState → Type 0) (board : Board) (catalog : Catalog) (fuel : ℕ) (left : Ended M) (last : Last) (old mid new : Option (List ℕ))
     → (pei : HasBooted choices.peims choices.lets_peim stands catalog fuel (pei_opening board catalog) left old mid) → HasClosed choices catalog fuel pei.«end» left.«end» last old new
-    → HasRun choices stands board catalog fuel (record { «end» = last.«end»; pei = left; handles = last.handles; starts = last.starts }) old new
+    → HasRun choices stands board catalog fuel (record { «end» = last.«end»; pei = left; handles = last.handles; before = last.before }) old new
 has_run choices stands board catalog fuel left last old mid new pei told = record {
   boot = record { pei = pei.«end»; comes = pei.comes; how = left.«end»; ended = pei.ended.ended; lines = told.lines; handles = last.handles; result = last.«end»; ends = told.ends };
   how_is = refl;
   end_is = refl;
   left = pei.is_left;
   handles_are = refl;
-  starts_are = told.starts_are;
+  before_is = told.before_is;
   text = told.text;
 }
 
@@ -54,16 +54,16 @@ freely choices text faults stands takes board catalog fuel sink shown (Err halt)
 
 -- the same with what the watchers know
 pub knows_come : {M S : Type 0} (w : Knowing) (call : BootCall M S) (board : Board) (first : S) (left : Ended M) (behind : Behind)
-    → (pei : HasBooted (choices_of call.rules first).peims (choices_of call.rules first).lets_peim call.stands call.catalog call.fuel (pei_opening board call.catalog) left (call.rules.text first) (call.rules.text call.sink))
+    → (pei : HasBooted (choices_of call.by call.catalog call.fuel first).peims (choices_of call.by call.catalog call.fuel first).lets_peim call.stands call.catalog call.fuel (pei_opening board call.catalog) left (call.by.text first) (call.by.text call.sink))
     → w.pei call.catalog call.fuel pei.comes.earlier pei.«end» (R.End left.«end») → ComesKnown w.dxe call pei.«end» left.«end» first (Ok behind) → BootsKnown w call board first (Ok (left_by left behind))
 unfolding has_come has_run is_barred
 knows_come w call board first left (Closed last) pei known told =
-    let text = call.rules.text in
-    record { by = has_come (choices_of call.rules first) call.stands board call.catalog call.fuel left (Closed last) (text first) (text call.sink) (text call.shown) pei told.by; known = (known, told.known) }
+    let text = call.by.text in
+    record { by = has_come (choices_of call.by call.catalog call.fuel first) call.stands board call.catalog call.fuel left (Closed last) (text first) (text call.sink) (text call.shown) pei told.by; known = (known, told.known) }
 knows_come w call board first left (Barred barred) pei known told =
-    let text = call.rules.text in
+    let text = call.by.text in
     let Known : PeiEnd → Type 0 = λ how. w.pei call.catalog call.fuel pei.comes.earlier pei.«end» (R.End how) in
-    record { by = has_come (choices_of call.rules first) call.stands board call.catalog call.fuel left (Barred barred) (text first) (text call.sink) (text call.shown) pei told.by; known = (subst Known told.by.0 known, told.known) }
+    record { by = has_come (choices_of call.by call.catalog call.fuel first) call.stands board call.catalog call.fuel left (Barred barred) (text first) (text call.sink) (text call.shown) pei told.by; known = (subst Known told.by.0 known, told.known) }
 
 -- it was given up behind the end of PEI
 pub given_up_behind : {M S : Type 0} (choices : Choices) (text : S → Option (List ℕ)) (faults : S → ℕ) (stands : M → StoreState → Type 0) (takes : Bool) (board : Board) (catalog : Catalog) (fuel : ℕ)
@@ -80,7 +80,7 @@ given_up_in_pei choices text faults stands takes board catalog fuel sink shown H
 
 -- it was given up, whereof nothing is known
 pub knows_none : {M S : Type 0} (w : Knowing) (call : BootCall M S) (board : Board) (first : S) (result : Result (Booted M) Halt) (given halt : Halt) → result ≡ Err given → given ≡ halt
-    → BootsTo (choices_of call.rules first) call.rules.text call.rules.faults call.stands call.takes board call.catalog call.fuel first call.shown (Err halt) → BootsKnown w call board first result
+    → BootsTo (choices_of call.by call.catalog call.fuel first) call.by.text call.by.faults call.stands call.takes board call.catalog call.fuel first call.shown (Err halt) → BootsKnown w call board first result
 knows_none {M = M} w call board first result given halt e f by =
     let P : Result (Booted M) Halt → Type 0 = λ r. BootsKnown w call board first r in
     subst P (sym (e ∙ ap (λ (h : Halt). Err h) f)) (record { by = by; known = tt })

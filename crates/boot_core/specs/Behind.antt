@@ -11,11 +11,11 @@ use Rattle.boot_core.specs.{declared.whole.behind.Behind.Behind, declared.whole.
 use Rattle.boot_core.specs.declared.whole.behind.Behind.TheVariants.{Closed, Barred}
 use Rattle.boot_core.specs.{declared.whole.boot.Booted.Booted, Choices.Choices, Closing.closing}
 use Rattle.boot_core.specs.declared.whole.boot.Booted.TheVariants as B
-use Rattle.boot_core.specs.ByChoice.{BarsInDxe, Ending, EndsAfter, StopsBehind, starts_by}
+use Rattle.boot_core.specs.ByChoice.{BarsInDxe, Ending, EndsAfter, StopsBehind, before_by}
 
 -- what the boot came to, by what came behind its PEI
 abbrev pub left_by : {M : Type 0} → Ended M → Behind → Booted M
-left_by pei (Closed last) = B.Ended (record { «end» = last.«end»; pei = pei; handles = last.handles; starts = last.starts })
+left_by pei (Closed last) = B.Ended (record { «end» = last.«end»; pei = pei; handles = last.handles; before = last.before })
 left_by pei (Barred barred) = B.BarredInDxe pei barred
 
 -- the end that a boot leaves so behind this machine of PEI
@@ -27,7 +27,7 @@ ending_at by catalog fuel pei lines last =
 pub record HasClosed (by : Choices) (catalog : Catalog) (fuel : ℕ) (pei : PeiMachine) (how : PeiEnd) (last : Last) (old new : Option (List ℕ)) : Type 0 where
   pub lines : List Line
   pub ends : EndsAfter by catalog fuel pei how lines last.handles last.«end»
-  pub starts_are : last.starts ≡ starts_by (ending_at by catalog fuel pei lines last) how ends
+  pub before_is : last.before ≡ before_by (ending_at by catalog fuel pei lines last) how ends
   pub text : Appends old new (text_of (lines ++ closing pei.store last.handles last.«end»))
 
 -- what it came to

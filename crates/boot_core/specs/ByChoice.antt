@@ -11,14 +11,14 @@ use Rattle.boot_model.specs.declared.line.RunEnd.TheVariants as E
 use Rattle.boot_model.specs.{declared.phase_end.PeiEnd.PeiEnd, BootRun.dxe_result, DxeMachine.DxeMachine, DxeRun.dxe_opening}
 use Rattle.boot_model.specs.declared.phase_end.PeiEnd.TheVariants.{Handoff, NoMemory, NoIpl, Spent, Deep}
 use Rattle.boot_model.specs.{PeiMachine.PeiMachine, PeiRun.pei_opening, Text.text_of}
-use Rattle.boot_laws.specs.Naming.{HasPut}
+use Rattle.boot_laws.specs.{declared.choice.Before.Before, Naming.HasPut}
 use Rattle.pei_dispatch.specs.{declared.boot.Ended.Ended, Ends.IsLeft, Ends.pei_starts}
 use Rattle.pei_dispatch.specs.Choices.{ComesTo, IsHeldBack, StopsForMemory, StopsShort}
 use Rattle.dxe_dispatch.specs.declared.boot.Barred.{Barred}
 use Rattle.dxe_dispatch.specs.Choices as D
 use Rattle.boot_core.specs.{declared.whole.boot.Booted.Booted, declared.whole.boot.Ran.Ran, Closing.closing}
 use Rattle.boot_core.specs.declared.whole.boot.Booted.TheVariants as B
-use Rattle.boot_core.specs.Choices.{Choices, starts_of}
+use Rattle.boot_core.specs.Choices.{Choices}
 
 -- behind this machine of PEI, DXE by choices has come to that one
 pub record ComesInDxe (by : Choices) (catalog : Catalog) (fuel : ℕ) (pei : PeiMachine) (m : DxeMachine) : Type 0 where
@@ -64,13 +64,17 @@ pub record Ending : Type 1 where
 abbrev pub IsEnding : Ending → PeiEnd → Type 0
 IsEnding e how = EndsAfter e.by e.catalog e.fuel e.pei how e.lines e.handles e.result
 
--- how many starts there were in both phases
-abbrev pub starts_by : (e : Ending) (how : PeiEnd) → IsEnding e how → ℕ
-starts_by e Handoff ends = starts_of e.pei ends.dxe
-starts_by e NoMemory ends = pei_starts e.pei
-starts_by e NoIpl ends = pei_starts e.pei
-starts_by e Spent ends = pei_starts e.pei
-starts_by e Deep ends = pei_starts e.pei
+-- what the choice would be told behind PEI: how many starts there were, and that it is nobody's turn
+abbrev pub told_at_end : PeiMachine → Before
+told_at_end pei = record { starts = pei_starts pei; turn = None }
+
+-- and what it would be told at the end
+abbrev pub before_by : (e : Ending) (how : PeiEnd) → IsEnding e how → Before
+before_by e Handoff ends = e.by.told e.pei ends.comes.earlier
+before_by e NoMemory ends = told_at_end e.pei
+before_by e NoIpl ends = told_at_end e.pei
+before_by e Spent ends = told_at_end e.pei
+before_by e Deep ends = told_at_end e.pei
 
 -- a boot by choices, up to its last lines
 pub record BootBy (by : Choices) (board : Board) (catalog : Catalog) (fuel : ℕ) : Type 0 where
@@ -132,7 +136,7 @@ pub record HasRun {M : Type 0} (by : Choices) (stands : M → StoreState → Typ
   pub end_is : ran.«end» ≡ boot.result
   pub left : IsLeft stands catalog boot.pei ran.pei
   pub handles_are : ran.handles ≡ boot.handles
-  pub starts_are : ran.starts ≡ starts_by (ending_of boot) boot.how boot.ends
+  pub before_is : ran.before ≡ before_by (ending_of boot) boot.how boot.ends
   pub text : Appends old new (text_of (all_lines boot))
 
 -- DXE behind this machine of PEI was left before the start of a driver that is not let, and all lines of both phases were put
@@ -140,11 +144,11 @@ pub record BarsInDxe (by : Choices) (catalog : Catalog) (fuel : ℕ) (pei : PeiM
   pub dxe : DxeMachine
   pub comes : ComesInDxe by catalog fuel pei dxe
   pub running : dxe.ended ≡ None
-  pub due : D.IsDue (by.drivers pei) catalog dxe barred.number
-  pub bars : by.lets_driver pei due.target barred.number ≡ false
+  pub due : D.IsDue (by.drivers pei comes.earlier) catalog dxe barred.number
+  pub bars : by.lets_driver pei comes.earlier due.target barred.number ≡ false
   pub text : Appends old new (text_of (pei.lines ++ dxe.lines))
   pub handles_are : barred.handles ≡ dxe.handles
-  pub starts_are : barred.starts ≡ starts_of pei dxe
+  pub before_is : barred.before ≡ by.told pei comes.earlier
 
 -- the boot was left there, behind a PEI that handed off
 pub record IsBarredInDxe {M : Type 0} (by : Choices) (stands : M → StoreState → Type 0) (board : Board) (catalog : Catalog) (fuel : ℕ)

@@ -22,7 +22,7 @@ Tells Is text t (Err halt) = AppendsPart t.old t.new text
 pub record IsRun {M : Type 0} (stands : M → StoreState → Type 0) (board : Board) (catalog : Catalog) (fuel : ℕ) (ran : Ran M) : Type 0 where
   pub end_is : end_of board catalog fuel ≡ Some ran.«end»
   pub left : IsLeft stands catalog (pei_end board catalog fuel) ran.pei
-  pub behind : IsLeftBehind catalog fuel (pei_end board catalog fuel) (pei_end board catalog fuel).ended ran.handles ran.starts
+  pub behind : IsLeftBehind catalog fuel (pei_end board catalog fuel) (pei_end board catalog fuel).ended ran.handles ran.before.starts
 
 -- a boot, from its first line to its last
 abbrev pub RunsTo : {M : Type 0} → (M → StoreState → Type 0) → Board → Catalog → ℕ → Texts → Result (Ran M) Halt → Type 0

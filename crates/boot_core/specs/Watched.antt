@@ -7,13 +7,13 @@ use Rattle.store_model.specs.StoreState.{Board, StoreState, empty_store}
 use Rattle.boot_model.specs.{declared.phase_end.DxeEnd.DxeEnd, declared.phase_end.PeiEnd.PeiEnd, DxeMachine.DxeMachine, DxeRun.dxe_opening}
 use Rattle.boot_model.specs.{PeiMachine.PeiMachine, PeiRun.pei_opening}
 use Rattle.boot_model.specs.declared.phase_end.PeiEnd.TheVariants.{Handoff, NoMemory, NoIpl, Spent, Deep}
-use Rattle.boot_laws.specs.{declared.choice.Reached.Reached, Naming.HasPut}
+use Rattle.boot_laws.specs.{declared.choice.Reached.Reached, Naming.Chooser, Naming.HasPut}
 use Rattle.boot_laws.specs.declared.choice.Reached.TheVariants as R
 use Rattle.pei_dispatch.specs.{declared.boot.Ended.Ended, Ends.IsLeft}
 use Rattle.pei_dispatch.specs.Choices.{HasBooted, LetsPeims, NamesPeims}
 use Rattle.boot_core.specs.declared.whole.behind.Behind.{Behind}
 use Rattle.boot_core.specs.declared.whole.behind.Behind.TheVariants.{Closed, Barred}
-use Rattle.boot_core.specs.{declared.whole.boot.Booted.Booted, Behind.ComesBehind, Behind.ending_at, Choices.Rules, Choices.choices_of}
+use Rattle.boot_core.specs.{declared.whole.boot.Booted.Booted, Behind.ComesBehind, Behind.ending_at, Choices.choices_of}
 use Rattle.boot_core.specs.declared.whole.boot.Booted.TheVariants as B
 use Rattle.boot_core.specs.ByChoice.{BootsTo, Ending, IsEnding, ending_of}
 
@@ -35,7 +35,7 @@ knows_dxe Knows catalog fuel pei earlier reached = Knows catalog fuel (dxe_openi
 
 -- a call that boots by a choice, or a part of it: over stores that stand so for states and may take memory, of a catalogue, with this fuel, and with the sink before it and behind it
 pub record BootCall (M S : Type 0) : Type 1 where
-  pub rules : Rules S
+  pub by : Chooser S
   pub stands : M → StoreState → Type 0
   pub takes : Bool
   pub catalog : Catalog
@@ -53,20 +53,20 @@ KnowsAfter Knows e Deep ends = ⊤
 
 -- what came behind this machine of PEI in a boot from a first sink on
 abbrev pub ComesIn : {M S : Type 0} → BootCall M S → PeiMachine → PeiEnd → S → Result Behind Halt → Type 0
-ComesIn call pei how first result = ComesBehind (choices_of call.rules first) call.rules.text call.rules.faults call.catalog call.fuel pei how first call.shown result
+ComesIn call pei how first result = ComesBehind (choices_of call.by call.catalog call.fuel first) call.by.text call.by.faults call.catalog call.fuel pei how first call.shown result
 
 -- what is known of it, by its answer: nothing where it was given up
 abbrev pub KnowsBehind : {M S : Type 0} (Knows : OfDxe) (call : BootCall M S) (pei : PeiMachine) (how : PeiEnd) (first : S) (result : Result Behind Halt)
     → ComesIn call pei how first result → Type 0
 KnowsBehind Knows call pei how first (Ok (Closed last)) has =
-    KnowsAfter Knows (ending_at (choices_of call.rules first) call.catalog call.fuel pei has.lines last) how has.ends
+    KnowsAfter Knows (ending_at (choices_of call.by call.catalog call.fuel first) call.catalog call.fuel pei has.lines last) how has.ends
 KnowsBehind Knows call pei how first (Ok (Barred barred)) has = knows_dxe Knows call.catalog call.fuel pei has.1.comes.earlier (R.Barred barred.number)
 KnowsBehind Knows call pei how first (Err halt) has = ⊤
 
 -- what a boot over a board came to from a first sink on
 abbrev pub BootsIn : {M S : Type 0} → BootCall M S → Board → S → Result (Booted M) Halt → Type 0
 BootsIn call board first result =
-    BootsTo (choices_of call.rules first) call.rules.text call.rules.faults call.stands call.takes board call.catalog call.fuel first call.shown result
+    BootsTo (choices_of call.by call.catalog call.fuel first) call.by.text call.by.faults call.stands call.takes board call.catalog call.fuel first call.shown result
 
 -- what is known of it, by its answer: nothing where it was given up
 abbrev pub KnowsBoot : {M S : Type 0} (w : Knowing) (call : BootCall M S) (board : Board) (first : S) (result : Result (Booted M) Halt)
@@ -87,7 +87,7 @@ pub record ComesKnown {M S : Type 0} (Knows : OfDxe) (call : BootCall M S) (pei 
 -- so behind each machine in which PEI may have ended so and left this, and whose lines were put
 abbrev pub BootsBehind : {M S : Type 0} → OfDxe → BootCall M S → Ended M → PeiEnd → Result Behind Halt → Type 0
 BootsBehind {S = S} Knows call left how result =
-    (pei : PeiMachine) (first : S) → IsLeft call.stands call.catalog pei left → HasPut call.rules.text call.rules.faults first pei.lines call.sink
+    (pei : PeiMachine) (first : S) → IsLeft call.stands call.catalog pei left → HasPut call.by.text call.by.faults first pei.lines call.sink
     → ComesKnown Knows call pei how first result
 
 -- what a boot over a board came to from a first sink on, and what is known of that
@@ -99,9 +99,9 @@ pub record BootsKnown {M S : Type 0} (w : Knowing) (call : BootCall M S) (board 
 abbrev pub GoesOn : {M S : Type 0} → Knowing → BootCall M S → Ended M → Result (Booted M) Halt → Type 0
 GoesOn {S = S} w call left result =
     (board : Board) (first : S)
-    → (pei : HasBooted (NamesPeims call.rules.peims call.rules.text call.rules.faults first) (LetsPeims call.rules.lets_in_pei) call.stands call.catalog call.fuel
-    (pei_opening board call.catalog) left (call.rules.text first) (call.rules.text call.sink))
-    → w.pei call.catalog call.fuel pei.comes.earlier pei.«end» (R.End left.«end») → call.rules.faults call.sink ≡ call.rules.faults first
+    → (pei : HasBooted (NamesPeims call.by call.catalog first) (LetsPeims call.by.rules call.catalog) call.stands call.catalog call.fuel
+    (pei_opening board call.catalog) left (call.by.text first) (call.by.text call.sink))
+    → w.pei call.catalog call.fuel pei.comes.earlier pei.«end» (R.End left.«end») → call.by.faults call.sink ≡ call.by.faults first
     → BootsKnown w call board first result
 
 -- by a choice that looks into the sink, over each board for which the store stands as it was made

@@ -6,7 +6,7 @@ ghost use Rattle.store_model.specs.{Service.Present, StoreCall.Anything};
 ghost use Rattle.boot_core.specs.{HandOff.HandsOn, declared.handing_on.HandOff.HandOff as OfHandOff};
 
 use crate::handing_on::HandOff;
-use boot_laws::{Choice, Reached};
+use boot_laws::{Before, Choice, Reached};
 use boot_model::{PeiEnd, RunEnd};
 use boot_trace::hob_list;
 use mod_catalog::Catalog;
@@ -87,29 +87,28 @@ impl PeiWatch for Keeper {
 pub(crate) struct NoDriver;
 
 impl<S> Choice<S> for NoDriver {
-    ghost use Rattle.std.specs.Prelude.{true, false, None};
+    ghost use Rattle.boot_laws.specs.Naming.{first_eligible_rules};
+    ghost use Rattle.std.specs.Prelude.{false};
 
-    ghost peims = { λ choice sink starts named. named ≡ None };
+    ghost rules = { λ choice. record first_eligible_rules { lets_in_dxe = λ before number. false } };
 
-    ghost drivers = { λ choice sink starts named. named ≡ None };
+    fn wants_turn(&self) -> bool {
+        false
+    }
 
-    ghost lets_in_pei = { λ choice starts number. true };
-
-    ghost lets_in_dxe = { λ choice starts number. false };
-
-    fn peim(&self, _sink: &S, _starts: u64) -> Option<u32> {
+    fn peim(&self, _sink: &S, _before: Before) -> Option<u32> {
         None
     }
 
-    fn driver(&self, _sink: &S, _starts: u64) -> Option<u32> {
+    fn driver(&self, _sink: &S, _before: Before) -> Option<u32> {
         None
     }
 
-    fn lets_peim(&self, _starts: u64, _number: u32) -> bool {
+    fn lets_peim(&self, _before: Before, _number: u32) -> bool {
         true
     }
 
-    fn lets_driver(&self, _starts: u64, _number: u32) -> bool {
+    fn lets_driver(&self, _before: Before, _number: u32) -> bool {
         false
     }
 }

@@ -9,13 +9,14 @@ use Rattle.boot_model.specs.{DxeMachine.DxeMachine, PeiMachine.PeiMachine, Text.
 use Rattle.boot_model.specs.declared.line.RunEnd.TheVariants as E
 use Rattle.boot_model.specs.declared.phase_end.PeiEnd.TheVariants.{Handoff, NoMemory, NoIpl, Spent, Deep}
 use Rattle.boot_trace.specs.Printing.{Texts}
+use Rattle.boot_laws.specs.declared.choice.Before.{Before}
 use Rattle.pei_dispatch.specs.{Ends.pei_starts, declared.boot.Barred.Barred, Choices.IsHeldBack, Choices.IsRunBy, declared.boot.Ended.Ended}
 use Rattle.boot_core.specs.{declared.whole.boot.Booted.Booted, Choices.Choices, Choices.starts_of, Closing.closing, HandOff.result_of}
 use Rattle.boot_core.specs.declared.whole.boot.Booted.TheVariants as B
-use Rattle.boot_core.specs.ByChoice.{EndsAfter, EndsInPei, HasCome, HasRun, IsBarredInDxe, starts_by}
+use Rattle.boot_core.specs.ByChoice.{EndsAfter, EndsInPei, HasCome, HasRun, IsBarredInDxe, before_by}
 use Rattle.dxe_dispatch.specs.declared.boot.Barred.{Barred as BarredDriver}
 use Rattle.boot_core.specs.declared.whole.boot.Ran.{Ran}
-use Rattle.recorded_boot.specs.{declared.follow.followed.Followed.Followed, Answer.FollowsTo, ByOrder.NamesAsked, ByOrder.lets_by}
+use Rattle.recorded_boot.specs.{declared.follow.followed.Followed.Followed, Answer.FollowsTo, ByOrder.NamesAsked, InOrder.order_choices}
 use Rattle.recorded_boot.specs.Leaving.{ComesTo, LeavesBoot, store_of}
 use Rattle.recorded_boot.proofs.PeiOrder.{IsRun, OrderBoot, PeiBar, along, comes, lets_peim, peims}
 use Rattle.recorded_boot.proofs.PeiOrder as P
@@ -24,18 +25,13 @@ use Rattle.recorded_boot.proofs.OrderRuns.{aimed_of, due_of, dxe_run_of, run_of}
 use Rattle.recorded_boot.proofs.Reaching.{dxe_bars, dxe_ends, pei_bars, pei_ends}
 
 -- the choices of a boot that lets what an order lets
-abbrev pub by_order : OrderBoot → (PeiMachine → Option ℕ → Type 0) → (PeiMachine → DxeMachine → Option ℕ → Type 0) → Choices
-by_order b Peims Drivers = record {
-  peims = Peims;
-  lets_peim = λ m number. lets_by b.catalog b.order Pei (pei_starts m) number;
-  drivers = Drivers;
-  lets_driver = λ pei m number. lets_by b.catalog b.order Dxe (starts_of pei m) number;
-}
+abbrev pub by_order : OrderBoot → (PeiMachine → Option ℕ → Type 0) → (PeiMachine → List DxeMachine → DxeMachine → Option ℕ → Type 0) → Choices
+by_order b Peims Drivers = record (order_choices b.catalog b.fuel b.order) { peims = Peims; drivers = Drivers }
 
 -- and whom it names the order names
-pub record NamesAlike (b : OrderBoot) (Peims : PeiMachine → Option ℕ → Type 0) (Drivers : PeiMachine → DxeMachine → Option ℕ → Type 0) : Type 0 where
+pub record NamesAlike (b : OrderBoot) (Peims : PeiMachine → Option ℕ → Type 0) (Drivers : PeiMachine → List DxeMachine → DxeMachine → Option ℕ → Type 0) : Type 0 where
   pub in_pei : (m : PeiMachine) (named : Option ℕ) → Peims m named → peims b m named
-  pub in_dxe : (pei : PeiMachine) (m : DxeMachine) (named : Option ℕ) → Drivers pei m named → NamesAsked b.catalog Dxe b.order (starts_of pei m) named
+  pub in_dxe : (pei : PeiMachine) (earlier : List DxeMachine) (m : DxeMachine) (named : Option ℕ) → Drivers pei earlier m named → NamesAsked b.catalog Dxe b.order (starts_of pei m) named
 
 -- the machines of a whole boot, by other words
 same_end : (P : List Line → HandleState → RunEnd → Type 0) (a b : List Line) (h k : HandleState) (e f : RunEnd) → a ≡ b → h ≡ k → e ≡ f → P a h e → P b k f
@@ -60,21 +56,21 @@ ends_in_pei b earlier m how so end lines handles starts t followed run ended is 
     (same_end Leaves lines m.lines handles no_handles end so ends.lines_are ends.handles_are ends.end_is here)
 
 -- a boot that has come to its end
-ends_by : (b : OrderBoot) (Peims : PeiMachine → Option ℕ → Type 0) (Drivers : PeiMachine → DxeMachine → Option ℕ → Type 0) (earlier : List PeiMachine) (m : PeiMachine) (how : PeiEnd) (lines : List Line) (handles : HandleState) (end : RunEnd) (starts : ℕ) (t : Texts) (followed : Followed)
+ends_by : (b : OrderBoot) (Peims : PeiMachine → Option ℕ → Type 0) (Drivers : PeiMachine → List DxeMachine → DxeMachine → Option ℕ → Type 0) (earlier : List PeiMachine) (m : PeiMachine) (how : PeiEnd) (lines : List Line) (handles : HandleState) (end : RunEnd) (starts : ℕ) (t : Texts) (followed : Followed)
     → NamesAlike b Peims Drivers → IsRun b earlier m → m.ended ≡ Some how → (ends : EndsAfter (by_order b Peims Drivers) b.catalog b.fuel m how lines handles end)
-    → starts ≡ starts_by (record { by = by_order b Peims Drivers; catalog = b.catalog; fuel = b.fuel; pei = m; lines = lines; handles = handles; result = end }) how ends
+    → starts ≡ (before_by (record { by = by_order b Peims Drivers; catalog = b.catalog; fuel = b.fuel; pei = m; lines = lines; handles = handles; result = end }) how ends).starts
     → Appends t.old t.new (text_of (lines ++ closing m.store handles end)) → ComesTo b.catalog b.order starts m.store handles (Some end) followed → FollowsTo b.board b.catalog b.fuel b.order t (Ok followed)
 ends_by b Peims Drivers earlier m Handoff lines handles end starts t followed names run ended ends counted text leaves =
     let h = handed b earlier m run ended in
     let over = ends.comes.earlier in
     let last = came b h over in
     let is : ends.dxe ≡ last = ends.comes.is in
-    let on : IsDxeRun b h over = dxe_run_of (Drivers m) (drivers b h) (lets_driver b h) b.catalog b.fuel (opening h) over (names.in_dxe m) ends.comes.run in
+    let on : IsDxeRun b h over = dxe_run_of (Drivers m) (λ earlier. drivers b h) (λ earlier. lets_driver b h) b.catalog b.fuel (opening h) over (names.in_dxe m) ends.comes.run in
     let lines_are = ends.lines_are ∙ ap (λ (x : DxeMachine). m.lines ++ x.lines) is in
     let handles_are = ends.handles_are ∙ ap (λ (x : DxeMachine). x.handles) is in
     let Puts : List Line → HandleState → RunEnd → Type 0 = λ all k e. Appends t.old t.new (text_of (all ++ closing m.store k e)) in
     let Leaves : List Line → HandleState → RunEnd → Type 0 = λ all k e. ComesTo b.catalog b.order (starts_of m last) m.store k (Some e) followed in
-    let here = subst (λ n. ComesTo b.catalog b.order n m.store handles (Some end) followed) (counted ∙ ap (starts_of m) is) leaves in
+    let here = subst (λ n. ComesTo b.catalog b.order n m.store handles (Some end) followed) counted leaves in
     dxe_ends b h over ends.how t followed on (ap (λ (x : DxeMachine). x.ended) (sym is) ∙ ends.ended)
     (same_end Puts lines (m.lines ++ last.lines) handles last.handles end (dxe_result ends.how) lines_are handles_are ends.end_is text)
     (same_end Leaves lines (m.lines ++ last.lines) handles last.handles end (dxe_result ends.how) lines_are handles_are ends.end_is here)
@@ -88,23 +84,23 @@ ends_by b Peims Drivers earlier m Deep lines handles end starts t followed names
     ends_in_pei b earlier m Deep E.Deep end lines handles starts t followed run ended refl ends counted text leaves
 
 -- the order's run of PEI
-runs : (b : OrderBoot) (Peims : PeiMachine → Option ℕ → Type 0) (Drivers : PeiMachine → DxeMachine → Option ℕ → Type 0) (earlier : List PeiMachine) (m : PeiMachine) → NamesAlike b Peims Drivers
+runs : (b : OrderBoot) (Peims : PeiMachine → Option ℕ → Type 0) (Drivers : PeiMachine → List DxeMachine → DxeMachine → Option ℕ → Type 0) (earlier : List PeiMachine) (m : PeiMachine) → NamesAlike b Peims Drivers
     → IsRunBy Peims (lets_peim b) b.catalog b.fuel (P.opening b) earlier m → IsRun b earlier m
 runs b Peims Drivers earlier m names run = run_of Peims (peims b) (lets_peim b) b.catalog b.fuel (P.opening b) earlier m names.in_pei run
 
-ran_follows : {M : Type 0} (b : OrderBoot) (Peims : PeiMachine → Option ℕ → Type 0) (Drivers : PeiMachine → DxeMachine → Option ℕ → Type 0) (stands : M → StoreState → Type 0) (ran : Ran M) (t : Texts) (followed : Followed) → NamesAlike b Peims Drivers
-    → HasRun (by_order b Peims Drivers) stands b.board b.catalog b.fuel ran t.old t.new → OfEach (stands ran.pei.store) Anything (λ s. ComesTo b.catalog b.order ran.starts s ran.handles (Some ran.«end») followed)
+ran_follows : {M : Type 0} (b : OrderBoot) (Peims : PeiMachine → Option ℕ → Type 0) (Drivers : PeiMachine → List DxeMachine → DxeMachine → Option ℕ → Type 0) (stands : M → StoreState → Type 0) (ran : Ran M) (t : Texts) (followed : Followed) → NamesAlike b Peims Drivers
+    → HasRun (by_order b Peims Drivers) stands b.board b.catalog b.fuel ran t.old t.new → OfEach (stands ran.pei.store) Anything (λ s. ComesTo b.catalog b.order ran.before.starts s ran.handles (Some ran.«end») followed)
     → FollowsTo b.board b.catalog b.fuel b.order t (Ok followed)
 ran_follows b Peims Drivers stands ran t followed names by leaves =
     let boot = by.boot in
     let m = boot.pei in
     let here = leaves m.store by.left.store_is tt in
-    let P : HandleState → RunEnd → Type 0 = λ h e. ComesTo b.catalog b.order ran.starts m.store h (Some e) followed in
-    ends_by b Peims Drivers boot.comes.earlier m boot.how boot.lines boot.handles boot.result ran.starts t followed names (runs b Peims Drivers boot.comes.earlier m names boot.comes.run) boot.ended boot.ends by.starts_are by.text
+    let P : HandleState → RunEnd → Type 0 = λ h e. ComesTo b.catalog b.order ran.before.starts m.store h (Some e) followed in
+    ends_by b Peims Drivers boot.comes.earlier m boot.how boot.lines boot.handles boot.result ran.before.starts t followed names (runs b Peims Drivers boot.comes.earlier m names boot.comes.run) boot.ended boot.ends (ap (λ (x : Before). x.starts) by.before_is) by.text
     (subst (P boot.handles) by.end_is (subst (λ h. P h ran.«end») by.handles_are here))
 
 -- a boot that was left in PEI
-stays_in_pei : {M : Type 0} (b : OrderBoot) (Peims : PeiMachine → Option ℕ → Type 0) (Drivers : PeiMachine → DxeMachine → Option ℕ → Type 0) (stands : M → StoreState → Type 0) (barred : Barred M) (t : Texts) (followed : Followed) → NamesAlike b Peims Drivers
+stays_in_pei : {M : Type 0} (b : OrderBoot) (Peims : PeiMachine → Option ℕ → Type 0) (Drivers : PeiMachine → List DxeMachine → DxeMachine → Option ℕ → Type 0) (stands : M → StoreState → Type 0) (barred : Barred M) (t : Texts) (followed : Followed) → NamesAlike b Peims Drivers
     → IsHeldBack Peims (lets_peim b) stands b.catalog b.fuel (P.opening b) barred t.old t.new → OfEach (stands barred.store) Anything (λ s. ComesTo b.catalog b.order barred.starts s no_handles None followed)
     → FollowsTo b.board b.catalog b.fuel b.order t (Ok followed)
 stays_in_pei b Peims Drivers stands barred t followed names by leaves =
@@ -114,8 +110,8 @@ stays_in_pei b Peims Drivers stands barred t followed names by leaves =
     pei_bars b m barred.number bar t followed by.bars.text (subst (λ n. ComesTo b.catalog b.order n m.store no_handles None followed) by.starts_are (leaves m.store by.store_is tt))
 
 -- and one that was left in DXE
-stays_in_dxe : {M : Type 0} (b : OrderBoot) (Peims : PeiMachine → Option ℕ → Type 0) (Drivers : PeiMachine → DxeMachine → Option ℕ → Type 0) (stands : M → StoreState → Type 0) (left : Ended M) (barred : BarredDriver) (t : Texts) (followed : Followed) → NamesAlike b Peims Drivers
-    → IsBarredInDxe (by_order b Peims Drivers) stands b.board b.catalog b.fuel left barred t.old t.new → OfEach (stands left.store) Anything (λ s. ComesTo b.catalog b.order barred.starts s barred.handles None followed)
+stays_in_dxe : {M : Type 0} (b : OrderBoot) (Peims : PeiMachine → Option ℕ → Type 0) (Drivers : PeiMachine → List DxeMachine → DxeMachine → Option ℕ → Type 0) (stands : M → StoreState → Type 0) (left : Ended M) (barred : BarredDriver) (t : Texts) (followed : Followed) → NamesAlike b Peims Drivers
+    → IsBarredInDxe (by_order b Peims Drivers) stands b.board b.catalog b.fuel left barred t.old t.new → OfEach (stands left.store) Anything (λ s. ComesTo b.catalog b.order barred.before.starts s barred.handles None followed)
     → FollowsTo b.board b.catalog b.fuel b.order t (Ok followed)
 stays_in_dxe b Peims Drivers stands left barred t followed names by leaves =
     let pei = by.pei in
@@ -124,8 +120,8 @@ stays_in_dxe b Peims Drivers stands left barred t followed names by leaves =
     let over = bars.comes.earlier in
     let last = came b h over in
     let is : bars.dxe ≡ last = bars.comes.is in
-    let on : IsDxeRun b h over = dxe_run_of (Drivers pei) (drivers b h) (lets_driver b h) b.catalog b.fuel (opening h) over (names.in_dxe pei) bars.comes.run in
-    let aimed = aimed_of (Drivers pei) (drivers b h) b.catalog bars.dxe bars.due.target (names.in_dxe pei) bars.due.aimed in
+    let on : IsDxeRun b h over = dxe_run_of (Drivers pei) (λ earlier. drivers b h) (λ earlier. lets_driver b h) b.catalog b.fuel (opening h) over (names.in_dxe pei) bars.comes.run in
+    let aimed = aimed_of (Drivers pei over) (drivers b h) b.catalog bars.dxe bars.due.target (names.in_dxe pei over) bars.due.aimed in
     let bar : DxeBar b h bars.dxe barred.number = record {
       come = subst (DxeCome b h) (sym is) (comes_in_dxe b h over on);
       going = bars.running;
@@ -134,11 +130,11 @@ stays_in_dxe b Peims Drivers stands left barred t followed names by leaves =
     } in
     let Puts : DxeMachine → Type 0 = λ x. Appends t.old t.new (text_of (pei.lines ++ x.lines)) in
     let Leaves : ℕ → HandleState → Type 0 = λ n k. ComesTo b.catalog b.order n pei.store k None followed in
-    let here = same_place Leaves barred.starts (starts_of pei last) barred.handles last.handles (bars.starts_are ∙ ap (starts_of pei) is) (bars.handles_are ∙ ap (λ (x : DxeMachine). x.handles) is) (leaves pei.store by.left_is.store_is tt) in
+    let here = same_place Leaves barred.before.starts (starts_of pei last) barred.handles last.handles (ap (λ (x : Before). x.starts) bars.before_is) (bars.handles_are ∙ ap (λ (x : DxeMachine). x.handles) is) (leaves pei.store by.left_is.store_is tt) in
     dxe_bars b h over barred.number on (subst (λ x. DxeBar b h x barred.number) is bar) t followed (subst Puts is bars.text) here
 
 -- what a boot along an order is, by what it has come to
-pub follows : {M : Type 0} (b : OrderBoot) (Peims : PeiMachine → Option ℕ → Type 0) (Drivers : PeiMachine → DxeMachine → Option ℕ → Type 0) (stands : M → StoreState → Type 0) (booted : Booted M) (t : Texts) (followed : Followed) → NamesAlike b Peims Drivers
+pub follows : {M : Type 0} (b : OrderBoot) (Peims : PeiMachine → Option ℕ → Type 0) (Drivers : PeiMachine → List DxeMachine → DxeMachine → Option ℕ → Type 0) (stands : M → StoreState → Type 0) (booted : Booted M) (t : Texts) (followed : Followed) → NamesAlike b Peims Drivers
     → HasCome (by_order b Peims Drivers) stands b.board b.catalog b.fuel t.old t.new booted → OfEach (stands (store_of booted)) Anything (λ s. LeavesBoot b.catalog b.order s booted followed) → FollowsTo b.board b.catalog b.fuel b.order t (Ok followed)
 follows b Peims Drivers stands (B.Ended ran) t followed names by leaves = ran_follows b Peims Drivers stands ran t followed names by leaves
 follows b Peims Drivers stands (B.BarredInPei barred) t followed names by leaves = stays_in_pei b Peims Drivers stands barred t followed names by leaves

@@ -18,11 +18,12 @@ use Rattle.recorded_boot.specs.Spelled.{IsHeld, IsRight, faults_of, left, met, s
 use Rattle.recorded_boot.proofs.TextFronts.{prefix_then, shorter_front}
 use Rattle.recorded_boot.proofs.Telling.{held_on, met_begins, off, tracks_on}
 use Rattle.pei_dispatch.specs.Ends.{pei_starts}
-use Rattle.dxe_dispatch.specs.Choices.{IsAimedBy, IsRunBy, LetsDrivers, came}
+use Rattle.dxe_dispatch.specs.Choices.{IsAimedBy, IsRunBy, came}
 use Rattle.dxe_dispatch.proofs.Chosen.{Any, StepLaws, nearer_by, same_lines, target_at}
 use Rattle.dxe_dispatch.proofs.Growing.{step_grew}
 use Rattle.dxe_dispatch.proofs.Targets.{Aimed, Doing, First, HasScheduled, IsTarget, MayChoose, Own, RunsScript, busy_owns, doing, first_step, none_aimed, none_named, scheduled_owns, target_is}
-use Rattle.boot_core.specs.Choices.{NamesBehind}
+use Rattle.boot_core.specs.Choices.{NamesBehind, told_behind}
+use Rattle.recorded_boot.proofs.TextRuns.{by_text, told_by}
 use Rattle.recorded_boot.specs.{DxeAim.LeadsTo, DxeFollowed.printed_by}
 use Rattle.recorded_boot.proofs.FreeSteps.{IsByText, all_print, begins_printed, by_aimed_step, by_own_step, printed_more, tracks_by}
 use Rattle.recorded_boot.proofs.Leading.{LeadLaws, leading_by, starts_readable}
@@ -53,15 +54,12 @@ pub record DriverRun : Type 0 where
   pub are : AreNames catalog (length catalog.modules) names
   pub held : IsHeld first text []
 
-abbrev pub told_by : Spelled → Option (List ℕ)
-told_by s = Some (spoken s)
-
-abbrev pub TextNames : DriverRun → DxeMachine → Option ℕ → Type 0
-TextNames r = NamesBehind (λ text starts named. NamesNext Dxe r.names text named) told_by faults_of r.first r.pei
+abbrev pub TextNames : DriverRun → List DxeMachine → DxeMachine → Option ℕ → Type 0
+TextNames r = NamesBehind (by_text r.names) (told_behind (by_text r.names) r.catalog r.fuel r.pei) r.first r.pei
 
 -- a text lets each driver
-abbrev pub TextLets : DriverRun → DxeMachine → ℕ → Bool
-TextLets r = LetsDrivers (λ starts number. true) (pei_starts r.pei)
+abbrev pub TextLets : List DxeMachine → DxeMachine → ℕ → Bool
+TextLets earlier m number = true
 
 abbrev pub opening : DriverRun → DxeMachine
 opening r = dxe_opening r.catalog r.s r.actions
@@ -73,7 +71,7 @@ abbrev pub Here : DriverRun → DxeMachine → List Line → Type 0
 Here r m = AreFreeDxeLines r.catalog r.fuel r.pei m
 
 abbrev pub IsRun : DriverRun → List DxeMachine → Type 0
-IsRun r earlier = IsRunBy (TextNames r) (TextLets r) r.catalog r.fuel (opening r) earlier
+IsRun r earlier = IsRunBy (TextNames r) TextLets r.catalog r.fuel (opening r) earlier
 
 both : (r : DriverRun) (m : DxeMachine) → printed_by r.pei m ≡ text_of r.pei.lines ++ text_of m.lines
 both r m = text_of-append r.pei.lines m.lines
@@ -93,7 +91,7 @@ way_at : (r : DriverRun) (earlier : List DxeMachine) → IsRun r earlier → IsU
 way_at r [] run = (r.opens r.catalog r.fuel r.s r.actions r.well.parents).way
 way_at r (target ∷ earlier) run =
     let m = come r earlier in
-    (nearer_by r.steps r.catalog r.fuel m target Any r.well run.2 (way_at r earlier run.3) (target_at (TextNames r) r.catalog m target r.steps.first run.2 run.0)).way
+    (nearer_by r.steps r.catalog r.fuel m target Any r.well run.2 (way_at r earlier run.3) (target_at (TextNames r earlier) r.catalog m target r.steps.first run.2 run.0)).way
 
 -- the free boots over a step at which the choice is aimed
 aimed_by_text : (r : DriverRun) (m target : DxeMachine) (rest : List ℕ) → m.ended ≡ None → IsUnderWay r.catalog m → r.text ≡ printed_by r.pei m ++ rest → IsTarget r.catalog m (λ root. LeadsTo r.catalog m rest (Some root)) target
@@ -106,22 +104,22 @@ aimed_by_text r m target rest going way is (Aimed root c) =
     by_aimed_step r.catalog r.fuel r.pei m root r.text rest r.on r.starts r.aims r.steps.first r.steps.groups r.grow (starts_readable r.catalog r.well r.guids) c.choosing c.may way is c.leads
 
 -- over each step of the run
-by_step : (r : DriverRun) (m target : DxeMachine) → m.ended ≡ None → IsUnderWay r.catalog m → IsAimedBy (TextNames r) r.catalog m target → IsByText r.catalog r.fuel r.pei m (dxe_step r.catalog r.fuel target) r.text
-by_step r m target going way by = by_doing (doing m going)
+by_step : (r : DriverRun) (earlier : List DxeMachine) (m target : DxeMachine) → m.ended ≡ None → IsUnderWay r.catalog m → IsAimedBy (TextNames r earlier) r.catalog m target → IsByText r.catalog r.fuel r.pei m (dxe_step r.catalog r.fuel target) r.text
+by_step r earlier m target going way by = by_doing (doing m going)
   where
     own : target ≡ m → IsByText r.catalog r.fuel r.pei m (dxe_step r.catalog r.fuel m) r.text → IsByText r.catalog r.fuel r.pei m (dxe_step r.catalog r.fuel target) r.text
     own same is = subst (λ x. IsByText r.catalog r.fuel r.pei m (dxe_step r.catalog r.fuel x) r.text) (sym same) is
 
     by_doing : Doing m → IsByText r.catalog r.fuel r.pei m (dxe_step r.catalog r.fuel target) r.text
-    by_doing (RunsScript frame below e) = own (none_named (TextNames r) r.catalog m target frame below e by) (by_own_step r.catalog r.fuel r.pei m r.text r.on going (busy_owns r.catalog m frame below e))
-    by_doing (HasScheduled first rest e f) = own (none_aimed (TextNames r) r.catalog m target first rest f by) (by_own_step r.catalog r.fuel r.pei m r.text r.on going (scheduled_owns r.catalog m first rest e f))
+    by_doing (RunsScript frame below e) = own (none_named (TextNames r earlier) r.catalog m target frame below e by) (by_own_step r.catalog r.fuel r.pei m r.text r.on going (busy_owns r.catalog m frame below e))
+    by_doing (HasScheduled first rest e f) = own (none_aimed (TextNames r earlier) r.catalog m target first rest f by) (by_own_step r.catalog r.fuel r.pei m r.text r.on going (scheduled_owns r.catalog m first rest e f))
     by_doing (MayChoose choosing) =
         let may = by.allowed choosing in
         let held = held_at r m may.sink may.has in
         let laws : LeadLaws = record { roots = r.roots; few = r.few; groups = r.steps.groups } in
         let leads = leading_by laws r.catalog m r.names may.sink by.named may.is r.well r.are r.guids way choosing held.right in
         aimed_by_text r m target (left may.sink) going way (held_whole r.text (printed_by r.pei m) may.sink held)
-        (target_is (TextNames r) r.catalog m target (λ root. LeadsTo r.catalog m (left may.sink) (Some root)) r.steps.first going by (λ chooses. leads))
+        (target_is (TextNames r earlier) r.catalog m target (λ root. LeadsTo r.catalog m (left may.sink) (Some root)) r.steps.first going by (λ chooses. leads))
 
 -- What a step printed, and how the free boots go on over it.
 record Leads (r : DriverRun) (m target : DxeMachine) : Type 0 where
@@ -129,12 +127,12 @@ record Leads (r : DriverRun) (m target : DxeMachine) : Type 0 where
   pub lines : (dxe_step r.catalog r.fuel target).lines ≡ m.lines ++ told
   pub by : IsByText r.catalog r.fuel r.pei m (dxe_step r.catalog r.fuel target) r.text
 
-step_leads : (r : DriverRun) (m target : DxeMachine) → m.ended ≡ None → IsUnderWay r.catalog m → IsAimedBy (TextNames r) r.catalog m target → Leads r m target
-step_leads r m target going way by =
+step_leads : (r : DriverRun) (earlier : List DxeMachine) (m target : DxeMachine) → m.ended ≡ None → IsUnderWay r.catalog m → IsAimedBy (TextNames r earlier) r.catalog m target → Leads r m target
+step_leads r earlier m target going way by =
     let most : ℕ = r.fuel + target.actions + 1 in
     let grew = step_grew r.catalog r.fuel most target (omega arith) (omega arith) in
-    let same = same_lines r.catalog m target Any (target_at (TextNames r) r.catalog m target r.steps.first going by) in
-    record { told = grew.told; lines = grew.lines ∙ ap (λ xs. xs ++ grew.told) same; by = by_step r m target going way by }
+    let same = same_lines r.catalog m target Any (target_at (TextNames r earlier) r.catalog m target r.steps.first going by) in
+    record { told = grew.told; lines = grew.lines ∙ ap (λ xs. xs ++ grew.told) same; by = by_step r earlier m target going way by }
 
 -- As far as the text has the lines of the run, the free boots from the opening whose text begins so are those from here.
 pub tracks_at : (r : DriverRun) (earlier : List DxeMachine) → IsRun r earlier → IsPrefix (printed_by r.pei (come r earlier)) r.text → Tracks (Here r (opening r)) (Here r (come r earlier)) (printed_by r.pei (come r earlier))
@@ -142,7 +140,7 @@ tracks_at r [] run there = record { back = λ lines are. are; on = λ lines are 
 tracks_at r (target ∷ earlier) run there =
     let m = come r earlier in
     let later = dxe_step r.catalog r.fuel target in
-    let k = step_leads r m target run.2 (way_at r earlier run.3) run.0 in
+    let k = step_leads r earlier m target run.2 (way_at r earlier run.3) run.0 in
     let is = printed_more r.pei m later k.told k.lines in
     let before : IsPrefix (printed_by r.pei m) r.text = prefix_then (printed_by r.pei m) (printed_by r.pei later) r.text (text_of k.told, is) there in
     let on = tracks_by r.catalog r.fuel r.pei m later r.text k.told k.lines k.by there in
@@ -161,7 +159,7 @@ off_by : (r : DriverRun) (s : Spelled) (target : DxeMachine) (earlier : List Dxe
 off_by r s target earlier run parted (inr far) was =
     let m = come r earlier in
     let later = dxe_step r.catalog r.fuel target in
-    let k = step_leads r m target run.2 (way_at r earlier run.3) run.0 in
+    let k = step_leads r earlier m target run.2 (way_at r earlier run.3) run.0 in
     let printed = printed_by r.pei m in
     let is = printed_more r.pei m later k.told k.lines in
     let long = parted.told_long in
@@ -183,7 +181,7 @@ off_by r s target earlier run parted (inr far) was =
 off_by r s target earlier run parted (inl short) was =
     let m = come r earlier in
     let later = dxe_step r.catalog r.fuel target in
-    let k = step_leads r m target run.2 (way_at r earlier run.3) run.0 in
+    let k = step_leads r earlier m target run.2 (way_at r earlier run.3) run.0 in
     let printed = printed_by r.pei m in
     let is = printed_more r.pei m later k.told k.lines in
     let long = parted.told_long in

@@ -57,7 +57,7 @@ abbrev pub came : (b : OrderBoot) → Handed b → List DxeMachine → DxeMachin
 came b h earlier = D.came b.catalog b.fuel (opening h) earlier
 
 abbrev pub IsDxeRun : (b : OrderBoot) → Handed b → List DxeMachine → Type 0
-IsDxeRun b h earlier = D.IsRunBy (drivers b h) (lets_driver b h) b.catalog b.fuel (opening h) earlier
+IsDxeRun b h earlier = D.IsRunBy (λ earlier. drivers b h) (λ earlier. lets_driver b h) b.catalog b.fuel (opening h) earlier
 
 -- a machine to which free steps lead behind the hand-off
 pub record DxeCome (b : OrderBoot) (h : Handed b) (m : DxeMachine) : Type 0 where

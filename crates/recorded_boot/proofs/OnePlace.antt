@@ -8,7 +8,7 @@ use Rattle.boot_model.specs.{DxeStep.dxe_step, PeiChoice.next_peim, PeiChoice.pe
 use Rattle.boot_model.specs.PeiStep.{Starts, case_of, started}
 use Rattle.boot_laws.specs.{PeiAim.with_cursor, PeiFree.IsOwnCase}
 use Rattle.boot_laws.proofs.Cursors as Cursors
-use Rattle.recorded_boot.specs.{declared.order.line.AskedStart.AskedStart, ByOrder.is_start_of, ByOrder.lets_asked}
+use Rattle.recorded_boot.specs.{declared.order.line.AskedStart.AskedStart, ByOrder.NamesAsked, ByOrder.is_start_of, ByOrder.lets_asked, ByOrder.lets_by}
 use Rattle.pei_dispatch.specs.Choices as P
 use Rattle.pei_dispatch.specs.Ends.{pei_starts}
 use Rattle.dxe_dispatch.specs.Choices as D
@@ -107,16 +107,16 @@ one_end b e f m k r here s there =
 
 -- DXE behind one machine of PEI.
 abbrev named : OrderBoot → PeiMachine → DxeMachine → Option ℕ → Type 0
-named b pei = (order_choices b.catalog b.order).drivers pei
+named b pei m named = NamesAsked b.catalog Dxe b.order (pei_starts pei + length m.started) named
 
 abbrev lets : OrderBoot → PeiMachine → DxeMachine → ℕ → Bool
-lets b pei = (order_choices b.catalog b.order).lets_driver pei
+lets b pei m number = lets_by b.catalog b.order Dxe (pei_starts pei + length m.started) number
 
 abbrev came : OrderBoot → PeiMachine → List DxeMachine → DxeMachine
 came b pei earlier = D.came b.catalog b.fuel (dxe_opening b.catalog pei.store pei.actions) earlier
 
 abbrev Runs : OrderBoot → PeiMachine → List DxeMachine → Type 0
-Runs b pei earlier = D.IsRunBy (named b pei) (lets b pei) b.catalog b.fuel (dxe_opening b.catalog pei.store pei.actions) earlier
+Runs b pei earlier = D.IsRunBy (λ earlier. named b pei) (λ earlier. lets b pei) b.catalog b.fuel (dxe_opening b.catalog pei.store pei.actions) earlier
 
 one_target : (b : OrderBoot) (pei : PeiMachine) (m target other : DxeMachine) → m.ended ≡ None → D.IsAimedBy (named b pei) b.catalog m target → D.IsAimedBy (named b pei) b.catalog m other → target ≡ other
 one_target b pei m target other going one two = by (doing m going)
@@ -180,27 +180,28 @@ one_dxe_end b pei e f r here s there =
     same_dxe b pei e f r s (omega (arith, few, many))
 
 -- Places.
-dxe_stands : (b : OrderBoot) (pei : PeiMachine) (m : DxeMachine) (how : Option DxeEnd) (place : Place) → m.ended ≡ how → IsDxePlace (order_choices b.catalog b.order) b.catalog pei m how place → DxeStands b pei m
-dxe_stands b pei m None place is at = let bars : BarsInDxe (order_choices b.catalog b.order) b.catalog pei m = at.0 in dxe_barred bars.number bars.due bars.barred
-dxe_stands b pei m (Some how) place is at = dxe_over how is
+dxe_stands : (b : OrderBoot) (pei : PeiMachine) (earlier : List DxeMachine) (m : DxeMachine) (how : Option DxeEnd) (place : Place) → m.ended ≡ how → IsDxePlace (order_choices b.catalog b.fuel b.order) b.catalog pei earlier m how place → DxeStands b pei m
+dxe_stands b pei earlier m None place is at = let bars : BarsInDxe (order_choices b.catalog b.fuel b.order) b.catalog pei earlier m = at.0 in dxe_barred bars.number bars.due bars.barred
+dxe_stands b pei earlier m (Some how) place is at = dxe_over how is
 
-dxe_place_is : (b : OrderBoot) (pei : PeiMachine) (m : DxeMachine) (how : Option DxeEnd) (one other : Place) → IsDxePlace (order_choices b.catalog b.order) b.catalog pei m how one → IsDxePlace (order_choices b.catalog b.order) b.catalog pei m how other → one ≡ other
-dxe_place_is b pei m None one other p q = p.1 ∙ sym q.1
-dxe_place_is b pei m (Some how) one other p q = p ∙ sym q
+dxe_place_is : (b : OrderBoot) (pei : PeiMachine) (e f : List DxeMachine) (m : DxeMachine) (how : Option DxeEnd) (one other : Place) → IsDxePlace (order_choices b.catalog b.fuel b.order) b.catalog pei e m how one
+    → IsDxePlace (order_choices b.catalog b.fuel b.order) b.catalog pei f m how other → one ≡ other
+dxe_place_is b pei e f m None one other p q = p.1 ∙ sym q.1
+dxe_place_is b pei e f m (Some how) one other p q = p ∙ sym q
 
-one_in_dxe : (b : OrderBoot) (pei : PeiMachine) (one other : Place) → StandsInDxe (order_choices b.catalog b.order) b.catalog b.fuel pei one → StandsInDxe (order_choices b.catalog b.order) b.catalog b.fuel pei other → one ≡ other
+one_in_dxe : (b : OrderBoot) (pei : PeiMachine) (one other : Place) → StandsInDxe (order_choices b.catalog b.fuel b.order) b.catalog b.fuel pei one → StandsInDxe (order_choices b.catalog b.fuel b.order) b.catalog b.fuel pei other → one ≡ other
 one_in_dxe b pei one other p q =
-    let By = order_choices b.catalog b.order in
-    let here : DxeStands b pei (came b pei p.comes.earlier) = subst (DxeStands b pei) p.comes.is (dxe_stands b pei p.m p.m.ended one refl p.stands) in
-    let there : DxeStands b pei (came b pei q.comes.earlier) = subst (DxeStands b pei) q.comes.is (dxe_stands b pei q.m q.m.ended other refl q.stands) in
+    let By = order_choices b.catalog b.fuel b.order in
+    let here : DxeStands b pei (came b pei p.comes.earlier) = subst (DxeStands b pei) p.comes.is (dxe_stands b pei p.comes.earlier p.m p.m.ended one refl p.stands) in
+    let there : DxeStands b pei (came b pei q.comes.earlier) = subst (DxeStands b pei) q.comes.is (dxe_stands b pei q.comes.earlier q.m q.m.ended other refl q.stands) in
     let same : p.m ≡ q.m = p.comes.is ∙ one_dxe_end b pei p.comes.earlier q.comes.earlier p.comes.run here q.comes.run there ∙ sym q.comes.is in
-    dxe_place_is b pei q.m q.m.ended one other (subst (λ (m : DxeMachine). IsDxePlace By b.catalog pei m m.ended one) same p.stands) q.stands
+    dxe_place_is b pei p.comes.earlier q.comes.earlier q.m q.m.ended one other (subst (λ (m : DxeMachine). IsDxePlace By b.catalog pei p.comes.earlier m m.ended one) same p.stands) q.stands
 
-stands : (b : OrderBoot) (m : PeiMachine) (how : Option PeiEnd) (place : Place) → m.ended ≡ how → IsPeiPlace (order_choices b.catalog b.order) b.catalog b.fuel m how place → Stands b m
-stands b m None place is at = let bars : BarsInPei (order_choices b.catalog b.order) b.catalog m = at.0 in barred bars.number bars.due bars.barred
+stands : (b : OrderBoot) (m : PeiMachine) (how : Option PeiEnd) (place : Place) → m.ended ≡ how → IsPeiPlace (order_choices b.catalog b.fuel b.order) b.catalog b.fuel m how place → Stands b m
+stands b m None place is at = let bars : BarsInPei (order_choices b.catalog b.fuel b.order) b.catalog m = at.0 in barred bars.number bars.due bars.barred
 stands b m (Some how) place is at = over how is
 
-place_is : (b : OrderBoot) (m : PeiMachine) (how : Option PeiEnd) (one other : Place) → IsPeiPlace (order_choices b.catalog b.order) b.catalog b.fuel m how one → IsPeiPlace (order_choices b.catalog b.order) b.catalog b.fuel m how other → one ≡ other
+place_is : (b : OrderBoot) (m : PeiMachine) (how : Option PeiEnd) (one other : Place) → IsPeiPlace (order_choices b.catalog b.fuel b.order) b.catalog b.fuel m how one → IsPeiPlace (order_choices b.catalog b.fuel b.order) b.catalog b.fuel m how other → one ≡ other
 place_is b m None one other p q = p.1 ∙ sym q.1
 place_is b m (Some Handoff) one other p q = one_in_dxe b m one other p q
 place_is b m (Some NoMemory) one other p q = p ∙ sym q
@@ -210,6 +211,6 @@ place_is b m (Some Deep) one other p q = p ∙ sym q
 
 pub one_place : (b : OrderBoot) (one other : Place) → LeadsTo b.board b.catalog b.fuel b.order one → LeadsTo b.board b.catalog b.fuel b.order other → one ≡ other
 one_place b one other p q =
-    let By = order_choices b.catalog b.order in
+    let By = order_choices b.catalog b.fuel b.order in
     let same : p.m ≡ q.m = one_end b p.earlier q.earlier p.m q.m p.runs (stands b p.m p.m.ended one refl p.stands) q.runs (stands b q.m q.m.ended other refl q.stands) in
     place_is b q.m q.m.ended one other (subst (λ (m : PeiMachine). IsPeiPlace By b.catalog b.fuel m m.ended one) same p.stands) q.stands

@@ -23,8 +23,9 @@ run_of Names Other Lets catalog fuel opening (before ∷ earlier) m of run =
 pub aimed_of : (Names Other : DxeMachine → Option ℕ → Type 0) (catalog : Catalog) (m target : DxeMachine) → ((n : DxeMachine) (named : Option ℕ) → Names n named → Other n named) → D.IsAimedBy Names catalog m target → D.IsAimedBy Other catalog m target
 aimed_of Names Other catalog m target of a = record { named = a.named; allowed = λ choosing. of m a.named (a.allowed choosing); busy = a.busy; is = a.is }
 
-pub dxe_run_of : (Names Other : DxeMachine → Option ℕ → Type 0) (Lets : DxeMachine → ℕ → Bool) (catalog : Catalog) (fuel : ℕ) (opening : DxeMachine) (earlier : List DxeMachine) → ((n : DxeMachine) (named : Option ℕ) → Names n named → Other n named)
+pub dxe_run_of : (Names Other : List DxeMachine → DxeMachine → Option ℕ → Type 0) (Lets : List DxeMachine → DxeMachine → ℕ → Bool) (catalog : Catalog) (fuel : ℕ) (opening : DxeMachine) (earlier : List DxeMachine)
+    → ((over : List DxeMachine) (n : DxeMachine) (named : Option ℕ) → Names over n named → Other over n named)
     → D.IsRunBy Names Lets catalog fuel opening earlier → D.IsRunBy Other Lets catalog fuel opening earlier
 dxe_run_of Names Other Lets catalog fuel opening [] of run = tt
 dxe_run_of Names Other Lets catalog fuel opening (target ∷ earlier) of run =
-    (aimed_of Names Other catalog (D.came catalog fuel opening earlier) target of run.0, run.1, run.2, dxe_run_of Names Other Lets catalog fuel opening earlier of run.3)
+    (aimed_of (Names earlier) (Other earlier) catalog (D.came catalog fuel opening earlier) target (of earlier) run.0, run.1, run.2, dxe_run_of Names Other Lets catalog fuel opening earlier of run.3)

@@ -45,7 +45,7 @@ pei_stand b earlier m come far = record {
 -- the place where PEI is left
 bars_at : (b : OrderBoot) (m : PeiMachine) (number : ℕ) (bar : PeiBar b m number) → LeadsTo b.board b.catalog b.fuel b.order (pei_place m None)
 bars_at b m number bar =
-    let By = order_choices b.catalog b.order in
+    let By = order_choices b.catalog b.fuel b.order in
     let bars : BarsInPei By b.catalog m = record { number = number; due = bar.due; barred = bar.barred } in
     let at : IsPeiPlace By b.catalog b.fuel m None (pei_place m None) = (bars, refl) in
     record { earlier = bar.earlier; m = m; runs = bar.run; stands = subst (λ o. IsPeiPlace By b.catalog b.fuel m o (pei_place m None)) (sym bar.going) at }
@@ -89,12 +89,12 @@ last_is lines s h end = (lines ++ (store_lines s ++ handle_lines h), sym (append
 -- the place where a boot ended in PEI
 ends_at : (b : OrderBoot) (earlier : List PeiMachine) (m : PeiMachine) (how : PeiEnd) (so : RunEnd) → IsRun b earlier m → m.ended ≡ Some how → pei_result how ≡ Some so → LeadsTo b.board b.catalog b.fuel b.order (pei_place m (Some so))
 ends_at b earlier m how so run ended is =
-    record { earlier = earlier; m = m; runs = run; stands = subst (λ o. IsPeiPlace (order_choices b.catalog b.order) b.catalog b.fuel m o (pei_place m (Some so))) (sym ended) (at how is) }
+    record { earlier = earlier; m = m; runs = run; stands = subst (λ o. IsPeiPlace (order_choices b.catalog b.fuel b.order) b.catalog b.fuel m o (pei_place m (Some so))) (sym ended) (at how is) }
   where
     same : (this : RunEnd) → Some this ≡ Some so → pei_place m (Some so) ≡ pei_place m (Some this)
     same this e = ap (pei_place m) (sym e)
 
-    at : (how : PeiEnd) → pei_result how ≡ Some so → IsPeiPlace (order_choices b.catalog b.order) b.catalog b.fuel m (Some how) (pei_place m (Some so))
+    at : (how : PeiEnd) → pei_result how ≡ Some so → IsPeiPlace (order_choices b.catalog b.fuel b.order) b.catalog b.fuel m (Some how) (pei_place m (Some so))
     at Handoff e = cc
     at NoMemory e = same E.NoMemory e
     at NoIpl e = same E.NoIpl e
@@ -148,12 +148,12 @@ dxe_stand b h m come far = record {
 -- the place where DXE is left
 dxe_bars_at : (b : OrderBoot) (h : Handed b) (over : List DxeMachine) (number : ℕ) → IsDxeRun b h over → DxeBar b h (came b h over) number → LeadsTo b.board b.catalog b.fuel b.order (dxe_place h.pei (came b h over) None)
 dxe_bars_at b h over number run bar =
-    let By = order_choices b.catalog b.order in
+    let By = order_choices b.catalog b.fuel b.order in
     let m = came b h over in
     let place = dxe_place h.pei m None in
-    let bars : BarsInDxe By b.catalog h.pei m = record { number = number; due = bar.due; barred = bar.barred } in
-    let at : IsDxePlace By b.catalog h.pei m None place = (bars, refl) in
-    let here : StandsInDxe By b.catalog b.fuel h.pei place = record { m = m; comes = record { earlier = over; run = run; is = refl }; stands = subst (λ o. IsDxePlace By b.catalog h.pei m o place) (sym bar.going) at } in
+    let bars : BarsInDxe By b.catalog h.pei over m = record { number = number; due = bar.due; barred = bar.barred } in
+    let at : IsDxePlace By b.catalog h.pei over m None place = (bars, refl) in
+    let here : StandsInDxe By b.catalog b.fuel h.pei place = record { m = m; comes = record { earlier = over; run = run; is = refl }; stands = subst (λ o. IsDxePlace By b.catalog h.pei over m o place) (sym bar.going) at } in
     record { earlier = h.earlier; m = h.pei; runs = h.run; stands = subst (λ o. IsPeiPlace By b.catalog b.fuel h.pei o place) (sym h.ended) here }
 
 -- DXE is left before a start that is not let
@@ -172,11 +172,11 @@ dxe_bars b h over number run bar t followed text c =
 -- the place where a boot ended in DXE
 dxe_ends_at : (b : OrderBoot) (h : Handed b) (over : List DxeMachine) (how : DxeEnd) → IsDxeRun b h over → (came b h over).ended ≡ Some how → LeadsTo b.board b.catalog b.fuel b.order (dxe_place h.pei (came b h over) (Some (dxe_result how)))
 dxe_ends_at b h over how run ended =
-    let By = order_choices b.catalog b.order in
+    let By = order_choices b.catalog b.fuel b.order in
     let m = came b h over in
     let place = dxe_place h.pei m (Some (dxe_result how)) in
-    let at : IsDxePlace By b.catalog h.pei m (Some how) place = refl in
-    let here : StandsInDxe By b.catalog b.fuel h.pei place = record { m = m; comes = record { earlier = over; run = run; is = refl }; stands = subst (λ o. IsDxePlace By b.catalog h.pei m o place) (sym ended) at } in
+    let at : IsDxePlace By b.catalog h.pei over m (Some how) place = refl in
+    let here : StandsInDxe By b.catalog b.fuel h.pei place = record { m = m; comes = record { earlier = over; run = run; is = refl }; stands = subst (λ o. IsDxePlace By b.catalog h.pei over m o place) (sym ended) at } in
     record { earlier = h.earlier; m = h.pei; runs = h.run; stands = subst (λ o. IsPeiPlace By b.catalog b.fuel h.pei o place) (sym h.ended) here }
 
 -- a boot that ended in DXE

@@ -8,17 +8,17 @@ use Rattle.boot_model.specs.{declared.line.Line.Line, Eligible.licence_at, FreeR
 use Rattle.boot_model.specs.{PeiChoice.pei_order, PeiMachine.PeiMachine, PeiRun.pei_opening, PeiStep.pei_step, PeiStep.started}
 use Rattle.boot_model.specs.Text.{text_of}
 use Rattle.boot_model.proofs.Texts.{text_of-append}
-use Rattle.boot_laws.specs.{Naming.HasPut, PeiAim.CursorAims, PeiFree.AreLinesBehind, PeiFree.PeiStartsFreely}
+use Rattle.boot_laws.specs.{Naming.Chooser, Naming.HasPut, PeiAim.CursorAims, PeiFree.AreLinesBehind, PeiFree.PeiStartsFreely}
 use Rattle.boot_laws.specs.PeiUnderWay.{IsUnderWay, PeiOpensUnderWay, PeiStepsRunOut}
 use Rattle.recorded_boot.specs.{declared.trace.spelled.Spelled.Spelled, Fronts.Tracks, Named.AreGuids, Named.AreNames}
 use Rattle.recorded_boot.specs.Putting.{AllPrint, HasParted, IsOffHere, PartsByLine}
 use Rattle.recorded_boot.specs.Spelled.{IsHeld, IsRight, faults_of, met, spoken, told, whole}
 use Rattle.recorded_boot.proofs.TextFronts.{prefix_then, shorter_front}
 use Rattle.recorded_boot.proofs.Telling.{held_on, met_begins, off, tracks_on}
-use Rattle.pei_dispatch.specs.Choices.{LetsPeims, NamesPeims, IsRunBy, IsStepBy}
+use Rattle.pei_dispatch.specs.Choices.{NamesPeims, IsRunBy, IsStepBy}
 use Rattle.pei_dispatch.proofs.Chosen.{idle_starts, some_first, step_is_free}
 use Rattle.pei_dispatch.proofs.Growing.{step_grew}
-use Rattle.recorded_boot.specs.Starting.{NamesNext, start_of}
+use Rattle.recorded_boot.specs.Starting.{start_of, text_rules}
 use Rattle.recorded_boot.proofs.Choosing.{Choice, IsChoice, aimed_at, each_start, prints_start}
 use Rattle.recorded_boot.proofs.Going.{GoOnFrom, Laws, LeadsOn, go_on_by_lines, own_leads, prints_on}
 
@@ -43,12 +43,16 @@ pub record TextRun : Type 0 where
 abbrev pub told_by : Spelled → Option (List ℕ)
 told_by s = Some (spoken s)
 
+-- the choice by a text, over such a sink
+abbrev pub by_text : List (List (Guid × ℕ)) → Chooser Spelled
+by_text names = record { rules = text_rules names; text = told_by; faults = faults_of }
+
 abbrev pub TextNames : TextRun → PeiMachine → Option ℕ → Type 0
-TextNames r = NamesPeims (λ text starts named. NamesNext InPei r.names text named) told_by faults_of r.first
+TextNames r = NamesPeims (by_text r.names) r.catalog r.first
 
 -- a text lets each module
 abbrev pub TextLets : PeiMachine → ℕ → Bool
-TextLets = LetsPeims (λ starts number. true)
+TextLets m number = true
 
 abbrev pub Start : TextRun → List Line → Type 0
 Start r = AreFreeLines r.board r.catalog r.fuel

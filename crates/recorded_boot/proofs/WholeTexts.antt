@@ -28,7 +28,7 @@ use Rattle.recorded_boot.proofs.DriverTextRuns as D
 use Rattle.recorded_boot.proofs.HandedOff.{begin_with_pei, ends_so, last_of_dxe, last_of_pei, off_behind}
 use Rattle.recorded_boot.proofs.LastLines.{off_by, whole_by}
 use Rattle.recorded_boot.proofs.TextRuns as P
-use Rattle.recorded_boot.proofs.TextRuns.{TextRun, held_first, told_by}
+use Rattle.recorded_boot.proofs.TextRuns.{TextRun, by_text, held_first, told_by}
 
 -- A boot by a text: what is known of it.
 pub record TextBoot : Type 0 where
@@ -77,15 +77,7 @@ behind b pei = record {
 }
 
 abbrev pub TextChoices : TextBoot → Choices
-TextChoices b =
-    choices_of (record {
-      peims = λ text starts named. NamesNext Pei b.run.names text named;
-      lets_in_pei = λ starts number. true;
-      drivers = λ text starts named. NamesNext Dxe b.run.names text named;
-      lets_in_dxe = λ starts number. true;
-      text = told_by;
-      faults = faults_of;
-    }) b.run.first
+TextChoices b = choices_of (by_text b.run.names) b.run.catalog b.run.fuel b.run.first
 
 abbrev Opening : TextBoot → PeiMachine → List Line → Type 0
 Opening b pei = AreFreeDxeLines b.run.catalog b.run.fuel pei (dxe_opening b.run.catalog pei.store pei.actions)

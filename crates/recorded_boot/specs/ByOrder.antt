@@ -5,6 +5,7 @@ use Rattle.std.specs.Prelude.{◌≡◌, ℕ, Bool, true, false, ◌&&◌, ◌==
 use Rattle.pi_base.specs.{declared.guid.Guid.Guid, declared.phase.Phase.Phase}
 use Rattle.pi_base.specs.{declared.phase.Phase.TheVariants.Pei, declared.phase.Phase.TheVariants.Dxe, Guids.same_guid}
 use Rattle.mod_catalog.specs.{declared.catalogue.Catalog.Catalog, declared.catalogue.Module.Module}
+use Rattle.boot_laws.specs.Naming.{Rules}
 use Rattle.recorded_boot.specs.{Named.AreNames, Named.IsNamed, declared.order.line.AskedStart.AskedStart, declared.order.line.Start.Start}
 use Rattle.recorded_boot.specs.declared.order.lines.StartOrder.{StartOrder}
 
@@ -57,3 +58,13 @@ lets_asked catalog phase stop (Some asked) number = is_start_of catalog phase nu
 
 abbrev pub lets_by : Catalog → StartOrder → Phase → ℕ → ℕ → Bool
 lets_by catalog order phase starts number = lets_asked catalog phase order.stop (slice_get order.starts starts) number
+
+-- the rules of the choice by an order
+abbrev pub order_rules : {S : Type 0} → Catalog → List (List (Guid × ℕ)) → StartOrder → Rules S
+order_rules catalog names order = record {
+  peims = λ sink before named. NamesBy catalog names Pei order before.starts named;
+  lets_in_pei = λ before number. lets_by catalog order Pei before.starts number;
+  drivers = λ sink before named. NamesBy catalog names Dxe order before.starts named;
+  lets_in_dxe = λ before number. lets_by catalog order Dxe before.starts number;
+  wants_turn = false;
+}

@@ -7,7 +7,7 @@ use Rattle.mod_catalog.specs.declared.catalogue.Catalog.{Catalog}
 use Rattle.store_model.specs.{HandleState.HandleState, HandleState.no_handles, StoreState.Board, StoreState.StoreState}
 use Rattle.boot_model.specs.{declared.line.Line.Line, declared.line.RunEnd.RunEnd, declared.phase_end.DxeEnd.DxeEnd}
 use Rattle.boot_model.specs.declared.line.RunEnd.TheVariants as E
-use Rattle.boot_model.specs.{declared.phase_end.PeiEnd.PeiEnd, BootRun.dxe_result, DxeMachine.DxeMachine, PeiMachine.PeiMachine}
+use Rattle.boot_model.specs.{declared.phase_end.PeiEnd.PeiEnd, BootRun.dxe_result, DxeMachine.DxeMachine, DxeRun.dxe_opening, PeiMachine.PeiMachine}
 use Rattle.boot_model.specs.declared.phase_end.PeiEnd.TheVariants.{Handoff, NoMemory, NoIpl, Spent, Deep}
 use Rattle.boot_model.specs.{PeiRun.pei_opening, Text.text_of}
 use Rattle.boot_trace.specs.Printing.{Texts}
@@ -20,18 +20,19 @@ use Rattle.boot_core.specs.Choices as W
 use Rattle.recorded_boot.specs.{ByOrder.NamesAsked, ByOrder.lets_by, Leaving.ComesTo}
 
 -- the choices of an order
-abbrev pub order_choices : Catalog → StartOrder → W.Choices
-order_choices catalog order = record {
+abbrev pub order_choices : Catalog → ℕ → StartOrder → W.Choices
+order_choices catalog fuel order = record {
   peims = λ m named. NamesAsked catalog Pei order (pei_starts m) named;
   lets_peim = λ m number. lets_by catalog order Pei (pei_starts m) number;
-  drivers = λ pei m named. NamesAsked catalog Dxe order (W.starts_of pei m) named;
-  lets_driver = λ pei m number. lets_by catalog order Dxe (W.starts_of pei m) number;
+  drivers = λ pei earlier m named. NamesAsked catalog Dxe order (W.starts_of pei m) named;
+  lets_driver = λ pei earlier m number. lets_by catalog order Dxe (W.starts_of pei m) number;
+  told = λ pei earlier. record { starts = W.starts_of pei (D.came catalog fuel (dxe_opening catalog pei.store pei.actions) earlier); turn = None };
 }
 
 -- PEI by them comes from its opening to this machine, over these, the last of them first
 abbrev pub RunsInPei : Board → Catalog → ℕ → StartOrder → List PeiMachine → PeiMachine → Type 0
 RunsInPei board catalog fuel order earlier m =
-    P.IsRunBy (order_choices catalog order).peims (order_choices catalog order).lets_peim catalog fuel (pei_opening board catalog) earlier m
+    P.IsRunBy (order_choices catalog fuel order).peims (order_choices catalog fuel order).lets_peim catalog fuel (pei_opening board catalog) earlier m
 
 -- how far a boot is: its lines without the last ones, its store and handles, how many starts there were, and its result if it has ended
 pub record Place : Type 0 where
@@ -53,20 +54,20 @@ pub record BarsInPei (by : W.Choices) (catalog : Catalog) (m : PeiMachine) : Typ
   pub due : P.IsDue by.peims catalog m number
   pub barred : by.lets_peim m number ≡ false
 
-pub record BarsInDxe (by : W.Choices) (catalog : Catalog) (pei : PeiMachine) (m : DxeMachine) : Type 0 where
+pub record BarsInDxe (by : W.Choices) (catalog : Catalog) (pei : PeiMachine) (earlier : List DxeMachine) (m : DxeMachine) : Type 0 where
   pub number : ℕ
-  pub due : D.IsDue (by.drivers pei) catalog m number
-  pub barred : by.lets_driver pei due.target number ≡ false
+  pub due : D.IsDue (by.drivers pei earlier) catalog m number
+  pub barred : by.lets_driver pei earlier due.target number ≡ false
 
 -- after this PEI the boot is there in DXE, which has ended so or is left
-abbrev pub IsDxePlace : W.Choices → Catalog → PeiMachine → DxeMachine → Option DxeEnd → Place → Type 0
-IsDxePlace by catalog pei m None place = BarsInDxe by catalog pei m × (place ≡ dxe_place pei m None)
-IsDxePlace by catalog pei m (Some how) place = place ≡ dxe_place pei m (Some (dxe_result how))
+abbrev pub IsDxePlace : W.Choices → Catalog → PeiMachine → List DxeMachine → DxeMachine → Option DxeEnd → Place → Type 0
+IsDxePlace by catalog pei earlier m None place = BarsInDxe by catalog pei earlier m × (place ≡ dxe_place pei m None)
+IsDxePlace by catalog pei earlier m (Some how) place = place ≡ dxe_place pei m (Some (dxe_result how))
 
 pub record StandsInDxe (by : W.Choices) (catalog : Catalog) (fuel : ℕ) (pei : PeiMachine) (place : Place) : Type 0 where
   pub m : DxeMachine
   pub comes : ComesInDxe by catalog fuel pei m
-  pub stands : IsDxePlace by catalog pei m m.ended place
+  pub stands : IsDxePlace by catalog pei comes.earlier m m.ended place
 
 -- the boot is there with PEI, which has ended so or is left; after a hand-off it is in DXE
 abbrev pub IsPeiPlace : W.Choices → Catalog → ℕ → PeiMachine → Option PeiEnd → Place → Type 0
@@ -82,7 +83,7 @@ pub record LeadsTo (board : Board) (catalog : Catalog) (fuel : ℕ) (order : Sta
   pub earlier : List PeiMachine
   pub m : PeiMachine
   pub runs : RunsInPei board catalog fuel order earlier m
-  pub stands : IsPeiPlace (order_choices catalog order) catalog fuel m m.ended place
+  pub stands : IsPeiPlace (order_choices catalog fuel order) catalog fuel m m.ended place
 
 -- the last lines of a boot that has ended with a result; a boot that is left before a start has none
 abbrev pub last_lines : StoreState → HandleState → Option RunEnd → List Line

@@ -31,6 +31,6 @@ store_of (B.BarredInDxe pei barred) = pei.store
 
 -- by what the boot has come to, over the state of its store
 abbrev pub LeavesBoot : {M : Type 0} → Catalog → StartOrder → StoreState → Booted M → Followed → Type 0
-LeavesBoot catalog order s (B.Ended ran) followed = ComesTo catalog order ran.starts s ran.handles (Some ran.«end») followed
+LeavesBoot catalog order s (B.Ended ran) followed = ComesTo catalog order ran.before.starts s ran.handles (Some ran.«end») followed
 LeavesBoot catalog order s (B.BarredInPei barred) followed = ComesTo catalog order barred.starts s no_handles None followed
-LeavesBoot catalog order s (B.BarredInDxe pei barred) followed = ComesTo catalog order barred.starts s barred.handles None followed
+LeavesBoot catalog order s (B.BarredInDxe pei barred) followed = ComesTo catalog order barred.before.starts s barred.handles None followed

@@ -2,9 +2,10 @@
 -- Own.
 use Rattle.std.specs.Prelude.{◌≡◌, ℕ, true, List, Option, Some, slice_get, length}
 use Rattle.boot_io.specs.Faults.{IsPrefix}
-use Rattle.pi_base.specs.{declared.guid.Guid.Guid, declared.phase.Phase.Phase, declared.phase.Phase.TheVariants.Pei}
+use Rattle.pi_base.specs.{declared.guid.Guid.Guid, declared.phase.Phase.Phase, declared.phase.Phase.TheVariants.Pei, declared.phase.Phase.TheVariants.Dxe}
 use Rattle.mod_catalog.specs.declared.catalogue.Catalog.{Catalog}
 use Rattle.mod_catalog.specs.Parts.{has_number, module_name, module_volume}
+use Rattle.boot_laws.specs.Naming.{Rules}
 use Rattle.boot_model.specs.{declared.licence.Licence.Licence, declared.line.Line.Line, Text.line_text}
 use Rattle.recorded_boot.specs.{declared.trace.spelled.Spelled.Spelled, Spelled.IsRight, Spelled.left, Named.AreNames, Named.IsNamed}
 use Rattle.trace_reader.specs.Readable.{IsReadable}
@@ -26,6 +27,16 @@ abbrev pub NamesNext : Phase → List (List (Guid × ℕ)) → Spelled → Optio
 NamesNext phase names text named =
     IsRight text → (catalog : Catalog) → AreNames catalog (length catalog.modules) names
     → (number : ℕ) → StartsNext phase catalog (left text) number → named ≡ Some number
+
+-- the rules of the choice by a text: it allows each start
+abbrev pub text_rules : List (List (Guid × ℕ)) → Rules Spelled
+text_rules names = record {
+  peims = λ text before named. NamesNext Pei names text named;
+  lets_in_pei = λ before number. true;
+  drivers = λ text before named. NamesNext Dxe names text named;
+  lets_in_dxe = λ before number. true;
+  wants_turn = false;
+}
 
 -- a cursor is before the PEIM that the text starts next, if that is in the order
 abbrev pub IsAimedAt : Catalog → List ℕ → List ℕ → ℕ → Type 0

@@ -1,5 +1,5 @@
 // What follows PEI in a boot, to the last line or to the start of a driver that the choice does not let.
-ghost use Rattle.std.specs.Prelude.{◌≡◌, ◌<◌, ◌^◌, length};
+ghost use Rattle.std.specs.Prelude.{◌≡◌, ◌<◌, ◌^◌, None, length};
 ghost use Rattle.boot_io.specs.Halted.{HaltsAfter};
 ghost use Rattle.boot_model.specs.declared.phase_end.PeiEnd.TheVariants.{Handoff};
 ghost use Rattle.mod_catalog.specs.WellFormed.{IsWellFormed};
@@ -9,7 +9,7 @@ ghost use Rattle.boot_core.specs.Watched.{BootsBehind};
 
 use crate::whole::closing::{put_closing, result_of};
 use boot_io::{Halt, Sink};
-use boot_laws::Choice;
+use boot_laws::{Before, Choice};
 use boot_model::{PeiEnd, RunEnd};
 use dxe_core::database::Handles;
 use dxe_dispatch::{Barred, DxeWatch, Left, watch_boot};
@@ -25,8 +25,8 @@ pub(crate) struct Last {
     pub(crate) end: RunEnd,
     /// The handles, with their interfaces. There are none without a DXE.
     pub(crate) handles: Handles,
-    /// How many starts there were in both phases.
-    pub(crate) starts: u64,
+    /// What the choice would be told there: how many starts there were in both phases, and whose turn it is.
+    pub(crate) before: Before,
 }
 
 /// What follows PEI comes to.
@@ -64,14 +64,7 @@ fn boot_drivers<M: PeiStore + Drop, S: Sink, C: Choice<S>, D: DxeWatch>(
     requires state { Present (M.stands_for pei.now.store) Anything }
     requires watch { D.is_new watch.old }
     ensures row { BootsBehind (D.knows_all watch.new) (record {
-      rules = record {
-        peims = C.peims choice.now;
-        lets_in_pei = C.lets_in_pei choice.now;
-        drivers = C.drivers choice.now;
-        lets_in_dxe = C.lets_in_dxe choice.now;
-        text = S.text;
-        faults = S.faults;
-      };
+      by = record { rules = C.rules choice.now; text = S.text; faults = S.faults };
       stands = M.stands_for;
       takes = M.TAKES_MEMORY;
       catalog = catalog.now;
@@ -96,7 +89,7 @@ fn boot_drivers<M: PeiStore + Drop, S: Sink, C: Choice<S>, D: DxeWatch>(
             let last = Last {
                 end: result_of(ended.end),
                 handles: ended.handles,
-                starts: ended.starts,
+                before: ended.before,
             };
             close(&pei.store, last, sink)
         }
@@ -115,7 +108,7 @@ fn close_pei<M: PeiStore + Drop, S: Sink>(
     ensures row { OfEach (M.stands_for pei.now.store) Anything (λ s. Tells (λ behind. behind ≡ Closed (record {
       «end» = end;
       handles = no_handles;
-      starts = pei.now.starts;
+      before = record { starts = pei.now.starts; turn = None };
     }))
         (closing_text s no_handles end) (record { old = S.text sink.old; new = S.text sink.new }) result) }
     ensures faults { HaltsAfter result (S.faults sink.old) (S.faults sink.new) }
@@ -123,7 +116,10 @@ fn close_pei<M: PeiStore + Drop, S: Sink>(
     let last = Last {
         end,
         handles: Handles::new(alloc),
-        starts: u64::from(pei.starts),
+        before: Before {
+            starts: u64::from(pei.starts),
+            turn: None,
+        },
     };
     close(&pei.store, last, sink)
 }
@@ -142,14 +138,7 @@ pub(crate) fn boot_behind<M: PeiStore + Drop, S: Sink, C: Choice<S>, D: DxeWatch
     requires state { Present (M.stands_for pei.now.store) Anything }
     requires watch { D.is_new watch.old }
     ensures row { BootsBehind (D.knows_all watch.new) (record {
-      rules = record {
-        peims = C.peims choice.now;
-        lets_in_pei = C.lets_in_pei choice.now;
-        drivers = C.drivers choice.now;
-        lets_in_dxe = C.lets_in_dxe choice.now;
-        text = S.text;
-        faults = S.faults;
-      };
+      by = record { rules = C.rules choice.now; text = S.text; faults = S.faults };
       stands = M.stands_for;
       takes = M.TAKES_MEMORY;
       catalog = catalog.now;

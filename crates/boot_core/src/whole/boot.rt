@@ -9,7 +9,7 @@ use crate::whole::behind::{Behind, boot_behind};
 use crate::whole::free::choices_are_free;
 use crate::whole::watch::Watch;
 use boot_io::{Halt, Sink};
-use boot_laws::Choice;
+use boot_laws::{Before, Choice};
 use boot_model::RunEnd;
 use dxe_core::database::Handles;
 use dxe_dispatch::DxeWatch;
@@ -27,8 +27,8 @@ pub struct Ran<M: PeiStore + Drop> {
     pub pei: Ended<M>,
     /// The handles, with their interfaces. There are none without a DXE.
     pub handles: Handles,
-    /// How many starts there were in both phases. Those in PEI are counted up to the last u32.
-    pub starts: u64,
+    /// What the choice would be told there: how many starts there were in both phases, those in PEI counted up to the last u32, and whose turn it is.
+    pub before: Before,
 }
 
 /// What a boot by a choice came to.
@@ -62,14 +62,7 @@ fn go_on<M: PeiStore + Drop, S: Sink, C: Choice<S>, P: PeiWatch + Drop, D: DxeWa
     requires watch { D.is_new watch.old.dxe }
     ensures kept { watch.new.pei ≡ watch.old.pei }
     ensures row { GoesOn (record { pei = P.knows_all watch.new.pei; dxe = D.knows_all watch.new.dxe }) (record {
-      rules = record {
-        peims = C.peims choice.now;
-        lets_in_pei = C.lets_in_pei choice.now;
-        drivers = C.drivers choice.now;
-        lets_in_dxe = C.lets_in_dxe choice.now;
-        text = S.text;
-        faults = S.faults;
-      };
+      by = record { rules = C.rules choice.now; text = S.text; faults = S.faults };
       stands = M.stands_for;
       takes = M.TAKES_MEMORY;
       catalog = catalog.now;
@@ -85,7 +78,7 @@ fn go_on<M: PeiStore + Drop, S: Sink, C: Choice<S>, P: PeiWatch + Drop, D: DxeWa
             end: last.end,
             pei,
             handles: last.handles,
-            starts: last.starts,
+            before: last.before,
         })),
         Behind::Barred(barred) => Ok(Booted::BarredInDxe { pei, barred }),
     }
@@ -114,14 +107,7 @@ pub fn boot_by_choice<
     requires watches_pei { P.is_new watch.old.pei }
     requires watches_dxe { D.is_new watch.old.dxe }
     ensures row { BootsByChoice (record { pei = P.knows_all watch.new.pei; dxe = D.knows_all watch.new.dxe }) (record {
-      rules = record {
-        peims = C.peims choice.now;
-        lets_in_pei = C.lets_in_pei choice.now;
-        drivers = C.drivers choice.now;
-        lets_in_dxe = C.lets_in_dxe choice.now;
-        text = S.text;
-        faults = S.faults;
-      };
+      by = record { rules = C.rules choice.now; text = S.text; faults = S.faults };
       stands = M.stands_for;
       takes = M.TAKES_MEMORY;
       catalog = catalog.now;

@@ -1,4 +1,6 @@
 //! Boots by choices are free ones.
+ghost use Rattle.std.specs.Prelude.{ℕ};
+ghost use Rattle.mod_catalog.specs.declared.catalogue.Catalog.{Catalog as OfCatalog};
 ghost use Rattle.boot_core.specs.{Choices.choices_of, FreeWay.AreFree};
 
 use boot_io::Sink;
@@ -8,14 +10,8 @@ use boot_laws::{
 
 /// Whatever the choice, free steps alone lead to each machine to which its boots come, and where one comes to its end its lines are those of a free boot.
 pub fn choices_are_free<S: Sink, C: Choice<S>>(choice: &C)
-    ensures { (first : S) → AreFree (choices_of (record {
-      peims = C.peims choice.now;
-      lets_in_pei = C.lets_in_pei choice.now;
-      drivers = C.drivers choice.now;
-      lets_in_dxe = C.lets_in_dxe choice.now;
-      text = S.text;
-      faults = S.faults;
-    }) first) }
+    ensures { (catalog : OfCatalog) (fuel : ℕ) (first : S)
+        → AreFree (choices_of (record { rules = C.rules choice.now; text = S.text; faults = S.faults }) catalog fuel first) }
 {
     cursor_aims();
     pei_starts_freely();

@@ -3,7 +3,7 @@ ghost use Rattle.std.specs.Prelude.{◌≡◌, slice_get};
 ghost use Rattle.recorded_boot.specs.ByOrder.{NamesBy, is_start_of, lets_by};
 
 use crate::order::{AskedStart, Names, Start, StartOrder};
-use boot_laws::Choice;
+use boot_laws::{Before, Choice};
 use mod_catalog::Catalog;
 use pi_base::Phase;
 
@@ -63,30 +63,27 @@ impl ByOrder<'_> {
 }
 
 impl<S> Choice<S> for ByOrder<'_> {
-    ghost use Rattle.pi_base.specs.declared.phase.Phase.TheVariants.{Pei, Dxe};
-    ghost use Rattle.recorded_boot.specs.ByOrder.{NamesBy, lets_by};
+    ghost use Rattle.recorded_boot.specs.ByOrder.{order_rules};
 
-    ghost peims = { λ by sink starts named. NamesBy by.catalog.now by.names.now.volumes.items Pei by.order.now starts named };
+    ghost rules = { λ by. order_rules by.catalog.now by.names.now.volumes.items by.order.now };
 
-    ghost drivers = { λ by sink starts named. NamesBy by.catalog.now by.names.now.volumes.items Dxe by.order.now starts named };
-
-    ghost lets_in_pei = { λ by starts number. lets_by by.catalog.now by.order.now Pei starts number };
-
-    ghost lets_in_dxe = { λ by starts number. lets_by by.catalog.now by.order.now Dxe starts number };
-
-    fn peim(&self, _sink: &S, starts: u64) -> Option<u32> {
-        self.named(Phase::Pei, starts)
+    fn wants_turn(&self) -> bool {
+        false
     }
 
-    fn driver(&self, _sink: &S, starts: u64) -> Option<u32> {
-        self.named(Phase::Dxe, starts)
+    fn peim(&self, _sink: &S, before: Before) -> Option<u32> {
+        self.named(Phase::Pei, before.starts)
     }
 
-    fn lets_peim(&self, starts: u64, number: u32) -> bool {
-        self.lets(Phase::Pei, starts, number)
+    fn driver(&self, _sink: &S, before: Before) -> Option<u32> {
+        self.named(Phase::Dxe, before.starts)
     }
 
-    fn lets_driver(&self, starts: u64, number: u32) -> bool {
-        self.lets(Phase::Dxe, starts, number)
+    fn lets_peim(&self, before: Before, number: u32) -> bool {
+        self.lets(Phase::Pei, before.starts, number)
+    }
+
+    fn lets_driver(&self, before: Before, number: u32) -> bool {
+        self.lets(Phase::Dxe, before.starts, number)
     }
 }

@@ -102,7 +102,7 @@ fn leave<M: PeiStore + Drop>(
                 store: &ran.pei.store,
                 handles: &ran.handles,
             };
-            come_to(alloc, by, &installed, ran.starts, Some(ran.end))
+            come_to(alloc, by, &installed, ran.before.starts, Some(ran.end))
         }
         Booted::BarredInPei(barred) => leave_pei(alloc, by, barred),
         Booted::BarredInDxe { pei, barred } => {
@@ -110,7 +110,7 @@ fn leave<M: PeiStore + Drop>(
                 store: &pei.store,
                 handles: &barred.handles,
             };
-            come_to(alloc, by, &installed, barred.starts, None)
+            come_to(alloc, by, &installed, barred.before.starts, None)
         }
     }
 }

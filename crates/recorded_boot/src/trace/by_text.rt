@@ -4,7 +4,7 @@ ghost use Rattle.recorded_boot.specs.Starting.{NamesNext};
 use crate::order::Names;
 use crate::trace::Spelled;
 use crate::trace::text_start::next_start;
-use boot_laws::Choice;
+use boot_laws::{Before, Choice};
 use pi_base::Phase;
 
 /// The module whose start is the next line of the text with which the boot is compared.
@@ -26,32 +26,29 @@ fn named_next(names: &Names, text: &Spelled<'_>, phase: Phase) -> Option<u32>
 
 impl<'t> Choice<Spelled<'t>> for ByText<'_> {
     ghost use Rattle.std.specs.Prelude.{◌≡◌, true};
-    ghost use Rattle.pi_base.specs.declared.phase.Phase.TheVariants.{Pei, Dxe};
-    ghost use Rattle.recorded_boot.specs.Starting.{NamesNext};
+    ghost use Rattle.recorded_boot.specs.Starting.{text_rules};
 
-    ghost peims = { λ by text starts named. NamesNext Pei by.names.now.volumes.items text named };
+    ghost rules = { λ by. text_rules by.names.now.volumes.items };
 
-    ghost drivers = { λ by text starts named. NamesNext Dxe by.names.now.volumes.items text named };
+    fn wants_turn(&self) -> bool {
+        false
+    }
 
-    ghost lets_in_pei = { λ by starts number. true };
-
-    ghost lets_in_dxe = { λ by starts number. true };
-
-    fn peim(&self, sink: &Spelled<'t>, _starts: u64) -> Option<u32> {
+    fn peim(&self, sink: &Spelled<'t>, _before: Before) -> Option<u32> {
         named_next(self.names, sink, Phase::Pei)
     }
 
-    fn driver(&self, sink: &Spelled<'t>, _starts: u64) -> Option<u32> {
+    fn driver(&self, sink: &Spelled<'t>, _before: Before) -> Option<u32> {
         named_next(self.names, sink, Phase::Dxe)
     }
 
-    fn lets_peim(&self, _starts: u64, _number: u32) -> bool
+    fn lets_peim(&self, _before: Before, _number: u32) -> bool
         ensures { result ≡ true }
     {
         true
     }
 
-    fn lets_driver(&self, _starts: u64, _number: u32) -> bool
+    fn lets_driver(&self, _before: Before, _number: u32) -> bool
         ensures { result ≡ true }
     {
         true

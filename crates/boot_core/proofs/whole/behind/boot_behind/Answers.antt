@@ -1,4 +1,4 @@
-use Rattle.std.proofs.Common.{refl}
+use Rattle.std.proofs.Common.{None, ap, refl}
 use Rattle.boot_model.specs.declared.line.RunEnd.TheVariants as E
 use Rattle.boot_model.specs.declared.phase_end.PeiEnd.TheVariants as M
 use Rattle.store_model.specs.HandleState.{no_handles}
@@ -25,16 +25,16 @@ returns-in-Handoff-clause-row g c = λ pei first left has. rw c.in-Handoff.is (c
 
 pub returns-in-NoMemory-clause-row : goal.returns-in-NoMemory-clause-row
 returns-in-NoMemory-clause-row g c = λ pei first left has.
-    rw c.in-NoMemory.is (closes _ _ pei M.NoMemory first c.args.sink.now pei.lines (record { «end» = E.NoMemory; handles = no_handles; starts = c.args.pei.now.starts }) c.close_pei.result (record { lines_are = refl; handles_are = refl; end_is = refl }) left.starts_are tt has (c.close_pei.ensures.row pei.store left.store_is tt))
+    rw c.in-NoMemory.is (closes _ _ pei M.NoMemory first c.args.sink.now pei.lines (record { «end» = E.NoMemory; handles = no_handles; before = record { starts = c.args.pei.now.starts; turn = None } }) c.close_pei.result (record { lines_are = refl; handles_are = refl; end_is = refl }) (ap (λ n. record { starts = n; turn = None }) left.starts_are) tt has (c.close_pei.ensures.row pei.store left.store_is tt))
 
 pub returns-in-NoIpl-clause-row : goal.returns-in-NoIpl-clause-row
 returns-in-NoIpl-clause-row g c = λ pei first left has.
-    rw c.in-NoIpl.is (closes _ _ pei M.NoIpl first c.args.sink.now pei.lines (record { «end» = E.NoIpl; handles = no_handles; starts = c.args.pei.now.starts }) c.close_pei-in-NoIpl.result (record { lines_are = refl; handles_are = refl; end_is = refl }) left.starts_are tt has (c.close_pei-in-NoIpl.ensures.row pei.store left.store_is tt))
+    rw c.in-NoIpl.is (closes _ _ pei M.NoIpl first c.args.sink.now pei.lines (record { «end» = E.NoIpl; handles = no_handles; before = record { starts = c.args.pei.now.starts; turn = None } }) c.close_pei-in-NoIpl.result (record { lines_are = refl; handles_are = refl; end_is = refl }) (ap (λ n. record { starts = n; turn = None }) left.starts_are) tt has (c.close_pei-in-NoIpl.ensures.row pei.store left.store_is tt))
 
 pub returns-in-Spent-clause-row : goal.returns-in-Spent-clause-row
 returns-in-Spent-clause-row g c = λ pei first left has.
-    rw c.in-Spent.is (closes _ _ pei M.Spent first c.args.sink.now pei.lines (record { «end» = E.Spent; handles = no_handles; starts = c.args.pei.now.starts }) c.close_pei-in-Spent.result (record { lines_are = refl; handles_are = refl; end_is = refl }) left.starts_are tt has (c.close_pei-in-Spent.ensures.row pei.store left.store_is tt))
+    rw c.in-Spent.is (closes _ _ pei M.Spent first c.args.sink.now pei.lines (record { «end» = E.Spent; handles = no_handles; before = record { starts = c.args.pei.now.starts; turn = None } }) c.close_pei-in-Spent.result (record { lines_are = refl; handles_are = refl; end_is = refl }) (ap (λ n. record { starts = n; turn = None }) left.starts_are) tt has (c.close_pei-in-Spent.ensures.row pei.store left.store_is tt))
 
 pub returns-in-Deep-clause-row : goal.returns-in-Deep-clause-row
 returns-in-Deep-clause-row g c = λ pei first left has.
-    rw c.in-Deep.is (closes _ _ pei M.Deep first c.args.sink.now pei.lines (record { «end» = E.Deep; handles = no_handles; starts = c.args.pei.now.starts }) c.close_pei-in-Deep.result (record { lines_are = refl; handles_are = refl; end_is = refl }) left.starts_are tt has (c.close_pei-in-Deep.ensures.row pei.store left.store_is tt))
+    rw c.in-Deep.is (closes _ _ pei M.Deep first c.args.sink.now pei.lines (record { «end» = E.Deep; handles = no_handles; before = record { starts = c.args.pei.now.starts; turn = None } }) c.close_pei-in-Deep.result (record { lines_are = refl; handles_are = refl; end_is = refl }) (ap (λ n. record { starts = n; turn = None }) left.starts_are) tt has (c.close_pei-in-Deep.ensures.row pei.store left.store_is tt))

@@ -4,7 +4,8 @@ use Rattle.boot_io.specs.declared.halt.Halt.{Halt}
 use Rattle.boot_model.specs.DxeRun.{dxe_opening}
 use Rattle.dxe_dispatch.specs.{declared.boot.Left.Left, Watched.BootsKnown}
 use Rattle.dxe_dispatch.specs.declared.boot.Left.TheVariants as V
-use Rattle.dxe_dispatch.specs.Choices.{DxeBoot, LetsDrivers, NamesDrivers}
+use Rattle.boot_laws.specs.Naming.{Chooser}
+use Rattle.dxe_dispatch.specs.{Choices.DxeBoot, Choices.LetsDrivers, Choices.NamesDrivers, Passes.told_in_dxe}
 use Rattle.boot_core.specs.{declared.whole.behind.Behind.Behind, Watched.ComesKnown}
 use Rattle.boot_core.proofs.BehindPei.{by_counts, drivers_bar, drivers_close, drivers_stop}
 use Rattle.boot_core.proofs.whole.behind.boot_drivers.Goals as goal
@@ -13,24 +14,25 @@ pub returns-in-Ended-clause-row : goal.returns-in-Ended-clause-row
 returns-in-Ended-clause-row g c = λ pei first left has.
     let T = g.S.Sink.text in
     let F = g.S.Sink.faults in
-    let C = g.C.Choice in
-    let choice = c.args.choice.now in
     let catalog = c.args.catalog.now in
     let fuel = c.args.fuel in
     let from = c.args.pei.now in
     let sink = c.args.sink.now in
     let mid = c.watch_boot.new.sink in
     let Knows = g.D.DxeWatch.knows_all c.watch_boot.new.watch in
-    let Run : ℕ → ℕ → DxeBoot = λ starts taken. record {
-      names = NamesDrivers (C.drivers choice) T F starts sink;
-      lets = LetsDrivers (C.lets_in_dxe choice) starts;
-      catalog = catalog;
-      fuel = fuel;
-      opening = dxe_opening catalog pei.store taken;
-      in_pei = starts;
-      old = T sink;
-      new = T mid;
-    } in
+    let by : Chooser g.row.S.Denot = record { rules = g.C.Choice.rules c.args.choice.now; text = T; faults = F } in
+    let Run : ℕ → ℕ → DxeBoot = λ starts taken.
+        let told = told_in_dxe (record { by = by; in_pei = starts }) catalog fuel (dxe_opening catalog pei.store taken) in
+        record {
+          names = NamesDrivers by told sink;
+          lets = LetsDrivers by.rules told;
+          told = told;
+          catalog = catalog;
+          fuel = fuel;
+          opening = dxe_opening catalog pei.store taken;
+          old = T sink;
+          new = T mid;
+        } in
     let Boots : Left → Type 0 = λ x. BootsKnown (Run from.starts from.actions) (Knows catalog fuel (dxe_opening catalog pei.store from.actions)) (Ok x) in
     let Come : ℕ → ℕ → Type 0 = λ starts taken. BootsKnown (Run starts taken) (Knows catalog fuel (dxe_opening catalog pei.store taken)) (Ok (V.Ended c.in-Ended.ended)) in
     let come = by_counts Come from.starts from.actions pei left.starts_are left.actions_are (subst Boots c.in-Ended.is (c.in_ok-ended.ensures.row pei.store left.store_is tt)) in
@@ -40,24 +42,25 @@ pub returns-in-Barred-clause-row : goal.returns-in-Barred-clause-row
 returns-in-Barred-clause-row g c = λ pei first left has.
     let T = g.S.Sink.text in
     let F = g.S.Sink.faults in
-    let C = g.C.Choice in
-    let choice = c.args.choice.now in
     let catalog = c.args.catalog.now in
     let fuel = c.args.fuel in
     let from = c.args.pei.now in
     let sink = c.args.sink.now in
     let mid = c.watch_boot.new.sink in
     let Knows = g.D.DxeWatch.knows_all c.watch_boot.new.watch in
-    let Run : ℕ → ℕ → DxeBoot = λ starts taken. record {
-      names = NamesDrivers (C.drivers choice) T F starts sink;
-      lets = LetsDrivers (C.lets_in_dxe choice) starts;
-      catalog = catalog;
-      fuel = fuel;
-      opening = dxe_opening catalog pei.store taken;
-      in_pei = starts;
-      old = T sink;
-      new = T mid;
-    } in
+    let by : Chooser g.row.S.Denot = record { rules = g.C.Choice.rules c.args.choice.now; text = T; faults = F } in
+    let Run : ℕ → ℕ → DxeBoot = λ starts taken.
+        let told = told_in_dxe (record { by = by; in_pei = starts }) catalog fuel (dxe_opening catalog pei.store taken) in
+        record {
+          names = NamesDrivers by told sink;
+          lets = LetsDrivers by.rules told;
+          told = told;
+          catalog = catalog;
+          fuel = fuel;
+          opening = dxe_opening catalog pei.store taken;
+          old = T sink;
+          new = T mid;
+        } in
     let Boots : Left → Type 0 = λ x. BootsKnown (Run from.starts from.actions) (Knows catalog fuel (dxe_opening catalog pei.store from.actions)) (Ok x) in
     let Stayed : ℕ → ℕ → Type 0 = λ starts taken. BootsKnown (Run starts taken) (Knows catalog fuel (dxe_opening catalog pei.store taken)) (Ok (V.Barred c.in-Barred.barred)) in
     let stayed = by_counts Stayed from.starts from.actions pei left.starts_are left.actions_are (subst Boots c.in-Barred.is (c.in_ok-ended.ensures.row pei.store left.store_is tt)) in
@@ -67,24 +70,25 @@ pub returns-in_err-ended-clause-row : goal.returns-in_err-ended-clause-row
 returns-in_err-ended-clause-row g c = λ pei first left has.
     let T = g.S.Sink.text in
     let F = g.S.Sink.faults in
-    let C = g.C.Choice in
-    let choice = c.args.choice.now in
     let catalog = c.args.catalog.now in
     let fuel = c.args.fuel in
     let from = c.args.pei.now in
     let sink = c.args.sink.now in
     let mid = c.watch_boot.new.sink in
     let Knows = g.D.DxeWatch.knows_all c.watch_boot.new.watch in
-    let Run : ℕ → ℕ → DxeBoot = λ starts taken. record {
-      names = NamesDrivers (C.drivers choice) T F starts sink;
-      lets = LetsDrivers (C.lets_in_dxe choice) starts;
-      catalog = catalog;
-      fuel = fuel;
-      opening = dxe_opening catalog pei.store taken;
-      in_pei = starts;
-      old = T sink;
-      new = T mid;
-    } in
+    let by : Chooser g.row.S.Denot = record { rules = g.C.Choice.rules c.args.choice.now; text = T; faults = F } in
+    let Run : ℕ → ℕ → DxeBoot = λ starts taken.
+        let told = told_in_dxe (record { by = by; in_pei = starts }) catalog fuel (dxe_opening catalog pei.store taken) in
+        record {
+          names = NamesDrivers by told sink;
+          lets = LetsDrivers by.rules told;
+          told = told;
+          catalog = catalog;
+          fuel = fuel;
+          opening = dxe_opening catalog pei.store taken;
+          old = T sink;
+          new = T mid;
+        } in
     let Stops : ℕ → ℕ → Type 0 = λ starts taken. BootsKnown (Run starts taken) (Knows catalog fuel (dxe_opening catalog pei.store taken)) (Err c.in_err-ended.field-0.0) in
     let stops = by_counts Stops from.starts from.actions pei left.starts_are left.actions_are (c.in_err-ended.ensures.row pei.store left.store_is tt) in
     let p = err_from_is_err_and c.from_residual.result c.from_residual.ensures.1 in

@@ -3,7 +3,7 @@ use Rattle.std.proofs.lemmas.Result.{err_from_is_err_and}
 use Rattle.boot_model.specs.PeiRun.{pei_opening}
 use Rattle.boot_laws.specs.declared.choice.Reached.TheVariants as R
 use Rattle.boot_core.specs.declared.whole.boot.Booted.TheVariants as B
-use Rattle.boot_core.specs.Choices.{Rules, choices_of}
+use Rattle.boot_core.specs.Choices.{choices_of}
 use Rattle.boot_core.proofs.FreeBoots.{goes_freely}
 use Rattle.boot_core.proofs.Giving.{freely, given_up_in_pei, known_from, knows_none}
 use Rattle.boot_core.proofs.whole.boot.boot_by_choice.Goals as goal
@@ -19,12 +19,10 @@ returns-in-Barred-clause-row g c = λ board here.
 pub returns-in-Barred-clause-free : goal.returns-in-Barred-clause-free
 returns-in-Barred-clause-free g c = λ board here.
     let T = g.S.Sink.text in
-    let C = g.C.Choice in
-    let choice = c.args.choice.now in
     let sink = c.args.sink.now in
-    let choices = choices_of (record { peims = C.peims choice; lets_in_pei = C.lets_in_pei choice; drivers = C.drivers choice; lets_in_dxe = C.lets_in_dxe choice; text = T; faults = g.S.Sink.faults }) sink in
+    let choices = choices_of (record { rules = g.C.Choice.rules c.args.choice.now; text = T; faults = g.S.Sink.faults }) c.args.catalog.now c.args.fuel sink in
     let watched = rw c.in-Barred.is at (c.in_ok-ended.ensures.row board here) in
-    goes_freely choices g.M.PeiStore.stands_for board c.args.catalog.now c.args.fuel (T sink) (T c.watch_boot.new.sink) (B.BarredInPei c.in-Barred.barred) (c.choices_are_free.ensures sink) watched.by
+    goes_freely choices g.M.PeiStore.stands_for board c.args.catalog.now c.args.fuel (T sink) (T c.watch_boot.new.sink) (B.BarredInPei c.in-Barred.barred) (c.choices_are_free.ensures c.args.catalog.now c.args.fuel sink) watched.by
 
 pub returns-in-Ended-clause-row : goal.returns-in-Ended-clause-row
 returns-in-Ended-clause-row g c = λ board here.
@@ -37,14 +35,12 @@ pub returns-in-Ended-clause-free : goal.returns-in-Ended-clause-free
 returns-in-Ended-clause-free g c = λ board here.
     let T = g.S.Sink.text in
     let F = g.S.Sink.faults in
-    let C = g.C.Choice in
-    let choice = c.args.choice.now in
     let sink = c.args.sink.now in
-    let choices = choices_of (record { peims = C.peims choice; lets_in_pei = C.lets_in_pei choice; drivers = C.drivers choice; lets_in_dxe = C.lets_in_dxe choice; text = T; faults = F }) sink in
+    let choices = choices_of (record { rules = g.C.Choice.rules c.args.choice.now; text = T; faults = F }) c.args.catalog.now c.args.fuel sink in
     let watched = rw c.in-Ended.is at (c.in_ok-ended.ensures.row board here) in
     let pei = watched.by in
     let Known : g.row.P.Denot → Type 0 = λ watch. g.P.PeiWatch.knows_all watch c.args.catalog.now c.args.fuel pei.comes.earlier pei.«end» (R.End c.in-Ended.ended.«end») in
-    freely choices T F g.M.PeiStore.stands_for g.M.PeiStore.TAKES_MEMORY board c.args.catalog.now c.args.fuel sink c.go_on.new.sink c.go_on.result (c.choices_are_free.ensures sink)
+    freely choices T F g.M.PeiStore.stands_for g.M.PeiStore.TAKES_MEMORY board c.args.catalog.now c.args.fuel sink c.go_on.new.sink c.go_on.result (c.choices_are_free.ensures c.args.catalog.now c.args.fuel sink)
     (c.go_on.ensures.row board sink pei (subst Known (sym c.go_on.ensures.kept) watched.known) c.in_ok-ended.ensures.faults).by
 
 pub returns-in_err-ended-clause-row : goal.returns-in_err-ended-clause-row

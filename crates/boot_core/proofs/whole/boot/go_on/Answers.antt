@@ -1,5 +1,5 @@
 use Rattle.std.proofs.lemmas.Result.{err_from_is_err_and}
-use Rattle.boot_core.specs.{Choices.choices_of, Watched.BootCall, Watched.Knowing}
+use Rattle.boot_core.specs.{Watched.BootCall, Watched.Knowing}
 use Rattle.boot_core.proofs.Giving.{given_up_behind, knows_come, knows_none}
 use Rattle.boot_core.proofs.whole.boot.go_on.Goals as goal
 
@@ -8,11 +8,9 @@ boot_behind-requires-clause-state g c = c.requires.state
 
 pub returns-in-Closed-clause-row : goal.returns-in-Closed-clause-row
 returns-in-Closed-clause-row g c = λ board first pei known right.
-    let C = g.C.Choice in
-    let choice = c.args.choice.now in
     let w : Knowing = record { pei = g.P.PeiWatch.knows_all c.args.watch.now.pei; dxe = g.D.DxeWatch.knows_all c.boot_behind.new.watch } in
     let call : BootCall g.row.M.Denot g.row.S.Denot = record {
-      rules = record { peims = C.peims choice; lets_in_pei = C.lets_in_pei choice; drivers = C.drivers choice; lets_in_dxe = C.lets_in_dxe choice; text = g.S.Sink.text; faults = g.S.Sink.faults };
+      by = record { rules = g.C.Choice.rules c.args.choice.now; text = g.S.Sink.text; faults = g.S.Sink.faults };
       stands = g.M.PeiStore.stands_for;
       takes = g.M.PeiStore.TAKES_MEMORY;
       catalog = c.args.catalog.now;
@@ -25,11 +23,9 @@ returns-in-Closed-clause-row g c = λ board first pei known right.
 
 pub returns-in-Barred-clause-row : goal.returns-in-Barred-clause-row
 returns-in-Barred-clause-row g c = λ board first pei known right.
-    let C = g.C.Choice in
-    let choice = c.args.choice.now in
     let w : Knowing = record { pei = g.P.PeiWatch.knows_all c.args.watch.now.pei; dxe = g.D.DxeWatch.knows_all c.boot_behind.new.watch } in
     let call : BootCall g.row.M.Denot g.row.S.Denot = record {
-      rules = record { peims = C.peims choice; lets_in_pei = C.lets_in_pei choice; drivers = C.drivers choice; lets_in_dxe = C.lets_in_dxe choice; text = g.S.Sink.text; faults = g.S.Sink.faults };
+      by = record { rules = g.C.Choice.rules c.args.choice.now; text = g.S.Sink.text; faults = g.S.Sink.faults };
       stands = g.M.PeiStore.stands_for;
       takes = g.M.PeiStore.TAKES_MEMORY;
       catalog = c.args.catalog.now;

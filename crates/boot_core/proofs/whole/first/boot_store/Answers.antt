@@ -1,4 +1,4 @@
-use Rattle.std.proofs.{Common.subst, lemmas.Result.err_from_is_err_and}
+use Rattle.std.proofs.{Common.refl, Common.subst, lemmas.Result.err_from_is_err_and}
 use Rattle.boot_core.specs.{declared.whole.boot.Booted.Booted, ByChoice.HasCome}
 use Rattle.boot_core.proofs.FirstBoots.{NamesNone, first_choices, first_halts, first_ran, first_wants}
 use Rattle.boot_core.proofs.whole.first.boot_store.Goals as goal
@@ -14,13 +14,14 @@ returns-clause-row g c = λ board here.
     let catalog = c.args.catalog.now in
     let sink = c.args.sink.now in
     let shown = c.boot_by_choice.new.sink in
-    let choices = first_choices T F sink in
-    let own : NamesNone choices catalog = record {
+    let choices = first_choices T F catalog c.args.fuel sink in
+    let own : NamesNone choices catalog c.args.fuel = record {
       peims = λ m named is. is.is;
       drivers = λ pei m named is. is.is;
       pei_ends = c.pei_runs_end.ensures;
       dxe_ends = c.dxe_runs_end.ensures;
       numbered = c.requires.catalog.parents;
+      counts = λ pei earlier. refl;
     } in
     let Comes : Booted g.row.M.Denot → Type 0 = λ x. HasCome choices stands board catalog c.args.fuel (T sink) (T shown) x in
     first_ran choices stands board catalog c.args.fuel (T sink) (T shown) c.in-Ended.ran own (subst Comes c.in-Ended.is (c.in_ok-ran.ensures.row board here).by)
@@ -33,13 +34,14 @@ returns-in_err-ran-clause-row g c = λ board here.
     let catalog = c.args.catalog.now in
     let sink = c.args.sink.now in
     let shown = c.boot_by_choice.new.sink in
-    let choices = first_choices T F sink in
-    let own : NamesNone choices catalog = record {
+    let choices = first_choices T F catalog c.args.fuel sink in
+    let own : NamesNone choices catalog c.args.fuel = record {
       peims = λ m named is. is.is;
       drivers = λ pei m named is. is.is;
       pei_ends = c.pei_runs_end.ensures;
       dxe_ends = c.dxe_runs_end.ensures;
       numbered = c.requires.catalog.parents;
+      counts = λ pei earlier. refl;
     } in
     let p = err_from_is_err_and c.from_residual.result c.from_residual.ensures.1 in
     rw p.1 (first_halts choices T F stands g.M.PeiStore.TAKES_MEMORY board catalog c.args.fuel sink shown c.in_err-ran.field-0.0 own (c.in_err-ran.ensures.row board here).by)
@@ -52,13 +54,14 @@ returns-in_err-ran-clause-memory g c = λ board here.
     let catalog = c.args.catalog.now in
     let sink = c.args.sink.now in
     let shown = c.boot_by_choice.new.sink in
-    let choices = first_choices T F sink in
-    let own : NamesNone choices catalog = record {
+    let choices = first_choices T F catalog c.args.fuel sink in
+    let own : NamesNone choices catalog c.args.fuel = record {
       peims = λ m named is. is.is;
       drivers = λ pei m named is. is.is;
       pei_ends = c.pei_runs_end.ensures;
       dxe_ends = c.dxe_runs_end.ensures;
       numbered = c.requires.catalog.parents;
+      counts = λ pei earlier. refl;
     } in
     let p = err_from_is_err_and c.from_residual.result c.from_residual.ensures.1 in
     rw (p.1, p.2) (first_wants choices T F stands g.M.PeiStore.TAKES_MEMORY board catalog c.args.fuel sink shown c.in_err-ran.field-0.0 own (c.in_err-ran.ensures.row board here).by)

@@ -1,9 +1,7 @@
 use Rattle.std.proofs.lemmas.Result.{err_from_is_err_and}
-use Rattle.pi_base.specs.declared.phase.Phase.TheVariants.{Pei, Dxe}
-use Rattle.boot_model.specs.PeiMachine.{PeiMachine}
-use Rattle.pei_dispatch.specs.Choices.{NamesPeims}
-use Rattle.boot_core.specs.Choices.{NamesBehind}
-use Rattle.recorded_boot.specs.ByOrder.{NamesBy}
+use Rattle.boot_laws.specs.Naming.{Chooser}
+use Rattle.boot_core.specs.Choices.{choices_of}
+use Rattle.recorded_boot.specs.ByOrder.{order_rules}
 use Rattle.recorded_boot.proofs.Calls.{NamesAlike, by_order, follows, stands_there}
 use Rattle.recorded_boot.proofs.PeiOrder.{OrderBoot}
 use Rattle.recorded_boot.proofs.follow.followed.follow_boot.Goals as goal
@@ -20,10 +18,10 @@ returns-clause-row g c = λ board here.
     let names = by.names.now.volumes.items in
     let sink = c.args.sink.now in
     let b : OrderBoot = record { board = board; catalog = by.catalog.now; fuel = c.args.fuel; order = order; well = c.requires.catalog; apart = c.requires.apart; few = c.requires.order } in
-    let Peims = NamesPeims (λ sink starts named. NamesBy by.catalog.now names Pei order starts named) T F sink in
-    let Drivers = NamesBehind (λ sink starts named. NamesBy by.catalog.now names Dxe order starts named) T F sink in
-    let alike : NamesAlike b Peims Drivers = record { in_pei = λ m named may. may.is c.requires.names; in_dxe = λ pei m named may. may.is c.requires.names } in
-    follows b Peims Drivers g.M.PeiStore.stands_for c.in_ok-booted.booted (record { old = T sink; new = T c.boot_by_choice.new.sink }) c.in_ok-followed.field-0 alike (c.in_ok-booted.ensures.row board here).by c.in_ok-followed.ensures
+    let chooser : Chooser g.row.S.Denot = record { rules = order_rules by.catalog.now names order; text = T; faults = F } in
+    let choices = choices_of chooser by.catalog.now c.args.fuel sink in
+    let alike : NamesAlike b choices.peims choices.drivers = record { in_pei = λ m named may. may.is c.requires.names; in_dxe = λ pei earlier m named may. may.is c.requires.names } in
+    follows b choices.peims choices.drivers g.M.PeiStore.stands_for c.in_ok-booted.booted (record { old = T sink; new = T c.boot_by_choice.new.sink }) c.in_ok-followed.field-0 alike (c.in_ok-booted.ensures.row board here).by c.in_ok-followed.ensures
 
 pub leave-followed-requires-clause-state : goal.leave-followed-requires-clause-state
 leave-followed-requires-clause-state g c =
