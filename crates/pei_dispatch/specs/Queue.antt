@@ -1,12 +1,13 @@
 -- The parts of PEI as they are kept, in the index of those that wait, and the cursor.
 -- Own.
-use Rattle.std.specs.Prelude.{◌≡◌, ℕ, ◌+◌, ◌≤◌, Bool, true, not, ◌&&◌, List, ◌++◌, sum_by, Some}
+use Rattle.std.specs.Prelude.{◌≡◌, ℕ, ◌+◌, ◌≤◌, Bool, true, not, ◌&&◌, List, ◌++◌, sum_by, Some, None}
 use Rattle.pi_base.specs.{declared.guid.Guid.Guid, declared.phase.Phase.TheVariants.Pei, GuidMap.value_of}
 use Rattle.mod_catalog.specs.{declared.catalogue.Catalog.Catalog, Parts.has_number}
 use Rattle.boot_model.specs.{EvaluationBound.each_once, EvaluationBound.pei_asked, Licence.AllDiffer, PeiChoice.pei_order}
 use Rattle.boot_model.specs.{PeiMachine.PeiMachine, declared.peim_state.PeimState.PeimState}
 use Rattle.wait_index.specs.Index.{IsIndex, order_in, waits_in, is_open_in, again_in, has_in, owed}
 use Rattle.pei_dispatch.specs.declared.queue.PeiQueue.{PeiQueue}
+use Rattle.pei_dispatch.specs.LastStart.{newest}
 use Rattle.pei_dispatch.specs.View.{View, awaits_again, first_view, view_of, parts_of}
 
 -- how many expressions have to be evaluated before the next PEIM is told
@@ -36,6 +37,7 @@ ShowsBehind catalog old new Test change = (view : View) → Shows catalog old vi
 pub record IsQueueOf (catalog : Catalog) (m : PeiMachine) (queue : PeiQueue) : Type 0 where
   pub shows : Shows catalog queue (view_of m)
   pub place : m.cursor ≡ queue.cursor
+  pub walked : queue.walked ≡ newest m.started
 
 -- its parts and its cursor are the machine's
 pub record IsPlaced (catalog : Catalog) (m : PeiMachine) (queue : PeiQueue) : Type 0 where
@@ -68,4 +70,5 @@ OwesFor catalog m guids old new = owed_by new ≤ owed_by old + sum_by (pei_aske
 pub record IsNewQueue (catalog : Catalog) (queue : PeiQueue) : Type 0 where
   pub shows : Shows catalog queue first_view
   pub place : queue.cursor ≡ 0
+  pub walked : queue.walked ≡ None
   pub owes : owed_by queue ≡ 0

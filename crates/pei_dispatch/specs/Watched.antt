@@ -7,7 +7,7 @@ use Rattle.store_model.specs.declared.store_handle.Sweep.{Sweep}
 use Rattle.store_model.specs.StoreState.{Board, StoreState, empty_store}
 use Rattle.boot_model.specs.{declared.phase_end.PeiEnd.PeiEnd, PeiChoice.next_peim, PeiChoice.pei_order, PeiMachine.PeiMachine}
 use Rattle.boot_model.specs.{PeiRun.pei_opening, PeiStep.started}
-use Rattle.boot_laws.specs.{declared.choice.Reached.Reached, PeiAim.with_cursor}
+use Rattle.boot_laws.specs.{declared.choice.Reached.Reached, Naming.Chooser, PeiAim.with_cursor}
 use Rattle.boot_laws.specs.declared.choice.Reached.TheVariants as R
 use Rattle.pei_core.specs.{declared.pei.Pei.Pei, Standing.IsFor, Standing.StandsFor, Steps.IsEvent, Steps.IsIdle, CoreCall.CoreCall}
 use Rattle.pei_dispatch.specs.{declared.answer.Step.Step, declared.answer.Step.TheVariants.Acted, declared.answer.Step.TheVariants.Started}
@@ -71,21 +71,14 @@ pub record RunsKnown {M : Type 0} (c : PeiCourse M) (Known : List PeiMachine →
   pub by : RunsAlong c result
   pub known : KnowsOf c Known result by
 
--- a way to choose PEIMs: which it may name and which starts it lets, by how many starts there were, and how the text and the faults of the sink are told into which it looks
-pub record PeimChoice (S : Type 0) : Type 1 where
-  pub names : S → ℕ → Option ℕ → Type 0
-  pub lets : ℕ → ℕ → Bool
-  pub text : S → Option (List ℕ)
-  pub faults : S → ℕ
-
 -- a watched run from the opening, over each board and fuel for which the core was made: a run by choices, of which this is known
-abbrev pub RunsWatched : {M S : Type 0} → (Catalog → ℕ → List PeiMachine → PeiMachine → Reached PeiEnd → Type 0) → PeimChoice S
+abbrev pub RunsWatched : {M S : Type 0} → (Catalog → ℕ → List PeiMachine → PeiMachine → Reached PeiEnd → Type 0) → Chooser S
     → (M → StoreState → Type 0) → Catalog → S → CoreCall M → Result (Reached PeiEnd) Halt → Type 0
-RunsWatched Knows choice stands catalog sink call result =
+RunsWatched Knows by stands catalog sink call result =
     (board : Board) (fuel : ℕ) → IsFor catalog fuel call.pei → StandsFor stands call.pei (pei_opening board catalog)
     → RunsKnown (record {
-      names = NamesPeims choice.names choice.text choice.faults sink;
-      lets = LetsPeims choice.lets;
+      names = NamesPeims by catalog sink;
+      lets = LetsPeims by.rules catalog;
       stands = stands;
       catalog = catalog;
       fuel = fuel;
@@ -126,17 +119,17 @@ pub record BootCall (M S : Type 0) : Type 0 where
   pub shown : S
 
 -- over each board for which the store stands as it was made
-abbrev pub BootsWatched : {M S : Type 0} → (Catalog → ℕ → List PeiMachine → PeiMachine → Reached PeiEnd → Type 0) → PeimChoice S
+abbrev pub BootsWatched : {M S : Type 0} → (Catalog → ℕ → List PeiMachine → PeiMachine → Reached PeiEnd → Type 0) → Chooser S
     → (M → StoreState → Type 0) → Catalog → ℕ → BootCall M S → Result (Left M) Halt → Type 0
-BootsWatched Knows choice stands catalog fuel call result =
+BootsWatched Knows by stands catalog fuel call result =
     (board : Board) → stands call.store (empty_store board)
     → BootsKnown (record {
-      names = NamesPeims choice.names choice.text choice.faults call.sink;
-      lets = LetsPeims choice.lets;
+      names = NamesPeims by catalog call.sink;
+      lets = LetsPeims by.rules catalog;
       stands = stands;
       catalog = catalog;
       fuel = fuel;
       opening = pei_opening board catalog;
-      old = choice.text call.sink;
-      new = choice.text call.shown;
+      old = by.text call.sink;
+      new = by.text call.shown;
     }) (Knows catalog fuel) result

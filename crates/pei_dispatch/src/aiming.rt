@@ -12,6 +12,7 @@ pub fn aim(queue: &mut PeiQueue, named: Option<u32>)
     ensures shows { (catalog : OfCatalog) (view : View) → Shows catalog queue.old view → Shows catalog queue.new view }
     ensures owed { owed_by queue.new ≡ owed_by queue.old }
     ensures within { queue.old.cursor ≤ length (parts_in queue.old) → queue.new.cursor ≤ length (parts_in queue.old) }
+    ensures walked { queue.new.walked ≡ queue.old.walked }
     ensures place { IsPlaceFor (parts_in queue.old) queue.old.cursor named queue.new.cursor }
 {
     match named {

@@ -40,6 +40,7 @@ impl PeiQueue {
         ensures shows { (catalog : OfCatalog) (has : OfGuid → Bool)
             → ShowsBehind catalog self.old self.new (λ view. IsEventOf view.has has gone is_still_there there.now) (with_guids has) }
         ensures cursor { self.new.cursor ≡ self.old.cursor }
+        ensures walked { self.new.walked ≡ self.old.walked }
         ensures owed { (catalog : OfCatalog) (m : PeiMachine) (has : OfGuid → Bool) → IsQueueOf catalog m self.old
             → IsEventOf (has_ppi m.store) has gone is_still_there there.now
             → OwesFor catalog m (event_guids gone there.now) self.old self.new }

@@ -44,16 +44,11 @@ pub fn watch_pei<M: PeiStore + Drop, S: Sink, C: Choice<S>, W: PeiWatch, L: Ledg
     requires queue { IsNewQueue catalog.now queue.old }
     requires opening { (board : Board) × StandsFor M.stands_for pei.old (pei_opening board catalog.now) }
     requires watch { W.is_new watch.old }
-    ensures row { RunsWatched (W.knows_all watch.new) (record {
-      names = C.peims choice.now;
-      lets = C.lets_in_pei choice.now;
-      text = S.text;
-      faults = S.faults;
-    })
+    ensures row { RunsWatched (W.knows_all watch.new) (record { rules = C.rules choice.now; text = S.text; faults = S.faults })
         M.stands_for catalog.now sink.old (record { pei = pei.old; later = pei.new; texts = record { old = S.text sink.old; new = S.text sink.new } }) result }
     ensures memory { IsWantOfStore M.TAKES_MEMORY result }
     ensures faults { HaltsAfter result (S.faults sink.old) (S.faults sink.new) }
-    ensures few_steps { EvaluatesFewByChoice (C.peims choice.now) (C.lets_in_pei choice.now) S.text S.faults M.stands_for catalog.now
+    ensures few_steps { EvaluatesFewByChoice (record { rules = C.rules choice.now; text = S.text; faults = S.faults }) M.stands_for catalog.now
         pei.old sink.old steps.old steps.new }
 {
     pei_opens();
