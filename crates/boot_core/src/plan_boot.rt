@@ -49,7 +49,7 @@ fn answer_run(ran: Result<Ran<MemStore>, Halt>) -> Booted
 }
 
 /// The store of a plan as it is made, with the images mapped as the catalogue says.
-pub(crate) fn store_of(
+pub fn store_of(
     alloc: Global,
     plan: &Plan,
     catalog: &Catalog,

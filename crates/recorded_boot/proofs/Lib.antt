@@ -43,3 +43,4 @@ pub mod TextFronts
 mod Pieces
 mod Places
 pub mod Telling
+pub mod Passing

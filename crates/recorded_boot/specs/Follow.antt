@@ -50,8 +50,8 @@ Follows plan images order t (Err Sink) = ⊤
 Follows plan images order t (Err Memory) = ⊤
 
 -- the sink's count rises if a line could not be written, and only then
-abbrev pub FaultsAfter : Result Followed FollowFault → ℕ → ℕ → Type 0
-FaultsAfter (Ok followed) before now = now ≡ before
+abbrev pub FaultsAfter : {A : Type 0} → Result A FollowFault → ℕ → ℕ → Type 0
+FaultsAfter (Ok answer) before now = now ≡ before
 FaultsAfter (Err (Image fault)) before now = now ≡ before
 FaultsAfter (Err (Twins volume)) before now = now ≡ before
 FaultsAfter (Err Sink) before now = (before ≤ now) × Rose before now

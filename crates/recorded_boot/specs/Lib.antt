@@ -35,3 +35,4 @@ pub mod Lines
 pub mod Parted
 pub mod Putting
 pub mod Spelled
+pub mod Passes

@@ -13,5 +13,7 @@ mod laws;
 pub use against::Against;
 pub use by_order::ByOrder;
 pub use followed::Followed;
+pub(crate) use images::fault_of;
 pub use images::{FollowFault, follow};
+pub(crate) use lacking::{Installed, lacking};
 pub use laws::one_boot;

@@ -48,8 +48,8 @@ impl From<OutOfMemory> for FollowFault {
     }
 }
 
-// The first fault of the images, or that memory ran out.
-fn fault_of(fault: ImageFault) -> FollowFault
+/// The first fault of the images, or that memory ran out.
+pub(crate) fn fault_of(fault: ImageFault) -> FollowFault
     ensures { IsFaultTold fault result }
 {
     if fault.cause == ImageCause::Memory {
