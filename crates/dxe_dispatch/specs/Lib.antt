@@ -6,5 +6,7 @@ pub mod Waiting
 pub mod Watched
 pub mod Aim
 pub mod Index
+pub mod PassList
+pub mod Passes
 pub mod Queue
 pub mod Choosing

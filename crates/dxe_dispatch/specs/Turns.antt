@@ -57,11 +57,12 @@ pub record HasTurned (lets : ℕ → Bool) (Now : DxeMachine → Type 0) (catalo
   pub printed : Printed m later t
   pub now : Now later
 
--- the later machine has ended, all stands for it as it was before it ended, and its lines were put; no driver started, and the handles are as they were
+-- the later machine has ended, all stands for it as it was before it ended, and its lines were put; no driver started, the handles are as they were, and so is all but the lines
 pub record HasTurnedToEnd (lets : ℕ → Bool) (Now : DxeMachine → Type 0) (catalog : Catalog) (m end : DxeMachine) (how : DxeEnd) (t : Texts) : Type 0 where
   pub passes : PassesStart lets catalog m
   pub none : StartsNone catalog m
   pub handles : end.handles ≡ m.handles
+  pub still : end ≡ record m { lines = end.lines; ended = end.ended }
   pub ended : end.ended ≡ Some how
   pub printed : Printed m end t
   pub now : Now (record end { ended = None })

@@ -6,7 +6,7 @@ ghost use Rattle.dxe_dispatch.specs.{Queue.IsQueueFor, Queue.owed, Choices.Aims,
 
 use crate::DriverQueue;
 use crate::root::root_of;
-use boot_laws::Choice;
+use boot_laws::{Before, Choice};
 use depex_code::Steps;
 use dxe_core::Dxe;
 use mod_catalog::Catalog;
@@ -20,18 +20,18 @@ fn is_choice(dxe: &Dxe, queue: &DriverQueue) -> bool
     dxe.is_idle() && queue.is_empty()
 }
 
-/// The driver that is named, where one is to be chosen. `starts` is how many starts there were.
+/// The driver that is named, where one is to be chosen. The choice is told `before`.
 pub(crate) fn named<S, C: Choice<S>>(
     dxe: &Dxe,
     queue: &DriverQueue,
     choice: &C,
-    starts: u64,
+    before: Before,
     sink: &S,
 ) -> Option<u32>
-    ensures { (catalog : OfCatalog) → Asks (C.drivers choice.now sink.now starts) catalog dxe.now queue.now result }
+    ensures { (catalog : OfCatalog) → Asks ((C.rules choice.now).drivers sink.now before) catalog dxe.now queue.now result }
 {
     if is_choice(dxe, queue) {
-        choice.driver(sink, starts)
+        choice.driver(sink, before)
     } else {
         None
     }

@@ -6,13 +6,13 @@ ghost use Rattle.store_model.specs.{Service.Present, Service.OfEach, StoreCall.A
 ghost use Rattle.dxe_core.specs.Standing.{IsFor};
 ghost use Rattle.boot_laws.specs.declared.choice.Reached.TheVariants as R;
 ghost use Rattle.dxe_dispatch.specs.{Watched.BootsWatched, Watched.LeavesWatched, Ends.IsAtOpening, Ends.IsOpened};
-ghost use Rattle.dxe_dispatch.specs.Choices.{handles_of, leaves};
+ghost use Rattle.dxe_dispatch.specs.{Choices.handles_of, Choices.leaves, Choices.told_last, PassList.turn_kept};
 
-use crate::DriverQueue;
+use crate::passes::Agenda;
 use crate::watch::DxeWatch;
 use crate::watched::watch_dxe;
 use boot_io::{Halt, Sink};
-use boot_laws::{Choice, Reached};
+use boot_laws::{Before, Choice, Reached};
 use boot_model::DxeEnd;
 use depex_code::Steps;
 use dxe_core::Dxe;
@@ -31,8 +31,8 @@ pub struct Ended {
     pub end: DxeEnd,
     /// The handles, with their interfaces.
     pub handles: Handles,
-    /// How many starts there were, those in PEI with them.
-    pub starts: u64,
+    /// What the choice would be told before another start.
+    pub before: Before,
 }
 
 /// What DXE leaves before the start of a driver that the choice does not let.
@@ -42,8 +42,8 @@ pub struct Barred {
     pub number: u32,
     /// The handles as they are there, with their interfaces.
     pub handles: Handles,
-    /// How many starts there were, those in PEI with them.
-    pub starts: u64,
+    /// What the choice was told before that start.
+    pub before: Before,
 }
 
 /// What DXE leaves.
@@ -72,11 +72,27 @@ pub fn dxe_at_opening<M: PeiStore>(
     Dxe::begin(alloc, catalog, bases.as_slice(), fuel, taken)
 }
 
-// What a run came to, and how many drivers have left its queue.
+// What a run came to, and what the choice was told last, or would be at the end.
 #[derive(Clone, Copy)]
 struct Run {
     reached: Reached<DxeEnd>,
-    left: usize,
+    before: Before,
+}
+
+// What the choice was told last. A driver that was not let has left the queue too.
+fn told_last(agenda: &Agenda, in_pei: u32, reached: Reached<DxeEnd>) -> Before
+    requires few { agenda.now.queue.left < 2 ^ 32 }
+    requires some { (number : ℕ) → reached ≡ R.Barred number → 1 ≤ agenda.now.queue.left }
+    ensures { result ≡ told_last in_pei agenda.now.queue.left (turn_kept agenda.now.passes) reached }
+{
+    let before = agenda.before(in_pei);
+    match reached {
+        Reached::End(_) => before,
+        Reached::Barred(_) => Before {
+            starts: before.starts - 1,
+            turn: before.turn,
+        },
+    }
 }
 
 // DXE from its opening, over a queue that is made for it. The expressions that are evaluated are counted in the ledger of a blank.
@@ -99,10 +115,7 @@ fn run_with_ledger<M: PeiStore, S: Sink, C: Choice<S>, W: DxeWatch, L: Ledger>(
     requires parts { blank.parts ≡ L.parts }
     requires counts { 0 < L.parts }
     ensures row { LeavesWatched (W.knows_all watch.new) (record {
-      names = C.drivers choice.now;
-      lets = C.lets_in_dxe choice.now;
-      text = S.text;
-      faults = S.faults;
+      by = record { rules = C.rules choice.now; text = S.text; faults = S.faults };
       in_pei = in_pei;
     })
         M.stands_for store.now catalog.now (record {
@@ -112,38 +125,39 @@ fn run_with_ledger<M: PeiStore, S: Sink, C: Choice<S>, W: DxeWatch, L: Ledger>(
           shown = sink.new;
         }) result }
     ensures few { dxe.old.fuel.taken < 2 ^ 32 → OnOk result (length dxe.new.services.handles.interfaces < 2 ^ 32) }
-    ensures few_starts { IfOk result (λ run. run.left < 2 ^ 32) }
     ensures faults { HaltsAfter result (S.faults sink.old) (S.faults sink.new) }
 {
-    let mut queue = DriverQueue::new(alloc, catalog)?;
+    let mut agenda = Agenda::new(alloc, catalog, choice.wants_turn())?;
     let mut steps = Steps::<L>::new(blank);
     let reached = watch_dxe(
-        dxe, store, &mut queue, choice, watch, in_pei, catalog, sink, &mut steps,
-    );
-    let left = queue.left_count();
-    drop(queue);
-    Ok(Run {
-        reached: reached?,
-        left,
-    })
+        dxe,
+        store,
+        &mut agenda,
+        choice,
+        watch,
+        in_pei,
+        catalog,
+        sink,
+        &mut steps,
+    )?;
+    let before = told_last(&agenda, in_pei, reached);
+    Ok(Run { reached, before })
 }
 
-// What DXE leaves behind a run, with these handles. A driver that was not let has left the queue too.
-fn left_by(run: Run, in_pei: u32, handles: Handles) -> Left
-    requires few { run.left < 2 ^ 32 }
-    requires some { (number : ℕ) → run.reached ≡ R.Barred number → 1 ≤ run.left }
-    ensures { result ≡ leaves in_pei handles run.left run.reached }
+// What DXE leaves behind a run, with these handles.
+fn left_by(run: Run, handles: Handles) -> Left
+    ensures { result ≡ leaves handles run.before run.reached }
 {
     match run.reached {
         Reached::End(end) => Left::Ended(Ended {
             end,
             handles,
-            starts: u64::from(in_pei) + run.left as u64,
+            before: run.before,
         }),
         Reached::Barred(number) => Left::Barred(Barred {
             number,
             handles,
-            starts: u64::from(in_pei) + (run.left - 1) as u64,
+            before: run.before,
         }),
     }
 }
@@ -164,10 +178,7 @@ pub fn watch_boot<M: PeiStore, S: Sink, C: Choice<S>, W: DxeWatch>(
     requires state { Present (M.stands_for store.now) Anything }
     requires watch { W.is_new watch.old }
     ensures row { OfEach (M.stands_for store.now) Anything (BootsWatched (W.knows_all watch.new) (record {
-      names = C.drivers choice.now;
-      lets = C.lets_in_dxe choice.now;
-      text = S.text;
-      faults = S.faults;
+      by = record { rules = C.rules choice.now; text = S.text; faults = S.faults };
       in_pei = in_pei;
     })
         catalog.now fuel taken (record { sink = sink.old; shown = sink.new }) result) }
@@ -180,5 +191,5 @@ pub fn watch_boot<M: PeiStore, S: Sink, C: Choice<S>, W: DxeWatch>(
         alloc, &mut dxe, store, choice, watch, in_pei, catalog, sink, blank,
     );
     let handles = dxe.into_handles();
-    Ok(left_by(run?, in_pei, handles))
+    Ok(left_by(run?, handles))
 }

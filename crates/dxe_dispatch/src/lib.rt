@@ -12,6 +12,7 @@ mod choose;
 mod group;
 mod index;
 mod licence;
+mod passes;
 mod queue;
 mod root;
 mod stop;
@@ -24,6 +25,7 @@ mod watched;
 
 pub use answer::{Step, Turn};
 pub use boot::{Barred, Ended, Left, dxe_at_opening, watch_boot};
+pub use passes::{Agenda, PassQueue};
 pub use queue::DriverQueue;
 pub use root::target_of;
 pub use turns::turn_by;

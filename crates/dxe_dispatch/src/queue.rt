@@ -5,7 +5,7 @@ ghost use Rattle.mod_catalog.specs.{WellFormed.IsWellFormed, declared.catalogue.
 ghost use Rattle.boot_model.specs.DxeChoice.{a_priori_drivers, companion_group, drivers_of, schedule_of};
 ghost use Rattle.boot_model.specs.DxeChoice as C;
 ghost use Rattle.boot_model.specs.{DxeMachine.DxeMachine, Licence.AllDiffer};
-ghost use Rattle.dxe_dispatch.specs.Aim.{aimed, may_be_next};
+ghost use Rattle.dxe_dispatch.specs.{Aim.aimed, Aim.may_be_next, Passes.group_of, Passes.pass_of};
 ghost use Rattle.dxe_dispatch.specs.Choosing.{AllWait, Come, IsFilledQueue, HasFlagFor, IsSeenRoot, Schedules, TakesHead, as_apriori};
 ghost use Rattle.dxe_dispatch.specs.Queue.{AreNew, Changes, ComesNext, Discovers, IsDriver, IsNewQueue, IsQueueFor, IsQueueOf, IsSeen, OwesFor, Requests, owed, waits_at};
 ghost use Rattle.wait_index.specs.Index.{order_in};
@@ -70,6 +70,16 @@ fn all_wait(alloc: Global, catalog: &Catalog) -> Result<Seq<bool>, OutOfMemory>
         waits.push(true)?;
     }
     Ok(waits)
+}
+
+// Adds a group, which is given last driver first.
+fn add_group(pass: &mut Seq<u32>, mut group: Seq<u32>) -> Result<(), OutOfMemory>
+    ensures { OnOk result (pass.new ≡ pass.old ++ reverse group) }
+{
+    'group: while let Some(number) = group.pop() {
+        pass.push(number)?;
+    }
+    Ok(())
 }
 
 impl DriverQueue {
@@ -327,6 +337,61 @@ impl DriverQueue {
             Ok(())
         }
     }
+
+    // Adds the group of a driver, where it waits and may start.
+    fn add_to_pass<L: Ledger>(
+        &mut self,
+        catalog: &Catalog,
+        order: &DriverOrder,
+        number: u32,
+        pass: &mut Seq<u32>,
+        steps: &mut Steps<L>,
+    ) -> Result<(), OutOfMemory>
+        requires catalog { IsWellFormed catalog.now }
+        requires made { IsQueueFor catalog.now self.old }
+        requires seen { (m : DxeMachine) × IsSeen catalog.now m self.old order.now }
+        ensures row { OnOk result ((m : DxeMachine) → IsSeen catalog.now m self.old order.now → pass.new ≡ pass.old ++ group_of catalog.now m number) }
+        ensures queue { (m : DxeMachine) → IsQueueOf catalog.now m self.old → IsQueueOf catalog.now m self.new }
+        ensures made { IsQueueFor catalog.now self.new }
+        ensures owes { steps.new + owed self.new ≤ steps.old + owed self.old }
+    {
+        if self.may_be_next(catalog, number, steps) {
+            let group = backward_group(
+                self.items.alloc(),
+                catalog,
+                order,
+                self.waits.as_slice(),
+                number,
+            )?;
+            add_group(pass, group)
+        } else {
+            Ok(())
+        }
+    }
+
+    /// A pass: those of these drivers that wait and may start, each with its group. No more expressions are evaluated than the queue owes.
+    pub fn pass<L: Ledger>(
+        &mut self,
+        catalog: &Catalog,
+        order: &DriverOrder,
+        drivers: &[u32],
+        steps: &mut Steps<L>,
+    ) -> Result<Seq<u32>, OutOfMemory>
+        requires catalog { IsWellFormed catalog.now }
+        requires made { IsQueueFor catalog.now self.old }
+        requires seen { (m : DxeMachine) × IsSeen catalog.now m self.old order.now }
+        ensures row { IfOk result (λ pass. (m : DxeMachine) → IsSeen catalog.now m self.old order.now → pass ≡ pass_of catalog.now m drivers.now) }
+        ensures queue { (m : DxeMachine) → IsQueueOf catalog.now m self.old → IsQueueOf catalog.now m self.new }
+        ensures made { IsQueueFor catalog.now self.new }
+        ensures owes { steps.new + owed self.new ≤ steps.old + owed self.old }
+    {
+        let mut pass = Seq::new(self.items.alloc());
+        'drivers: for number in drivers {
+            self.add_to_pass(catalog, order, *number, &mut pass, steps)?;
+        }
+        Ok(pass)
+    }
+
 
     // The head leaves the queue, if there is one.
     fn take(&mut self) -> Option<Scheduled>

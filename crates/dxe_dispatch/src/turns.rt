@@ -3,7 +3,7 @@ ghost use Rattle.std.specs.Prelude.{◌≡◌, ◌≢◌, ◌≤◌, ◌<◌, �
 ghost use Rattle.boot_io.specs.Halted.{HaltsAfter};
 ghost use Rattle.boot_model.specs.DxeMachine.{DxeMachine};
 ghost use Rattle.mod_catalog.specs.WellFormed.{IsWellFormed};
-ghost use Rattle.dxe_dispatch.specs.{Queue.IsQueueFor, Queue.owed, Choices.IsOnWay, Choices.TurnsByChoice};
+ghost use Rattle.dxe_dispatch.specs.{Queue.IsQueueFor, Queue.owed, Choices.IsOnWay, Choices.TurnsByChoice, Choices.TurnsTold};
 ghost use Rattle.dxe_core.specs.{Standing.IsFor, Steps.IsIdle};
 ghost use Rattle.dxe_dispatch.specs.Turns.{AreKeptFor, IsAtTurn, OwesBehind, TurnsDxe, TurnsIdleDxe};
 
@@ -11,10 +11,11 @@ use crate::DriverQueue;
 use crate::aim::{aim, named};
 use crate::answer::{Step, Turn};
 use crate::choose::choose;
+use crate::passes::Agenda;
 use crate::stop::put_stop;
 use crate::tell::tell;
 use boot_io::{Halt, Sink};
-use boot_laws::{Choice, Reached, dxe_chooses_by_groups, dxe_goes_on, dxe_opens, groups_are_aimed};
+use boot_laws::{Before, Choice, Reached, dxe_chooses_by_groups, dxe_goes_on, dxe_opens, groups_are_aimed};
 use boot_model::DxeEnd;
 use depex_code::Steps;
 use dxe_core::{Dxe, Stepped};
@@ -22,20 +23,12 @@ use mod_catalog::Catalog;
 use std::sync::ledger::Ledger;
 use store_model::PeiStore;
 
-// How many starts there were: those in PEI, and one for each driver that has left the queue.
-fn starts(in_pei: u32, queue: &DriverQueue) -> u64
-    requires few { queue.now.left < 2 ^ 32 }
-    ensures { result ≡ in_pei + queue.now.left }
-{
-    u64::from(in_pei) + queue.left_count() as u64
-}
-
-// The next driver starts, if the choice lets it, or DXE stops. `starts` is how many starts there were.
+// The next driver starts, if the choice lets it, or DXE stops. The choice is told `before`.
 fn start_or_stop<S: Sink, C: Choice<S>, L: Ledger>(
     dxe: &mut Dxe,
     queue: &mut DriverQueue,
     choice: &C,
-    starts: u64,
+    before: Before,
     catalog: &Catalog,
     sink: &mut S,
     steps: &mut Steps<L>,
@@ -43,7 +36,7 @@ fn start_or_stop<S: Sink, C: Choice<S>, L: Ledger>(
     requires catalog { IsWellFormed catalog.now }
     requires made { IsQueueFor catalog.now queue.old }
     requires state { (m : DxeMachine) × AreKeptFor catalog.now dxe.old queue.old m × IsIdle m }
-    ensures row { TurnsIdleDxe (C.lets_in_dxe choice.now starts) catalog.now (record {
+    ensures row { TurnsIdleDxe ((C.rules choice.now).lets_in_dxe before) catalog.now (record {
       core = dxe.old;
       queue = queue.old;
       later = dxe.new;
@@ -59,7 +52,7 @@ fn start_or_stop<S: Sink, C: Choice<S>, L: Ledger>(
 {
     match choose(dxe, queue, catalog, steps)? {
         Some(next) => {
-            if !choice.lets_driver(starts, next.module_number) {
+            if !choice.lets_driver(before, next.module_number) {
                 return Ok(Turn::Reached(Reached::Barred(next.module_number)));
             }
             dxe.start(catalog, next, sink)?;
@@ -111,13 +104,13 @@ fn act<M: PeiStore, S: Sink>(
     }
 }
 
-// The core takes a step; where it has none left the next driver starts, if the choice lets it, or DXE stops. `starts` is how many starts there were.
+// The core takes a step; where it has none left the next driver starts, if the choice lets it, or DXE stops. The choice is told `before`.
 fn turn<M: PeiStore, S: Sink, C: Choice<S>, L: Ledger>(
     dxe: &mut Dxe,
     store: &M,
     queue: &mut DriverQueue,
     choice: &C,
-    starts: u64,
+    before: Before,
     catalog: &Catalog,
     sink: &mut S,
     steps: &mut Steps<L>,
@@ -126,7 +119,7 @@ fn turn<M: PeiStore, S: Sink, C: Choice<S>, L: Ledger>(
     requires queue { IsQueueFor catalog.now queue.old }
     requires state { (m : DxeMachine) × (fuel : ℕ) × IsFor catalog.now fuel dxe.old
         × IsAtTurn M.stands_for store.now catalog.now fuel dxe.old queue.old m }
-    ensures row { TurnsDxe (C.lets_in_dxe choice.now starts) M.stands_for store.now catalog.now (record {
+    ensures row { TurnsDxe ((C.rules choice.now).lets_in_dxe before) M.stands_for store.now catalog.now (record {
       core = dxe.old;
       queue = queue.old;
       later = dxe.new;
@@ -142,17 +135,67 @@ fn turn<M: PeiStore, S: Sink, C: Choice<S>, L: Ledger>(
         (steps.old + owed queue.old) (steps.new + owed queue.new)) }
 {
     if dxe.is_idle() {
-        start_or_stop(dxe, queue, choice, starts, catalog, sink, steps)
+        start_or_stop(dxe, queue, choice, before, catalog, sink, steps)
     } else {
         act(dxe, store, queue, catalog, sink)
     }
 }
 
-/// A step of the machine, and what it was; where a driver is to be chosen, a choice may name one first, and a driver starts only if it lets it. `in_pei` is how many starts there were in PEI.
+// A driver is named, where one is to be chosen, and the choice is aimed at it; then a turn. The choice is told `before`.
+fn turn_told<M: PeiStore, S: Sink, C: Choice<S>, L: Ledger>(
+    dxe: &mut Dxe,
+    store: &M,
+    agenda: &mut Agenda,
+    choice: &C,
+    before: Before,
+    catalog: &Catalog,
+    sink: &mut S,
+    steps: &mut Steps<L>,
+) -> Result<Turn, Halt>
+    requires catalog { IsWellFormed catalog.now }
+    requires queue { IsQueueFor catalog.now agenda.old.queue }
+    requires state { (m : DxeMachine) × (fuel : ℕ) × IsFor catalog.now fuel dxe.old
+        × IsOnWay M.stands_for store.now catalog.now dxe.old agenda.old.queue m }
+    ensures row { TurnsTold (record { rules = C.rules choice.now; text = S.text; faults = S.faults }) before
+        M.stands_for store.now catalog.now (record {
+          core = dxe.old;
+          agenda = agenda.old;
+          sink = sink.old;
+          before = steps.old + owed agenda.old.queue;
+          later = dxe.new;
+          grown = agenda.new;
+          shown = sink.new;
+          now = steps.new + owed agenda.new.queue;
+        }) result }
+    ensures made { OnOk result ((fuel : ℕ) → IsFor catalog.now fuel dxe.old → IsFor catalog.now fuel dxe.new) }
+    ensures queue { OnOk result (IsQueueFor catalog.now agenda.new.queue) }
+    ensures passes { agenda.new.passes ≡ agenda.old.passes }
+    ensures faults { HaltsAfter result (S.faults sink.old) (S.faults sink.new) }
+    ensures few_steps { steps.new ≤ steps.old + owed agenda.old.queue }
+{
+    dxe_opens();
+    dxe_goes_on();
+    dxe_chooses_by_groups();
+    groups_are_aimed();
+    let driver = named(dxe, &agenda.queue, choice, before, sink);
+    aim(dxe, &mut agenda.queue, catalog, driver, steps)?;
+    turn(
+        dxe,
+        store,
+        &mut agenda.queue,
+        choice,
+        before,
+        catalog,
+        sink,
+        steps,
+    )
+}
+
+/// A step of the machine, and what it was; where a driver is to be chosen, a choice may name one first, and a driver starts only if it lets it. The choice is told how many starts there were, and whose turn it is in the order of EDK2's dispatcher, if it wants to know. `in_pei` is how many starts there were in PEI.
 pub fn turn_by<M: PeiStore, S: Sink, C: Choice<S>, L: Ledger>(
     dxe: &mut Dxe,
     store: &M,
-    queue: &mut DriverQueue,
+    agenda: &mut Agenda,
     choice: &C,
     in_pei: u32,
     catalog: &Catalog,
@@ -160,37 +203,33 @@ pub fn turn_by<M: PeiStore, S: Sink, C: Choice<S>, L: Ledger>(
     steps: &mut Steps<L>,
 ) -> Result<Turn, Halt>
     requires catalog { IsWellFormed catalog.now }
-    requires queue { IsQueueFor catalog.now queue.old }
+    requires queue { IsQueueFor catalog.now agenda.old.queue }
     requires state { (m : DxeMachine) × (fuel : ℕ) × IsFor catalog.now fuel dxe.old
-        × IsOnWay M.stands_for store.now catalog.now dxe.old queue.old m }
+        × IsOnWay M.stands_for store.now catalog.now dxe.old agenda.old.queue m }
     ensures row { TurnsByChoice (record {
-      names = C.drivers choice.now;
-      lets = C.lets_in_dxe choice.now;
-      text = S.text;
-      faults = S.faults;
+      by = record { rules = C.rules choice.now; text = S.text; faults = S.faults };
       in_pei = in_pei;
     })
         M.stands_for store.now catalog.now (record {
           core = dxe.old;
-          queue = queue.old;
+          agenda = agenda.old;
           sink = sink.old;
-          before = steps.old + owed queue.old;
+          before = steps.old + owed agenda.old.queue;
           later = dxe.new;
-          grown = queue.new;
+          grown = agenda.new;
           shown = sink.new;
-          now = steps.new + owed queue.new;
+          now = steps.new + owed agenda.new.queue;
         }) result }
     ensures made { OnOk result ((fuel : ℕ) → IsFor catalog.now fuel dxe.old → IsFor catalog.now fuel dxe.new) }
-    ensures queue { OnOk result (IsQueueFor catalog.now queue.new) }
+    ensures queue { OnOk result (IsQueueFor catalog.now agenda.new.queue) }
     ensures faults { HaltsAfter result (S.faults sink.old) (S.faults sink.new) }
-    ensures few_steps { steps.new ≤ steps.old + owed queue.old }
+    ensures few_steps { steps.new ≤ steps.old + owed agenda.old.queue }
 {
-    dxe_opens();
-    dxe_goes_on();
-    dxe_chooses_by_groups();
-    groups_are_aimed();
-    let starts = starts(in_pei, queue);
-    let driver = named(dxe, queue, choice, starts, sink);
-    aim(dxe, queue, catalog, driver, steps)?;
-    turn(dxe, store, queue, choice, starts, catalog, sink, steps)
+    agenda.refill(dxe, catalog, steps)?;
+    let before = agenda.before(in_pei);
+    let left = agenda.queue.left_count();
+    let known = dxe.order().volumes().len();
+    let turn = turn_told(dxe, store, agenda, choice, before, catalog, sink, steps)?;
+    agenda.follow(catalog, dxe.order(), left, known, &turn)?;
+    Ok(turn)
 }
