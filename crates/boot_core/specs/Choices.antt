@@ -1,6 +1,6 @@
 -- What the choices of a boot may name, and which starts they let.
 -- Own; PI 1.8, volumes 1 and 2, leave the order of the modules that may start to the dispatchers.
-use Rattle.std.specs.Prelude.{◌+◌, ℕ, Bool, length, List, ◌++◌, Option}
+use Rattle.std.specs.Prelude.{◌≡◌, ◌+◌, ℕ, Bool, length, List, ◌++◌, Option}
 use Rattle.mod_catalog.specs.declared.catalogue.Catalog.{Catalog}
 use Rattle.boot_model.specs.{DxeMachine.DxeMachine, DxeRun.dxe_opening, PeiMachine.PeiMachine}
 use Rattle.boot_laws.specs.{declared.choice.Before.Before, Naming.Chooser, Naming.MayName}
@@ -37,3 +37,8 @@ choices_of by catalog fuel first = record {
   lets_driver = λ pei. LetsDrivers by.rules (told_behind by catalog fuel pei);
   told = told_behind by catalog fuel;
 }
+
+-- where they may name a module it is one alone, or they name none
+pub record NameOne (by : Choices) : Type 0 where
+  pub peims : (m : PeiMachine) (one other : Option ℕ) → by.peims m one → by.peims m other → one ≡ other
+  pub drivers : (pei : PeiMachine) (earlier : List DxeMachine) (m : DxeMachine) (one other : Option ℕ) → by.drivers pei earlier m one → by.drivers pei earlier m other → one ≡ other

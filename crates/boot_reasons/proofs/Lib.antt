@@ -9,5 +9,4 @@ mod OwnBoots
 mod PeiEnds
 mod PeiSteps
 mod Phases
-mod Reported
 mod WalkedLists

@@ -6,14 +6,9 @@ use Rattle.store_model.specs.StoreState.{Board}
 use Rattle.boot_model.specs.{DxeMachine.DxeMachine, PeiMachine.PeiMachine, PeiRun.pei_end, declared.phase_end.PeiEnd.TheVariants.Handoff}
 use Rattle.boot_model.specs.DxeRun.{dxe_end}
 use Rattle.boot_laws.specs.declared.choice.Reached.{Reached}
-use Rattle.boot_core.specs.{WholeEnd.end_of, ByChoice.BootBy, Choices.Choices}
+use Rattle.boot_core.specs.{WholeEnd.end_of, ByChoice.BootBy, Choices.Choices, Choices.NameOne}
 use Rattle.explain_text.specs.declared.reasons.Explained.{Explained}
 use Rattle.boot_reasons.specs.Explained.{ExplainsTo, IsExplained, IsExplainedBy}
-
--- where they may name a module it is one alone, or they name none
-pub record NameOne (by : Choices) : Type 0 where
-  pub peims : (m : PeiMachine) (one other : Option ℕ) → by.peims m one → by.peims m other → one ≡ other
-  pub drivers : (pei : PeiMachine) (m : DxeMachine) (one other : Option ℕ) → by.drivers pei m one → by.drivers pei m other → one ≡ other
 
 -- over each board a boot by such choices has one explanation, or is left before one start
 abbrev pub HasOneExplanation : Choices → Type 0

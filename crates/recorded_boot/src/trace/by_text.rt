@@ -25,12 +25,14 @@ fn named_next(names: &Names, text: &Spelled<'_>, phase: Phase) -> Option<u32>
 }
 
 impl<'t> Choice<Spelled<'t>> for ByText<'_> {
-    ghost use Rattle.std.specs.Prelude.{◌≡◌, true};
+    ghost use Rattle.std.specs.Prelude.{◌≡◌, true, false};
     ghost use Rattle.recorded_boot.specs.Starting.{text_rules};
 
     ghost rules = { λ by. text_rules by.names.now.volumes.items };
 
-    fn wants_turn(&self) -> bool {
+    fn wants_turn(&self) -> bool
+        ensures { result ≡ false }
+    {
         false
     }
 
