@@ -44,3 +44,4 @@ mod Pieces
 mod Places
 pub mod Telling
 pub mod Passing
+mod OnePass

@@ -107,7 +107,7 @@ one_end b e f m k r here s there =
 
 -- DXE behind one machine of PEI.
 abbrev named : OrderBoot → PeiMachine → DxeMachine → Option ℕ → Type 0
-named b pei m named = NamesAsked b.catalog Dxe b.order (pei_starts pei + length m.started) named
+named b pei m one = NamesAsked b.catalog Dxe b.order (pei_starts pei + length m.started) one
 
 abbrev lets : OrderBoot → PeiMachine → DxeMachine → ℕ → Bool
 lets b pei m number = lets_by b.catalog b.order Dxe (pei_starts pei + length m.started) number

@@ -53,6 +53,7 @@ behind b pei Deep lines handles end ends = ends
 same_turn : {S : Type 0} (b : TurnBoot S) (pei : PeiMachine) (how : PeiEnd) (lines : List Line) (handles : HandleState) (end : RunEnd) → (ends : EndsAfter (choices b) b.catalog b.fuel pei how lines handles end)
     → (before_by (record { by = choices b; catalog = b.catalog; fuel = b.fuel; pei = pei; lines = lines; handles = handles; result = end }) how ends).turn
     ≡ (before_by (record { by = pass_choices b.catalog b.fuel; catalog = b.catalog; fuel = b.fuel; pei = pei; lines = lines; handles = handles; result = end }) how (behind b pei how lines handles end ends)).turn
+unfolding behind in_dxe
 same_turn b pei Handoff lines handles end ends = refl
 same_turn b pei NoMemory lines handles end ends = refl
 same_turn b pei NoIpl lines handles end ends = refl
@@ -107,6 +108,7 @@ ran_passes b stands ran t passed free by leaves = stage passed (leaves by.boot.p
 -- it was left in DXE
 left_passes : {M S : Type 0} (b : TurnBoot S) (stands : M → StoreState → Type 0) (left : EndedPei M) (barred : Barred) (t : Texts) (passed : Passed) → IsBarredInDxe (choices b) stands b.board b.catalog b.fuel left barred t.old t.new
     → ((s : StoreState) → stands left.store s → LeavesBoot b.catalog s (B.BarredInDxe left barred) passed) → PassesTo b.board b.catalog b.fuel t passed
+unfolding in_dxe
 left_passes b stands left barred t (Ended end) by leaves = absurd (leaves by.pei.store by.left_is.store_is)
 left_passes b stands left barred t (No turn) by leaves =
     let pei = by.pei in

@@ -36,3 +36,4 @@ pub mod Parted
 pub mod Putting
 pub mod Spelled
 pub mod Passes
+pub mod OnePass

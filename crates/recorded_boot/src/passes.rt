@@ -8,7 +8,7 @@ ghost use Rattle.mod_catalog.specs.WellFormed.{IsWellFormed};
 ghost use Rattle.pi_base.specs.declared.phase.Phase.TheVariants.{Dxe};
 ghost use Rattle.store_model.specs.{Service.Present, Service.OfEach, StateFacts.IsBoard, StoreCall.Anything, StoreState.Board, StoreState.empty_store};
 ghost use Rattle.boot_model.specs.DxeChoice.{is_that};
-ghost use Rattle.recorded_boot.specs.{Follow.FaultsAfter, Leaving.store_of, Starts.module_start};
+ghost use Rattle.recorded_boot.specs.{Follow.FaultsAfter, Leaving.store_of, OnePass.OnePass, Starts.module_start};
 ghost use Rattle.recorded_boot.specs.Passes.{IsNotLeftInPei, IsTurnOf, LeavesBoot, Passes, PassesTo, lacks_in};
 
 use crate::follow::{FollowFault, Installed, fault_of, lacking};
@@ -16,7 +16,7 @@ use crate::order::Start;
 use boot_core::store_of;
 use boot_core::whole::{Booted, boot_by_choice, choices_are_free, nobody};
 use boot_io::{Halt, Sink};
-use boot_laws::{Before, Choice, boards_are_sound, cursor_aims};
+use boot_laws::{Before, Choice, boards_are_sound, cursor_aims, order_is_of_modules};
 use boot_model::RunEnd;
 use boot_plan::Plan;
 use mod_catalog::{Catalog, catalog, catalogues_are_well_formed};
@@ -241,4 +241,12 @@ pub fn passes<S: Sink>(
     let passed = pass_over(alloc, plan, &catalog, images, sink);
     drop(catalog);
     passed
+}
+
+/// The order of EDK2's dispatchers leads to one boot: whoever boots a catalogue so comes to the same end, with the same text.
+pub fn one_pass()
+    ensures { OnePass }
+{
+    cursor_aims();
+    order_is_of_modules();
 }
