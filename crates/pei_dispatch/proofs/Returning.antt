@@ -1,7 +1,7 @@
 -- The first part that may start a second time.
-use Rattle.std.proofs.Common.{◌≡◌, ◌<◌, ◌≤◌, ◌+◌, ℕ, zero, suc, Bool, true, false, cond, ◌&&◌, not, List, [], ◌∷◌, Option, Some, None, find, get_or, take, length, arith, refl, sym, ap, ◌∙◌}
+use Rattle.std.proofs.Common.{◌≡◌, ◌<◌, ◌+◌, ℕ, zero, suc, Bool, true, false, cond, ◌&&◌, not, List, [], ◌∷◌, Some, None, find, get_or, take, length, arith, refl, sym, ap, ◌∙◌}
 use Rattle.std.specs.Option.{option_or}
-use Rattle.std.proofs.lemmas.{List.take_more, List.Folds.find-append}
+use Rattle.std.proofs.{lemmas.List.take_more, lemmas.List.Folds.find-append}
 use Rattle.pi_base.specs.declared.phase.Phase.TheVariants.{Pei}
 use Rattle.mod_catalog.specs.{declared.catalogue.Catalog.Catalog, Parts.has_number, Parts.part_at}
 use Rattle.boot_model.specs.{Eligible.is_eligible, Eligible.may_start, PeiChoice.pei_order, PeiMachine.PeiMachine}
