@@ -3,6 +3,7 @@ use Rattle.std.proofs.Common.{◌≡◌, ℕ, zero, suc, ◌+◌, ◌<◌, lengt
 use Rattle.std.proofs.lemmas.Bool.Decides.{eqb_tells}
 use Rattle.boot_model.specs.PeiChoice.{cursor_behind}
 use Rattle.mod_catalog.specs.Parts.{has_number}
+use Rattle.pei_dispatch.specs.{InTurn.walked, LastStart.newest}
 
 pub found_place : (xs : List ℕ) (n : ℕ) → has_number xs n ≡ true → (place : ℕ) × (slice_get xs place ≡ Some n)
 found_place [] n h = absurd (cc)
@@ -30,6 +31,21 @@ has_placed (x ∷ xs) n (suc place) h = or_later (x == n) (has_number xs n) (has
     or_later : (a b : Bool) → b ≡ true → (a || b) ≡ true
     or_later true b e = refl
     or_later false b e = e
+
+-- the place behind a module that is not in the order is that behind the last part
+pub behind_none : (xs : List ℕ) (n : ℕ) → ((place : ℕ) → slice_get xs place ≡ Some n → ⊥) → cursor_behind xs n ≡ length xs
+behind_none [] n none = refl
+behind_none (x ∷ xs) n none = elim (eqb_tells x n) [
+  | inl same ↦ absurd (none 0 (ap (λ k. Some k) same.1))
+  | inr other ↦
+      let rest = behind_none xs n (λ place e. none (suc place) e) in
+      ap (λ b. cond b 1 (1 + cursor_behind xs n)) other.0 ∙ omega (arith, rest)
+]
+
+-- the place from which EDK2's core looks on, by the part that started for the first time last
+pub walked_is : (order started : List ℕ) (number : ℕ) → newest started ≡ Some number → walked order started ≡ cursor_behind order number
+walked_is order [] number e = absurd (cc)
+walked_is order (last ∷ earlier) number e = let same : last ≡ number = cc in ap (cursor_behind order) same
 
 -- the cursor stands behind the one place of a part
 pub behind_place : (xs : List ℕ) (n place : ℕ) → slice_get xs place ≡ Some n → ((other : ℕ) → slice_get xs other ≡ Some n → other ≡ place) → cursor_behind xs n ≡ place + 1

@@ -6,8 +6,7 @@ use Rattle.mod_catalog.specs.{declared.catalogue.Catalog.Catalog, Parts.has_numb
 use Rattle.boot_model.specs.{EvaluationBound.each_once, EvaluationBound.pei_asked, Licence.AllDiffer, PeiChoice.pei_order}
 use Rattle.boot_model.specs.{PeiMachine.PeiMachine, declared.peim_state.PeimState.PeimState}
 use Rattle.wait_index.specs.Index.{IsIndex, order_in, waits_in, is_open_in, again_in, has_in, owed}
-use Rattle.pei_dispatch.specs.declared.queue.PeiQueue.{PeiQueue}
-use Rattle.pei_dispatch.specs.LastStart.{newest}
+use Rattle.pei_dispatch.specs.{declared.queue.PeiQueue.PeiQueue, LastStart.newest}
 use Rattle.pei_dispatch.specs.View.{View, awaits_again, first_view, view_of, parts_of}
 
 -- how many expressions have to be evaluated before the next PEIM is told

@@ -46,6 +46,13 @@ pub(crate) fn awaits_again(state: PeimState) -> bool
     }
 }
 
+// The module that started for the first time last, after a start of this one.
+fn newest_after(walked: Option<u32>, number: u32, is_first: bool) -> Option<u32>
+    ensures { result ≡ (if is_first then Some number else walked) }
+{
+    if is_first { Some(number) } else { walked }
+}
+
 impl PeiQueue {
     /// The queue where no volume is reported and nothing has started. It alone takes memory.
     pub fn build(alloc: Global, catalog: &Catalog) -> Result<PeiQueue, OutOfMemory>
@@ -102,9 +109,7 @@ impl PeiQueue {
         };
         self.index.started(place as usize);
         self.cursor = place as usize + 1;
-        if is_first {
-            self.walked = Some(number);
-        }
+        self.walked = newest_after(self.walked, number, is_first);
     }
 
     /// The cursor comes to stand before a part, so that this part is looked at first. Where the part is not in the order, the cursor stays.

@@ -42,8 +42,8 @@ pub returns-in_err-end-clause-row : goal.returns-in_err-end-clause-row
 returns-in_err-end-clause-row g c board stands =
     let p = err_from_is_err_and c.from_residual-in_err-end.result c.from_residual-in_err-end.ensures.1 in
     let T = g.S.Sink.text in
-    let Names = NamesPeims (g.C.Choice.peims c.args.choice.now) T g.S.Sink.faults c.args.sink.now in
-    let Lets = LetsPeims (g.C.Choice.lets_in_pei c.args.choice.now) in
+    let Names = NamesPeims (record { rules = g.C.Choice.rules c.args.choice.now; text = T; faults = g.S.Sink.faults }) c.args.catalog.now c.args.sink.now in
+    let Lets = LetsPeims (g.C.Choice.rules c.args.choice.now) c.args.catalog.now in
     boot_halts_watched _ _ c.from_residual-in_err-end.result p.0 c.in_err-end.field-0.0 p.1 p.2
     (boots_err Names Lets g.M.PeiStore.stands_for c.args.catalog.now c.args.fuel _ (record { pei = c.in_ok-pei.pei; later = c.run_with_ledger.new.pei; texts = record { old = T c.args.sink.now; new = T c.run_with_ledger.new.sink } }) _
     (c.in_err-end.ensures.row board c.args.fuel c.in_ok-pei.ensures.made (c.in_ok-pei.ensures.opening board stands)).by)
@@ -51,6 +51,6 @@ returns-in_err-end-clause-row g c board stands =
 pub returns-in_err-pei-clause-row : goal.returns-in_err-pei-clause-row
 returns-in_err-pei-clause-row g c board stands =
     let p = err_from_is_err_and c.from_residual.result c.from_residual.ensures.1 in
-    let Names = NamesPeims (g.C.Choice.peims c.args.choice.now) g.S.Sink.text g.S.Sink.faults c.args.sink.now in
-    let Lets = LetsPeims (g.C.Choice.lets_in_pei c.args.choice.now) in
+    let Names = NamesPeims (record { rules = g.C.Choice.rules c.args.choice.now; text = g.S.Sink.text; faults = g.S.Sink.faults }) c.args.catalog.now c.args.sink.now in
+    let Lets = LetsPeims (g.C.Choice.rules c.args.choice.now) c.args.catalog.now in
     boot_halts_watched _ _ c.from_residual.result p.0 H.Memory p.1 p.2 (none_ran Names Lets board c.args.catalog.now c.args.fuel (g.S.Sink.text c.args.sink.now))

@@ -19,8 +19,8 @@ pub returns-in_err-put_reports-clause-row : goal.returns-in_err-put_reports-clau
 returns-in_err-put_reports-clause-row g c board fuel made stands =
     let T = g.S.Sink.text in
     let catalog = c.args.catalog.now in
-    let L = NamesPeims (g.C.Choice.peims c.args.choice.now) T g.S.Sink.faults c.args.sink.now in
-    let lets = LetsPeims (g.C.Choice.lets_in_pei c.args.choice.now) in
+    let L = NamesPeims (record { rules = g.C.Choice.rules c.args.choice.now; text = T; faults = g.S.Sink.faults }) c.args.catalog.now c.args.sink.now in
+    let lets = LetsPeims (g.C.Choice.rules c.args.choice.now) c.args.catalog.now in
     let p = err_from_is_err_and c.from_residual.result c.from_residual.ensures.1 in
     halts_watched _ _ c.from_residual.result p.0 H.Sink p.1 p.2 (opening_halts L lets board catalog fuel c.reported-2.result.now (T c.args.sink.now) (T c.put_reports.new.sink) (c.reported-2.ensures (pei_opening board catalog) stands) c.in_err-put_reports.ensures.text)
 
@@ -35,15 +35,15 @@ turns-init g c = record {
       let F = g.S.Sink.faults in
       let catalog = c.args.catalog.now in
       let m = pei_opening board catalog in
-      let L = NamesPeims (g.C.Choice.peims c.args.choice.now) T F c.args.sink.now in
-      let lets = LetsPeims (g.C.Choice.lets_in_pei c.args.choice.now) in
+      let L = NamesPeims (record { rules = g.C.Choice.rules c.args.choice.now; text = T; faults = F }) c.args.catalog.now c.args.sink.now in
+      let lets = LetsPeims (g.C.Choice.rules c.args.choice.now) c.args.catalog.now in
       let volumes : c.reported.result.now ≡ m.reported = c.reported.ensures m stands in
       let now : c.reported.result.now ≡ c.args.pei.now.core.reported = volumes ∙ stands.has.fields.reported in
       let differ : AllDiffer c.reported.result.now = subst AllDiffer (sym now) made.known.differ in
       let alike : AreAlike (with_volumes c.reported.result.now first_view) (view_of m) = record { volumes = volumes; starts = λ n. refl; allows = λ n h. refl; installs = λ guid. refl } in
       let shows = c.alike_views_are_shown.ensures catalog c.report.new.self (with_volumes c.reported.result.now first_view) (view_of m) (c.report.ensures.shows first_view c.requires.queue.shows differ) alike in (
         opening_way c.pei_opens.ensures.opens L lets T F g.M.PeiStore.stands_for board catalog fuel c.args.pei.now c.args.sink.now c.report.new.self c.reported-2.result.now c.put_reports.new.sink c.args.steps.now (c.args.steps.now + owed_by c.report.new.self)
-            (opened g.M.PeiStore.stands_for board catalog c.args.pei.now c.args.queue.now c.report.new.self stands c.requires.queue shows c.report.ensures.cursor)
+            (opened g.M.PeiStore.stands_for board catalog c.args.pei.now c.args.queue.now c.report.new.self stands c.requires.queue shows c.report.ensures.cursor c.report.ensures.walked)
             (c.reported-2.ensures m stands) c.in_ok-put_reports.ensures.text c.in_ok-put_reports.ensures.cause
             (opening_few catalog fuel m c.reported.result.now c.args.steps.now c.args.queue.now c.report.new.self volumes c.requires.queue c.report.ensures.owed),
         c.begins.ensures.knows board fuel stands,
@@ -73,8 +73,8 @@ turns-preserved g c = record {
       let T = g.S.Sink.text in
       let F = g.S.Sink.faults in
       let catalog = c.args.catalog.now in
-      let L = NamesPeims (g.C.Choice.peims c.args.choice.now) T F c.args.sink.now in
-      let lets = LetsPeims (g.C.Choice.lets_in_pei c.args.choice.now) in
+      let L = NamesPeims (record { rules = g.C.Choice.rules c.args.choice.now; text = T; faults = F }) c.args.catalog.now c.args.sink.now in
+      let lets = LetsPeims (g.C.Choice.rules c.args.choice.now) c.args.catalog.now in
       let laws : Laws = record { aims = c.cursor_aims.ensures.aims; own = c.pei_starts_freely.ensures.own; nearer = c.pei_opens.ensures.nearer } in
       let both = c.turns.invariant.way board fuel made stands in
       let way = both.0 in
@@ -92,8 +92,8 @@ pub ends-requires-clause-state : goal.ends-requires-clause-state
 ends-requires-clause-state g c =
     let T = g.S.Sink.text in
     let catalog = c.args.catalog.now in
-    let L = NamesPeims (g.C.Choice.peims c.args.choice.now) T g.S.Sink.faults c.args.sink.now in
-    let lets = LetsPeims (g.C.Choice.lets_in_pei c.args.choice.now) in
+    let L = NamesPeims (record { rules = g.C.Choice.rules c.args.choice.now; text = T; faults = g.S.Sink.faults }) c.args.catalog.now c.args.sink.now in
+    let lets = LetsPeims (g.C.Choice.rules c.args.choice.now) c.args.catalog.now in
     let fuel = c.requires.made.0 in
     let way = (c.turns.invariant.way c.requires.opening.0 fuel c.requires.made.1 c.requires.opening.1).0 in
     let row = rw c.in-Reached.is at (c.in_ok-step.ensures.row way.m fuel c.args.sink.now (c.turns.invariant.made fuel c.requires.made.1) way.now way.way way.has) in
@@ -105,8 +105,8 @@ returns-in-Reached-clause-row g c board fuel made stands =
     let T = g.S.Sink.text in
     let F = g.S.Sink.faults in
     let catalog = c.args.catalog.now in
-    let L = NamesPeims (g.C.Choice.peims c.args.choice.now) T F c.args.sink.now in
-    let lets = LetsPeims (g.C.Choice.lets_in_pei c.args.choice.now) in
+    let L = NamesPeims (record { rules = g.C.Choice.rules c.args.choice.now; text = T; faults = F }) c.args.catalog.now c.args.sink.now in
+    let lets = LetsPeims (g.C.Choice.rules c.args.choice.now) c.args.catalog.now in
     let both = c.turns.invariant.way board fuel made stands in
     let way = both.0 in
     let row = rw c.in-Reached.is at (c.in_ok-step.ensures.row way.m fuel c.args.sink.now (c.turns.invariant.made fuel made) way.now way.way way.has) in
@@ -119,8 +119,8 @@ returns-in_err-step-clause-row g c board fuel made stands =
     let T = g.S.Sink.text in
     let F = g.S.Sink.faults in
     let catalog = c.args.catalog.now in
-    let L = NamesPeims (g.C.Choice.peims c.args.choice.now) T F c.args.sink.now in
-    let lets = LetsPeims (g.C.Choice.lets_in_pei c.args.choice.now) in
+    let L = NamesPeims (record { rules = g.C.Choice.rules c.args.choice.now; text = T; faults = F }) c.args.catalog.now c.args.sink.now in
+    let lets = LetsPeims (g.C.Choice.rules c.args.choice.now) c.args.catalog.now in
     let both = c.turns.invariant.way board fuel made stands in
     let way = both.0 in
     let p = err_from_is_err_and c.from_residual-in_err-step.result c.from_residual-in_err-step.ensures.1 in
@@ -129,13 +129,13 @@ returns-in_err-step-clause-row g c board fuel made stands =
 
 pub returns-in_err-put_reports-clause-few_steps : goal.returns-in_err-put_reports-clause-few_steps
 returns-in_err-put_reports-clause-few_steps g c board fuel made stands =
-    none_evaluated (NamesPeims (g.C.Choice.peims c.args.choice.now) g.S.Sink.text g.S.Sink.faults c.args.sink.now) (LetsPeims (g.C.Choice.lets_in_pei c.args.choice.now)) board c.args.catalog.now fuel c.args.steps.now
+    none_evaluated (NamesPeims (record { rules = g.C.Choice.rules c.args.choice.now; text = g.S.Sink.text; faults = g.S.Sink.faults }) c.args.catalog.now c.args.sink.now) (LetsPeims (g.C.Choice.rules c.args.choice.now) c.args.catalog.now) board c.args.catalog.now fuel c.args.steps.now
 
 pub returns-in-Reached-clause-few_steps : goal.returns-in-Reached-clause-few_steps
 returns-in-Reached-clause-few_steps g c board fuel made stands =
     let catalog = c.args.catalog.now in
-    let L = NamesPeims (g.C.Choice.peims c.args.choice.now) g.S.Sink.text g.S.Sink.faults c.args.sink.now in
-    let lets = LetsPeims (g.C.Choice.lets_in_pei c.args.choice.now) in
+    let L = NamesPeims (record { rules = g.C.Choice.rules c.args.choice.now; text = g.S.Sink.text; faults = g.S.Sink.faults }) c.args.catalog.now c.args.sink.now in
+    let lets = LetsPeims (g.C.Choice.rules c.args.choice.now) c.args.catalog.now in
     let both = c.turns.invariant.way board fuel made stands in
     let way = both.0 in
     few_at_end L lets catalog fuel (pei_opening board catalog) c.args.steps.now way.m way.comes (c.turns.steps + owed_by c.turns.queue) c.turn.new.steps (owed_by c.turn.new.queue) way.now.machine.has.fields.running way.counted
@@ -144,8 +144,8 @@ returns-in-Reached-clause-few_steps g c board fuel made stands =
 pub returns-in_err-step-clause-few_steps : goal.returns-in_err-step-clause-few_steps
 returns-in_err-step-clause-few_steps g c board fuel made stands =
     let catalog = c.args.catalog.now in
-    let L = NamesPeims (g.C.Choice.peims c.args.choice.now) g.S.Sink.text g.S.Sink.faults c.args.sink.now in
-    let lets = LetsPeims (g.C.Choice.lets_in_pei c.args.choice.now) in
+    let L = NamesPeims (record { rules = g.C.Choice.rules c.args.choice.now; text = g.S.Sink.text; faults = g.S.Sink.faults }) c.args.catalog.now c.args.sink.now in
+    let lets = LetsPeims (g.C.Choice.rules c.args.choice.now) c.args.catalog.now in
     let both = c.turns.invariant.way board fuel made stands in
     let way = both.0 in
     few_at_end L lets catalog fuel (pei_opening board catalog) c.args.steps.now way.m way.comes (c.turns.steps + owed_by c.turns.queue) c.turn.new.steps (owed_by c.turn.new.queue) way.now.machine.has.fields.running way.counted
@@ -158,8 +158,8 @@ unreachable-requires g c =
     let catalog = c.args.catalog.now in
     let board = c.requires.opening.0 in
     let fuel = c.requires.made.0 in
-    let L = NamesPeims (g.C.Choice.peims c.args.choice.now) T F c.args.sink.now in
-    let lets = LetsPeims (g.C.Choice.lets_in_pei c.args.choice.now) in
+    let L = NamesPeims (record { rules = g.C.Choice.rules c.args.choice.now; text = T; faults = F }) c.args.catalog.now c.args.sink.now in
+    let lets = LetsPeims (g.C.Choice.rules c.args.choice.now) c.args.catalog.now in
     let all : c.bound-end.result ≡ pei_bound catalog fuel = c.bound-end.ensures ∙ ap (pei_bound catalog) (c.fuel.ensures catalog fuel c.requires.made.1) in
     let done = c.turns-test.false in
     turn_to_come c.pei_opens.ensures.ended L lets T F g.M.PeiStore.stands_for catalog fuel (pei_opening board catalog) c.args.pei.now c.args.sink.now c.turns.counter c.turns.pei c.turns.queue c.turns.sink c.args.steps.now (c.turns.steps + owed_by c.turns.queue)

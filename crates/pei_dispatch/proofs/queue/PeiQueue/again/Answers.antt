@@ -10,7 +10,7 @@ again-requires c =
 pub returns-in-Some-clause-shows : goal.returns-in-Some-clause-shows
 returns-in-Some-clause-shows c catalog view shows started =
     let place = c.in-Some.place in
-    let new : PeiQueue = record { index = c.again.new.self; cursor = c.args.self.now.cursor } in
+    let new : PeiQueue = record { index = c.again.new.self; cursor = c.args.self.now.cursor; walked = c.args.self.now.walked } in
     shows_again catalog c.args.self.now new view c.args.number place shows started ((c.place_of.ensures.at place).0 c.in-Some.is) (c.again.ensures.index catalog shows.of_catalog) c.again.ensures.changes
 
 pub returns-in_default-clause-shows : goal.returns-in_default-clause-shows

@@ -21,5 +21,6 @@ parts-preserved c =
           (λ awaits. started number (ap awaits_again (sym c.state_of.ensures) ∙ awaits)))
           (λ n h. one_more order states i number n c.state_of.result less (ap (λ (xs : List ℕ). get_or xs i 0) same) c.state_of.ensures);
       cursor = c.again_by.ensures.cursor ∙ c.parts.invariant.cursor;
+      walked = c.again_by.ensures.walked ∙ c.parts.invariant.walked;
       owed = c.again_by.ensures.owed ∙ c.parts.invariant.owed;
     }

@@ -11,5 +11,6 @@ invariant-parts l = record {
   shows : (catalog : Catalog) (view : View) → Shows catalog l.fn.self view → HaveStarted (awaits_at l.states) view
       → Shows catalog l.self (with_again (λ n. has_number (take l.place (parts_in l.fn.self)) n && awaits_at l.states n) view);
   cursor : l.self.cursor ≡ l.fn.self.cursor;
+  walked : l.self.walked ≡ l.fn.self.walked;
   owed : owed_by l.self ≡ owed_by l.fn.self;
 }

@@ -9,6 +9,7 @@ pub volumes-init : goal.volumes-init
 volumes-init c = record {
   shows = λ view shows are_new. shows_alike c.args.catalog.now c.args.self.now view (with_volumes [] view) shows (sym (append-nil view.reported)) (λ n. refl) (λ n h. refl) (λ guid. refl);
   cursor = refl;
+  walked = refl;
   owed = omega arith;
 }
 
@@ -33,6 +34,7 @@ volumes-preserved c =
           (volumes_more catalog c.report_one.new.self view (take i volumes) next
           (c.report_one.ensures.shows front (c.volumes.invariant.shows view shows are_new) (next_differs view.reported volumes i c.volumes-test.true are_new)));
       cursor = c.report_one.ensures.cursor ∙ c.volumes.invariant.cursor;
+      walked = c.report_one.ensures.walked ∙ c.volumes.invariant.walked;
       owed =
           let order : pei_order catalog (take (i + 1) volumes) ≡ pei_order catalog (take i volumes) ++ volume_order catalog next = ap (pei_order catalog) more ∙ order_more (volume_order catalog) (take i volumes) next in
           let long : length (pei_order catalog (take (i + 1) volumes)) ≡ length (pei_order catalog (take i volumes)) + length (volume_order catalog next) =

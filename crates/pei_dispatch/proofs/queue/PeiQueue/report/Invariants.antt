@@ -9,5 +9,6 @@ abbrev pub invariant-volumes : goal.invariant-volumes
 invariant-volumes l = record {
   shows : (view : View) → Shows l.catalog l.fn.self view → AreNew l.volumes view → Shows l.catalog l.self (with_volumes (take l.volume-index l.volumes) view);
   cursor : l.self.cursor ≡ l.fn.self.cursor;
+  walked : l.self.walked ≡ l.fn.self.walked;
   owed : owed_by l.self ≤ owed_by l.fn.self + length (pei_order l.catalog (take l.volume-index l.volumes));
 }

@@ -51,7 +51,7 @@ returns-clause-shows c view shows are_new =
     let others = unranked_parts Pei catalog c.args.volume in
     let is : c.as_slice.result.now ≡ volume_order catalog c.args.volume =
     c.as_slice.ensures ∙ c.push_unranked.ensures ∙ ap (λ xs. xs ++ others) c.push_ranked.ensures ∙ ap (λ xs. (xs ++ ranked) ++ others) c.new-parts.ensures in
-    let new : PeiQueue = record { index = c.discover.new.self; cursor = c.args.self.now.cursor } in
+    let new : PeiQueue = record { index = c.discover.new.self; cursor = c.args.self.now.cursor; walked = c.args.self.now.walked } in
     shows_reported catalog c.args.self.now new view c.args.volume c.as_slice.result.now c.order_is_of_modules.ensures shows are_new is
     c.discover.ensures.index c.discover.ensures.come c.discover.ensures.phase c.discover.ensures.installed
 

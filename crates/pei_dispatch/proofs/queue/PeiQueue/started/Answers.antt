@@ -28,5 +28,5 @@ returns-clause-cursor c =
 pub returns-clause-shows : goal.returns-clause-shows
 returns-clause-shows c catalog view shows among =
     let place = c.in-Some.place in
-    let new : PeiQueue = record { index = c.started.new.self; cursor = place + 1 } in
+    let new : PeiQueue = record { index = c.started.new.self; cursor = place + 1; walked = c.newest_after-self.result } in
     shows_started catalog c.args.self.now new view c.args.number place shows among ((c.place_of.ensures.at place).0 c.in-Some.is) (c.started.ensures.index catalog shows.of_catalog) c.started.ensures.changes
