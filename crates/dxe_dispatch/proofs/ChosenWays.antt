@@ -49,7 +49,7 @@ abbrev pub FewBy : Catalog → ℕ → DxeMachine → List DxeMachine → ℕ �
 FewBy catalog fuel opening earlier before now = now ≤ before + (length (discovered_order catalog (came catalog fuel opening earlier)) + changes_of catalog fuel earlier)
 
 -- a machine of the run that has so many turns behind it, with the lines up to it
-pub record IsComing {M S : Type 0} (Names : DxeMachine → Option ℕ → Type 0) (Lets : DxeMachine → ℕ → Bool) (text : S → Option (List ℕ)) (faults : S → ℕ) (stands : M → StoreState → Type 0) (store : M) (catalog : Catalog) (fuel : ℕ)
+pub record IsComing {M S : Type 0} (Names : List DxeMachine → DxeMachine → Option ℕ → Type 0) (Lets : List DxeMachine → DxeMachine → ℕ → Bool) (text : S → Option (List ℕ)) (faults : S → ℕ) (stands : M → StoreState → Type 0) (store : M) (catalog : Catalog) (fuel : ℕ)
     (opening : DxeMachine) (first : S) (turns : ℕ) (core : DxeCore) (kept : Queue) (sink : S) (before evaluated : ℕ) : Type 0 where
   pub earlier : List DxeMachine
   pub run : IsRunBy Names Lets catalog fuel opening earlier
@@ -68,16 +68,16 @@ few_on catalog fuel opening earlier target before evaluated now same few within 
     sums before evaluated now here there by_step old target same few within = omega (arith, same, few, within)
 
 -- one turn more
-unfoldable pub coming_on : {M S : Type 0} (laws : StepLaws) (Names : DxeMachine → Option ℕ → Type 0) (Lets : DxeMachine → ℕ → Bool) (text : S → Option (List ℕ)) (faults : S → ℕ) (stands : M → StoreState → Type 0) (store : M) (catalog : Catalog) (fuel : ℕ)
+unfoldable pub coming_on : {M S : Type 0} (laws : StepLaws) (Names : List DxeMachine → DxeMachine → Option ℕ → Type 0) (Lets : List DxeMachine → DxeMachine → ℕ → Bool) (text : S → Option (List ℕ)) (faults : S → ℕ) (stands : M → StoreState → Type 0) (store : M) (catalog : Catalog) (fuel : ℕ)
     (opening : DxeMachine) (first : S) (turns : ℕ) (core later : DxeCore) (kept grown : Queue) (sink shown : S) (before evaluated now : ℕ) (step : Step) → IsWellFormed catalog
     → (way : IsComing Names Lets text faults stands store catalog fuel opening first turns core kept sink before evaluated)
-    → TurnsBy Names Lets (IsNow stands store catalog later grown) (IsLeft stands store catalog later grown) catalog fuel (came catalog fuel opening way.earlier) (record { old = text sink; new = text shown }) evaluated now (Ok (T.Took step)) → faults shown ≡ faults sink
+    → TurnsBy (Names way.earlier) (Lets way.earlier) (IsNow stands store catalog later grown) (IsLeft stands store catalog later grown) catalog fuel (came catalog fuel opening way.earlier) (record { old = text sink; new = text shown }) evaluated now (Ok (T.Took step)) → faults shown ≡ faults sink
     → IsComing Names Lets text faults stands store catalog fuel opening first (turns + 1) later grown shown before now
 coming_on laws Names Lets text faults stands store catalog fuel opening first turns core later kept grown sink shown before evaluated now step well way by same =
     let m = came catalog fuel opening way.earlier in
     let next = dxe_step catalog fuel by.target in
     let going = way.on.now.machine.core.running in
-    let is = target_at Names catalog m by.target laws.first going by.aimed in
+    let is = target_at (Names way.earlier) catalog m by.target laws.first going by.aimed in
     let near = nearer_by laws catalog fuel m by.target Any well going way.on.way is in
     let less = near.less in
     let left = way.left in
@@ -95,16 +95,16 @@ coming_on laws Names Lets text faults stands store catalog fuel opening first tu
     }
 
 -- the turn that ends it
-unfoldable pub coming_over : {M S : Type 0} (first_law : FirstEligibleMayStart) (Names : DxeMachine → Option ℕ → Type 0) (Lets : DxeMachine → ℕ → Bool) (text : S → Option (List ℕ)) (faults : S → ℕ) (stands : M → StoreState → Type 0) (store : M) (catalog : Catalog) (fuel : ℕ)
+unfoldable pub coming_over : {M S : Type 0} (first_law : FirstEligibleMayStart) (Names : List DxeMachine → DxeMachine → Option ℕ → Type 0) (Lets : List DxeMachine → DxeMachine → ℕ → Bool) (text : S → Option (List ℕ)) (faults : S → ℕ) (stands : M → StoreState → Type 0) (store : M) (catalog : Catalog) (fuel : ℕ)
     (opening : DxeMachine) (first : S) (turns : ℕ) (core later : DxeCore) (kept grown : Queue) (sink shown : S) (before evaluated now : ℕ) (how : DxeEnd)
     → (way : IsComing Names Lets text faults stands store catalog fuel opening first turns core kept sink before evaluated)
-    → TurnsBy Names Lets (IsNow stands store catalog later grown) (IsLeft stands store catalog later grown) catalog fuel (came catalog fuel opening way.earlier) (record { old = text sink; new = text shown }) evaluated now (Ok (T.Reached (R.End how)))
+    → TurnsBy (Names way.earlier) (Lets way.earlier) (IsNow stands store catalog later grown) (IsLeft stands store catalog later grown) catalog fuel (came catalog fuel opening way.earlier) (record { old = text sink; new = text shown }) evaluated now (Ok (T.Reached (R.End how)))
     → EndsBy Names Lets stands store catalog fuel opening later grown how (text first) (text shown)
 coming_over first_law Names Lets text faults stands store catalog fuel opening first turns core later kept grown sink shown before evaluated now how way over =
     let m = came catalog fuel opening way.earlier in
     let end = dxe_step catalog fuel over.target in
     let running = way.on.now.machine.core.running in
-    let same = same_lines catalog m over.target Any (target_at Names catalog m over.target first_law running over.aimed) in
+    let same = same_lines catalog m over.target Any (target_at (Names way.earlier) catalog m over.target first_law running over.aimed) in
     let printed = over.turned.printed in
     record {
       earlier = over.target ∷ way.earlier;
@@ -117,15 +117,15 @@ coming_over first_law Names Lets text faults stands store catalog fuel opening f
     }
 
 -- the turn before which it is left, since a driver is not let
-unfoldable pub coming_bars : {M S : Type 0} (first_law : FirstEligibleMayStart) (Names : DxeMachine → Option ℕ → Type 0) (Lets : DxeMachine → ℕ → Bool) (text : S → Option (List ℕ)) (faults : S → ℕ) (stands : M → StoreState → Type 0) (store : M) (catalog : Catalog) (fuel : ℕ)
+unfoldable pub coming_bars : {M S : Type 0} (first_law : FirstEligibleMayStart) (Names : List DxeMachine → DxeMachine → Option ℕ → Type 0) (Lets : List DxeMachine → DxeMachine → ℕ → Bool) (text : S → Option (List ℕ)) (faults : S → ℕ) (stands : M → StoreState → Type 0) (store : M) (catalog : Catalog) (fuel : ℕ)
     (opening : DxeMachine) (first : S) (turns : ℕ) (core later : DxeCore) (kept grown : Queue) (sink shown : S) (before evaluated now : ℕ) (number : ℕ)
     → (way : IsComing Names Lets text faults stands store catalog fuel opening first turns core kept sink before evaluated)
-    → TurnsBy Names Lets (IsNow stands store catalog later grown) (IsLeft stands store catalog later grown) catalog fuel (came catalog fuel opening way.earlier) (record { old = text sink; new = text shown }) evaluated now (Ok (T.Reached (R.Barred number)))
+    → TurnsBy (Names way.earlier) (Lets way.earlier) (IsNow stands store catalog later grown) (IsLeft stands store catalog later grown) catalog fuel (came catalog fuel opening way.earlier) (record { old = text sink; new = text shown }) evaluated now (Ok (T.Reached (R.Barred number)))
     → BarsBy Names Lets stands store catalog fuel opening later grown number (text first) (text shown)
 coming_bars first_law Names Lets text faults stands store catalog fuel opening first turns core later kept grown sink shown before evaluated now number way held =
     let m = came catalog fuel opening way.earlier in
     let running = way.on.now.machine.core.running in
-    let is = target_at Names catalog m held.target first_law running held.aimed in
+    let is = target_at (Names way.earlier) catalog m held.target first_law running held.aimed in
     record {
       earlier = way.earlier;
       run = way.run;
@@ -139,10 +139,10 @@ coming_bars first_law Names Lets text faults stands store catalog fuel opening f
     }
 
 -- either of the two
-unfoldable pub coming_to : {M S : Type 0} (first_law : FirstEligibleMayStart) (Names : DxeMachine → Option ℕ → Type 0) (Lets : DxeMachine → ℕ → Bool) (text : S → Option (List ℕ)) (faults : S → ℕ) (stands : M → StoreState → Type 0) (store : M) (catalog : Catalog) (fuel : ℕ)
+unfoldable pub coming_to : {M S : Type 0} (first_law : FirstEligibleMayStart) (Names : List DxeMachine → DxeMachine → Option ℕ → Type 0) (Lets : List DxeMachine → DxeMachine → ℕ → Bool) (text : S → Option (List ℕ)) (faults : S → ℕ) (stands : M → StoreState → Type 0) (store : M) (catalog : Catalog) (fuel : ℕ)
     (opening : DxeMachine) (first : S) (turns : ℕ) (core later : DxeCore) (kept grown : Queue) (sink shown : S) (before evaluated now : ℕ) (reached : Reached DxeEnd)
     → (way : IsComing Names Lets text faults stands store catalog fuel opening first turns core kept sink before evaluated)
-    → TurnsBy Names Lets (IsNow stands store catalog later grown) (IsLeft stands store catalog later grown) catalog fuel (came catalog fuel opening way.earlier) (record { old = text sink; new = text shown }) evaluated now (Ok (T.Reached reached))
+    → TurnsBy (Names way.earlier) (Lets way.earlier) (IsNow stands store catalog later grown) (IsLeft stands store catalog later grown) catalog fuel (came catalog fuel opening way.earlier) (record { old = text sink; new = text shown }) evaluated now (Ok (T.Reached reached))
     → RunsBy Names Lets stands store catalog fuel opening later grown (text first) (text shown) (Ok reached)
 coming_to first_law Names Lets text faults stands store catalog fuel opening first turns core later kept grown sink shown before evaluated now (R.End how) way over =
     coming_over first_law Names Lets text faults stands store catalog fuel opening first turns core later kept grown sink shown before evaluated now how way over
@@ -150,14 +150,14 @@ coming_to first_law Names Lets text faults stands store catalog fuel opening fir
     coming_bars first_law Names Lets text faults stands store catalog fuel opening first turns core later kept grown sink shown before evaluated now number way held
 
 -- behind it no more actions were taken than the fuel lets, so that no more interfaces are left
-pub few_over : {M S : Type 0} (laws : StepLaws) (Names : DxeMachine → Option ℕ → Type 0) (Lets : DxeMachine → ℕ → Bool) (text : S → Option (List ℕ)) (faults : S → ℕ) (stands : M → StoreState → Type 0) (store : M) (catalog : Catalog) (fuel : ℕ)
+pub few_over : {M S : Type 0} (laws : StepLaws) (Names : List DxeMachine → DxeMachine → Option ℕ → Type 0) (Lets : List DxeMachine → DxeMachine → ℕ → Bool) (text : S → Option (List ℕ)) (faults : S → ℕ) (stands : M → StoreState → Type 0) (store : M) (catalog : Catalog) (fuel : ℕ)
     (opening : DxeMachine) (first : S) (turns : ℕ) (opened core later : DxeCore) (kept grown : Queue) (sink shown : S) (before evaluated now most : ℕ) (reached : Reached DxeEnd) → fuel < most → opened.fuel.taken < most
     → IsCoreOf catalog opened opening → IsFor catalog fuel later → (way : IsComing Names Lets text faults stands store catalog fuel opening first turns core kept sink before evaluated)
-    → TurnsBy Names Lets (IsNow stands store catalog later grown) (IsLeft stands store catalog later grown) catalog fuel (came catalog fuel opening way.earlier) (record { old = text sink; new = text shown }) evaluated now (Ok (T.Reached reached))
+    → TurnsBy (Names way.earlier) (Lets way.earlier) (IsNow stands store catalog later grown) (IsLeft stands store catalog later grown) catalog fuel (came catalog fuel opening way.earlier) (record { old = text sink; new = text shown }) evaluated now (Ok (T.Reached reached))
     → length later.services.handles.interfaces < most
 few_over laws Names Lets text faults stands store catalog fuel opening first turns opened core later kept grown sink shown before evaluated now most (R.End how) bound few opens made way over =
     let m = came catalog fuel opening way.earlier in
-    let is = target_at Names catalog m over.target laws.first way.on.now.machine.core.running over.aimed in
+    let is = target_at (Names way.earlier) catalog m over.target laws.first way.on.now.machine.core.running over.aimed in
     let actions = opens.actions in
     let begun : opening.actions < most = omega (arith, few, actions) in
     let last : DxeMachine = dxe_step catalog fuel over.target in
@@ -167,7 +167,7 @@ few_over laws Names Lets text faults stands store catalog fuel opening first tur
     omega (arith, taken, same, counted)
 few_over laws Names Lets text faults stands store catalog fuel opening first turns opened core later kept grown sink shown before evaluated now most (R.Barred number) bound few opens made way held =
     let m = came catalog fuel opening way.earlier in
-    let is = target_at Names catalog m held.target laws.first way.on.now.machine.core.running held.aimed in
+    let is = target_at (Names way.earlier) catalog m held.target laws.first way.on.now.machine.core.running held.aimed in
     let actions = opens.actions in
     let begun : opening.actions < most = omega (arith, few, actions) in
     let taken : m.actions < most = way.few most bound begun in
@@ -176,30 +176,30 @@ few_over laws Names Lets text faults stands store catalog fuel opening first tur
     omega (arith, taken, same, counted)
 
 -- nor did more drivers leave the queue than there are modules, and one that was not let
-pub few_left : {M S : Type 0} (laws : StepLaws) (Names : DxeMachine → Option ℕ → Type 0) (Lets : DxeMachine → ℕ → Bool) (text : S → Option (List ℕ)) (faults : S → ℕ) (stands : M → StoreState → Type 0) (store : M) (catalog : Catalog) (fuel : ℕ)
+pub few_left : {M S : Type 0} (laws : StepLaws) (Names : List DxeMachine → DxeMachine → Option ℕ → Type 0) (Lets : List DxeMachine → DxeMachine → ℕ → Bool) (text : S → Option (List ℕ)) (faults : S → ℕ) (stands : M → StoreState → Type 0) (store : M) (catalog : Catalog) (fuel : ℕ)
     (opening : DxeMachine) (first : S) (turns : ℕ) (core later : DxeCore) (kept grown : Queue) (sink shown : S) (before evaluated now : ℕ) (reached : Reached DxeEnd) → IsWellFormed catalog
     → (way : IsComing Names Lets text faults stands store catalog fuel opening first turns core kept sink before evaluated)
-    → TurnsBy Names Lets (IsNow stands store catalog later grown) (IsLeft stands store catalog later grown) catalog fuel (came catalog fuel opening way.earlier) (record { old = text sink; new = text shown }) evaluated now (Ok (T.Reached reached))
+    → TurnsBy (Names way.earlier) (Lets way.earlier) (IsNow stands store catalog later grown) (IsLeft stands store catalog later grown) catalog fuel (came catalog fuel opening way.earlier) (record { old = text sink; new = text shown }) evaluated now (Ok (T.Reached reached))
     → grown.left ≤ length catalog.modules + 1
 few_left laws Names Lets text faults stands store catalog fuel opening first turns core later kept grown sink shown before evaluated now (R.End how) well way over =
     let m = came catalog fuel opening way.earlier in
     let going = way.on.now.machine.core.running in
-    let is = target_at Names catalog m over.target laws.first going over.aimed in
+    let is = target_at (Names way.earlier) catalog m over.target laws.first going over.aimed in
     let few = few_started catalog (dxe_step catalog fuel over.target) (nearer_by laws catalog fuel m over.target Any well going way.on.way is).way in
     let left = over.turned.now.queue.left in
     omega (arith, few, left)
 few_left laws Names Lets text faults stands store catalog fuel opening first turns core later kept grown sink shown before evaluated now (R.Barred number) well way held =
     let m = came catalog fuel opening way.earlier in
-    let is = target_at Names catalog m held.target laws.first way.on.now.machine.core.running held.aimed in
+    let is = target_at (Names way.earlier) catalog m held.target laws.first way.on.now.machine.core.running held.aimed in
     let few = few_started catalog m way.on.way in
     let left = (left_before stands store catalog later grown m held.target Any is held.turned.left).left in
     omega (arith, few, left)
 
 -- the turn that is given up
-pub coming_halts : {M S : Type 0} (first_law : FirstEligibleMayStart) (Names : DxeMachine → Option ℕ → Type 0) (Lets : DxeMachine → ℕ → Bool) (text : S → Option (List ℕ)) (faults : S → ℕ) (stands : M → StoreState → Type 0) (store : M) (catalog : Catalog) (fuel : ℕ)
+pub coming_halts : {M S : Type 0} (first_law : FirstEligibleMayStart) (Names : List DxeMachine → DxeMachine → Option ℕ → Type 0) (Lets : List DxeMachine → DxeMachine → ℕ → Bool) (text : S → Option (List ℕ)) (faults : S → ℕ) (stands : M → StoreState → Type 0) (store : M) (catalog : Catalog) (fuel : ℕ)
     (opening : DxeMachine) (first : S) (turns : ℕ) (core later : DxeCore) (kept grown : Queue) (sink shown : S) (before evaluated now : ℕ) (halt : Halt)
     → (way : IsComing Names Lets text faults stands store catalog fuel opening first turns core kept sink before evaluated)
-    → TurnsBy Names Lets (IsNow stands store catalog later grown) (IsLeft stands store catalog later grown) catalog fuel (came catalog fuel opening way.earlier) (record { old = text sink; new = text shown }) evaluated now (Err halt)
+    → TurnsBy (Names way.earlier) (Lets way.earlier) (IsNow stands store catalog later grown) (IsLeft stands store catalog later grown) catalog fuel (came catalog fuel opening way.earlier) (record { old = text sink; new = text shown }) evaluated now (Err halt)
     → StopsShort Names Lets catalog fuel opening (text first) (text shown)
 coming_halts first_law Names Lets text faults stands store catalog fuel opening first turns core later kept grown sink shown before evaluated now halt way up = by up.turned
   where
@@ -209,7 +209,7 @@ coming_halts first_law Names Lets text faults stands store catalog fuel opening 
     step : DxeMachine
     step = dxe_step catalog fuel up.target
 
-    by : IsGivenUp (Lets up.target) catalog up.target step (record { old = text sink; new = text shown }) → StopsShort Names Lets catalog fuel opening (text first) (text shown)
+    by : IsGivenUp (Lets way.earlier up.target) catalog up.target step (record { old = text sink; new = text shown }) → StopsShort Names Lets catalog fuel opening (text first) (text shown)
     by (inl none) = record {
       earlier = way.earlier;
       run = way.run;
@@ -217,7 +217,7 @@ coming_halts first_law Names Lets text faults stands store catalog fuel opening 
     }
     by (inr (passes, part)) =
         let running = way.on.now.machine.core.running in
-        let same = same_lines catalog m up.target Any (target_at Names catalog m up.target first_law running up.aimed) in
+        let same = same_lines catalog m up.target Any (target_at (Names way.earlier) catalog m up.target first_law running up.aimed) in
         record {
           earlier = up.target ∷ way.earlier;
           run = (up.aimed, passes, running, way.run);
@@ -225,7 +225,7 @@ coming_halts first_law Names Lets text faults stands store catalog fuel opening 
         }
 
 -- the bound lets what was evaluated
-pub coming_few : {M S : Type 0} (Names : DxeMachine → Option ℕ → Type 0) (Lets : DxeMachine → ℕ → Bool) (text : S → Option (List ℕ)) (faults : S → ℕ) (stands : M → StoreState → Type 0) (store : M) (catalog : Catalog) (fuel : ℕ)
+pub coming_few : {M S : Type 0} (Names : List DxeMachine → DxeMachine → Option ℕ → Type 0) (Lets : List DxeMachine → DxeMachine → ℕ → Bool) (text : S → Option (List ℕ)) (faults : S → ℕ) (stands : M → StoreState → Type 0) (store : M) (catalog : Catalog) (fuel : ℕ)
     (opening : DxeMachine) (first : S) (turns : ℕ) (core : DxeCore) (kept : Queue) (sink : S) (before evaluated now : ℕ) → IsComing Names Lets text faults stands store catalog fuel opening first turns core kept sink before evaluated → now ≤ evaluated
     → EvaluatesFewBy Names Lets catalog fuel opening before now
 coming_few Names Lets text faults stands store catalog fuel opening first turns core kept sink before evaluated now way few =
@@ -233,7 +233,7 @@ coming_few Names Lets text faults stands store catalog fuel opening first turns 
     record { earlier = way.earlier; run = way.run; few = omega (arith, counted, few) }
 
 -- with no turn left the run has ended
-pub turn_to_come : {M S : Type 0} (ended : DxeHasEnded) (Names : DxeMachine → Option ℕ → Type 0) (Lets : DxeMachine → ℕ → Bool) (text : S → Option (List ℕ)) (faults : S → ℕ) (stands : M → StoreState → Type 0) (store : M) (catalog : Catalog) (fuel : ℕ)
+pub turn_to_come : {M S : Type 0} (ended : DxeHasEnded) (Names : List DxeMachine → DxeMachine → Option ℕ → Type 0) (Lets : List DxeMachine → DxeMachine → ℕ → Bool) (text : S → Option (List ℕ)) (faults : S → ℕ) (stands : M → StoreState → Type 0) (store : M) (catalog : Catalog) (fuel : ℕ)
     (opening : DxeMachine) (first : S) (turns : ℕ) (core : DxeCore) (kept : Queue) (sink : S) (before evaluated : ℕ) → IsComing Names Lets text faults stands store catalog fuel opening first turns core kept sink before evaluated → dxe_bound catalog fuel ≤ turns → ⊥
 turn_to_come ended Names Lets text faults stands store catalog fuel opening first turns core kept sink before evaluated way all =
     let m = came catalog fuel opening way.earlier in
@@ -259,7 +259,7 @@ opening_queue catalog kept queue volumes s actions new same discovers =
     discovers before opening (new.of before (record { discovered = refl; requested = refl; scheduled = refl; started = refl; handles = refl })) has
 
 -- the opening, with its lines and its queue
-unfoldable pub opening_comes : {M S : Type 0} (opens : DxeOpensUnderWay) (waits : UnrequestedDriversWait) (Names : DxeMachine → Option ℕ → Type 0) (Lets : DxeMachine → ℕ → Bool) (text : S → Option (List ℕ)) (faults : S → ℕ) (stands : M → StoreState → Type 0) (store : M) (catalog : Catalog) (fuel : ℕ)
+unfoldable pub opening_comes : {M S : Type 0} (opens : DxeOpensUnderWay) (waits : UnrequestedDriversWait) (Names : List DxeMachine → DxeMachine → Option ℕ → Type 0) (Lets : List DxeMachine → DxeMachine → ℕ → Bool) (text : S → Option (List ℕ)) (faults : S → ℕ) (stands : M → StoreState → Type 0) (store : M) (catalog : Catalog) (fuel : ℕ)
     (s : StoreState) (actions : ℕ) (first : S) (core : DxeCore) (kept queue : Queue) (shown : List ℕ) (sink : S) (steps : ℕ) → IsWellFormed catalog → StandsFor stands store catalog core (dxe_opening catalog s actions) → IsNewQueue catalog kept
     → Discovers catalog kept shown queue → owed queue ≤ owed kept + length (drivers_of catalog shown) → shown ≡ (dxe_opening catalog s actions).discovered
     → Appends (text first) (text sink) (text_of (discovery_lines shown)) → faults sink ≡ faults first
@@ -289,13 +289,13 @@ opening_drivers catalog queue order opening volumes are new o once = record {
 }
 
 -- the lines of the opening are given up
-pub opening_halts : (Names : DxeMachine → Option ℕ → Type 0) (Lets : DxeMachine → ℕ → Bool) (catalog : Catalog) (fuel : ℕ) (s : StoreState) (actions : ℕ) (shown : List ℕ) (old new : Option (List ℕ)) → shown ≡ (dxe_opening catalog s actions).discovered
+pub opening_halts : (Names : List DxeMachine → DxeMachine → Option ℕ → Type 0) (Lets : List DxeMachine → DxeMachine → ℕ → Bool) (catalog : Catalog) (fuel : ℕ) (s : StoreState) (actions : ℕ) (shown : List ℕ) (old new : Option (List ℕ)) → shown ≡ (dxe_opening catalog s actions).discovered
     → AppendsPart old new (text_of (discovery_lines shown)) → StopsShort Names Lets catalog fuel (dxe_opening catalog s actions) old new
 opening_halts Names Lets catalog fuel s actions shown old new is part = record { earlier = []; run = tt; part = subst (λ xs. AppendsPart old new (text_of (discovery_lines xs))) is part }
 
-pub none_evaluated : (Names : DxeMachine → Option ℕ → Type 0) (Lets : DxeMachine → ℕ → Bool) (catalog : Catalog) (fuel : ℕ) (opening : DxeMachine) (before : ℕ) → EvaluatesFewBy Names Lets catalog fuel opening before before
+pub none_evaluated : (Names : List DxeMachine → DxeMachine → Option ℕ → Type 0) (Lets : List DxeMachine → DxeMachine → ℕ → Bool) (catalog : Catalog) (fuel : ℕ) (opening : DxeMachine) (before : ℕ) → EvaluatesFewBy Names Lets catalog fuel opening before before
 none_evaluated Names Lets catalog fuel opening before = record { earlier = []; run = tt; few = omega arith }
 
 -- nothing was put
-pub opening_part : (Names : DxeMachine → Option ℕ → Type 0) (Lets : DxeMachine → ℕ → Bool) (catalog : Catalog) (fuel : ℕ) (s : StoreState) (actions : ℕ) (text : Option (List ℕ)) → StopsShort Names Lets catalog fuel (dxe_opening catalog s actions) text text
+pub opening_part : (Names : List DxeMachine → DxeMachine → Option ℕ → Type 0) (Lets : List DxeMachine → DxeMachine → ℕ → Bool) (catalog : Catalog) (fuel : ℕ) (s : StoreState) (actions : ℕ) (text : Option (List ℕ)) → StopsShort Names Lets catalog fuel (dxe_opening catalog s actions) text text
 opening_part Names Lets catalog fuel s actions text = record { earlier = []; run = tt; part = part_none text (text_of (dxe_opening catalog s actions).lines) }

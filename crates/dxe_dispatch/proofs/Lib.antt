@@ -6,6 +6,7 @@ mod Followed
 pub mod Growing
 pub mod Idle
 pub mod Openings
+mod PassLists
 mod Passing
 mod Requests
 pub mod Runs

@@ -25,7 +25,7 @@ opened stands store catalog taken bases are (Ok core) is = λ s here. stands_at_
 opened stands store catalog taken bases are (Err fault) is = tt
 
 -- a driver that was not let has left it
-pub some_left : {M : Type 0} (Names : DxeMachine → Option ℕ → Type 0) (Lets : DxeMachine → ℕ → Bool) (stands : M → StoreState → Type 0) (store : M) (catalog : Catalog) (fuel : ℕ) (opening : DxeMachine) (core : DxeCore) (run : Run) (old new : Option (List ℕ))
+pub some_left : {M : Type 0} (Names : List DxeMachine → DxeMachine → Option ℕ → Type 0) (Lets : List DxeMachine → DxeMachine → ℕ → Bool) (stands : M → StoreState → Type 0) (store : M) (catalog : Catalog) (fuel : ℕ) (opening : DxeMachine) (core : DxeCore) (run : Run) (old new : Option (List ℕ))
     (queue : Queue) → run.left ≡ queue.left → RunsBy Names Lets stands store catalog fuel opening core queue old new (Ok run.reached) → (number : ℕ) → run.reached ≡ R.Barred number → 1 ≤ run.left
 some_left Names Lets stands store catalog fuel opening core run old new queue same by number is =
     let bars : BarsBy Names Lets stands store catalog fuel opening core queue number old new = subst (λ r. RunsBy Names Lets stands store catalog fuel opening core queue old new (Ok r)) is by in
@@ -33,7 +33,7 @@ some_left Names Lets stands store catalog fuel opening core run old new queue sa
     omega (arith, left, same)
 
 -- the handles of the last machine are those of the core
-unfoldable pub boots : {M : Type 0} (Names : DxeMachine → Option ℕ → Type 0) (Lets : DxeMachine → ℕ → Bool) (stands : M → StoreState → Type 0) (store : M) (catalog : Catalog) (fuel : ℕ) (opening : DxeMachine) (core : DxeCore) (queue : Queue) (reached : Reached DxeEnd) (handles : HandleState) (in_pei left : ℕ) (old new : Option (List ℕ))
+unfoldable pub boots : {M : Type 0} (Names : List DxeMachine → DxeMachine → Option ℕ → Type 0) (Lets : List DxeMachine → DxeMachine → ℕ → Bool) (stands : M → StoreState → Type 0) (store : M) (catalog : Catalog) (fuel : ℕ) (opening : DxeMachine) (core : DxeCore) (queue : Queue) (reached : Reached DxeEnd) (handles : HandleState) (in_pei left : ℕ) (old new : Option (List ℕ))
     → handles ≡ core.services.handles → left ≡ queue.left → RunsBy Names Lets stands store catalog fuel opening core queue old new (Ok reached)
     → BootsBy (record { names = Names; lets = Lets; catalog = catalog; fuel = fuel; opening = opening; in_pei = in_pei; old = old; new = new }) (Ok (leaves in_pei handles left reached))
 boots Names Lets stands store catalog fuel opening core queue (R.End how) handles in_pei left old new same counted run =
@@ -48,5 +48,5 @@ handles_are in_pei handles left (R.End how) = refl
 handles_are in_pei handles left (R.Barred number) = refl
 
 -- memory is wanting before anything ran
-pub none_ran : (Names : DxeMachine → Option ℕ → Type 0) (Lets : DxeMachine → ℕ → Bool) (catalog : Catalog) (fuel : ℕ) (opening : DxeMachine) (old : Option (List ℕ)) → StopsShort Names Lets catalog fuel opening old old
+pub none_ran : (Names : List DxeMachine → DxeMachine → Option ℕ → Type 0) (Lets : List DxeMachine → DxeMachine → ℕ → Bool) (catalog : Catalog) (fuel : ℕ) (opening : DxeMachine) (old : Option (List ℕ)) → StopsShort Names Lets catalog fuel opening old old
 none_ran Names Lets catalog fuel opening old = record { earlier = []; run = tt; part = part_none old _ }

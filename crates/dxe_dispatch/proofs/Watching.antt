@@ -20,13 +20,13 @@ pub aimed_so : (Names : DxeMachine → Option ℕ → Type 0) (catalog : Catalog
 aimed_so Names catalog m target running by = record { running = running; named = by.named; is = by.is }
 
 -- a step by choices is this step
-pub was_step : {M S : Type 0} (Names : DxeMachine → Option ℕ → Type 0) (Lets : DxeMachine → ℕ → Bool) (text : S → Option (List ℕ)) (faults : S → ℕ) (stands : M → StoreState → Type 0) (store : M) (catalog : Catalog) (fuel : ℕ)
+pub was_step : {M S : Type 0} (Names : List DxeMachine → DxeMachine → Option ℕ → Type 0) (Lets : List DxeMachine → DxeMachine → ℕ → Bool) (text : S → Option (List ℕ)) (faults : S → ℕ) (stands : M → StoreState → Type 0) (store : M) (catalog : Catalog) (fuel : ℕ)
     (opening : DxeMachine) (first : S) (turns : ℕ) (core later : DxeCore) (kept grown : Queue) (sink shown : S) (before evaluated now : ℕ) (step : Step)
     → (way : IsComing Names Lets text faults stands store catalog fuel opening first turns core kept sink before evaluated)
-    → (by : TurnsBy Names Lets (IsNow stands store catalog later grown) (IsLeft stands store catalog later grown) catalog fuel (came catalog fuel opening way.earlier) (record { old = text sink; new = text shown }) evaluated now (Ok (T.Took step)))
+    → (by : TurnsBy (Names way.earlier) (Lets way.earlier) (IsNow stands store catalog later grown) (IsLeft stands store catalog later grown) catalog fuel (came catalog fuel opening way.earlier) (record { old = text sink; new = text shown }) evaluated now (Ok (T.Took step)))
     → WasStep catalog fuel (came catalog fuel opening way.earlier) by.target step
 was_step Names Lets text faults stands store catalog fuel opening first turns core later kept grown sink shown before evaluated now step way by =
-    record { aimed = aimed_so Names catalog (came catalog fuel opening way.earlier) by.target way.on.now.machine.core.running by.aimed; step_is = by.turned.1 }
+    record { aimed = aimed_so (Names way.earlier) catalog (came catalog fuel opening way.earlier) by.target way.on.now.machine.core.running by.aimed; step_is = by.turned.1 }
 
 -- the core and the queue at the opening
 pub opening_now : {M : Type 0} (stands : M → StoreState → Type 0) (store : M) (catalog : Catalog) (s : StoreState) (actions : ℕ) (core : DxeCore) (kept queue : Queue) (shown : List ℕ) → StandsFor stands store catalog core (dxe_opening catalog s actions)
@@ -39,25 +39,25 @@ pub record HasReached {M : Type 0} (stands : M → StoreState → Type 0) (store
   pub was : WasLast catalog fuel opening earlier all reached
   pub left : StandsLeft stands store catalog later grown (came catalog fuel opening all) reached
 
-unfoldable pub has_reached : {M S : Type 0} (first_law : FirstEligibleMayStart) (Names : DxeMachine → Option ℕ → Type 0) (Lets : DxeMachine → ℕ → Bool) (text : S → Option (List ℕ)) (faults : S → ℕ) (stands : M → StoreState → Type 0) (store : M) (catalog : Catalog) (fuel : ℕ)
+unfoldable pub has_reached : {M S : Type 0} (first_law : FirstEligibleMayStart) (Names : List DxeMachine → DxeMachine → Option ℕ → Type 0) (Lets : List DxeMachine → DxeMachine → ℕ → Bool) (text : S → Option (List ℕ)) (faults : S → ℕ) (stands : M → StoreState → Type 0) (store : M) (catalog : Catalog) (fuel : ℕ)
     (opening : DxeMachine) (first : S) (turns : ℕ) (core later : DxeCore) (kept grown : Queue) (sink shown : S) (before evaluated now : ℕ) (reached : Reached DxeEnd)
     → (way : IsComing Names Lets text faults stands store catalog fuel opening first turns core kept sink before evaluated)
-    → TurnsBy Names Lets (IsNow stands store catalog later grown) (IsLeft stands store catalog later grown) catalog fuel (came catalog fuel opening way.earlier) (record { old = text sink; new = text shown }) evaluated now (Ok (T.Reached reached))
+    → TurnsBy (Names way.earlier) (Lets way.earlier) (IsNow stands store catalog later grown) (IsLeft stands store catalog later grown) catalog fuel (came catalog fuel opening way.earlier) (record { old = text sink; new = text shown }) evaluated now (Ok (T.Reached reached))
     → HasReached stands store catalog fuel opening way.earlier later grown reached
 has_reached first_law Names Lets text faults stands store catalog fuel opening first turns core later kept grown sink shown before evaluated now (R.End how) way over =
     let m = came catalog fuel opening way.earlier in
     record {
       all = over.target ∷ way.earlier;
-      was = (over.target, refl, record { aimed = aimed_so Names catalog m over.target way.on.now.machine.core.running over.aimed; none = over.turned.none; handles = over.turned.handles; ended = over.turned.ended });
+      was = (over.target, refl, record { aimed = aimed_so (Names way.earlier) catalog m over.target way.on.now.machine.core.running over.aimed; none = over.turned.none; handles = over.turned.handles; ended = over.turned.ended });
       left = over.turned.now;
     }
 has_reached first_law Names Lets text faults stands store catalog fuel opening first turns core later kept grown sink shown before evaluated now (R.Barred number) way held =
     let m = came catalog fuel opening way.earlier in
     let running = way.on.now.machine.core.running in
-    let is = target_at Names catalog m held.target first_law running held.aimed in
+    let is = target_at (Names way.earlier) catalog m held.target first_law running held.aimed in
     record {
       all = way.earlier;
-      was = (refl, record { target = held.target; aimed = aimed_so Names catalog m held.target running held.aimed; starting = held.turned.starting });
+      was = (refl, record { target = held.target; aimed = aimed_so (Names way.earlier) catalog m held.target running held.aimed; starting = held.turned.starting });
       left = left_before stands store catalog later grown m held.target Any is held.turned.left;
     }
 
@@ -68,10 +68,10 @@ stands_there stands store catalog fuel opening earlier later grown (R.End how) h
 stands_there stands store catalog fuel opening earlier later grown (R.Barred number) has = (came catalog fuel opening has.all, has.left.machine)
 
 -- the run that has reached it, of which this is known
-pub reached_watched : {M S : Type 0} (first_law : FirstEligibleMayStart) (Names : DxeMachine → Option ℕ → Type 0) (Lets : DxeMachine → ℕ → Bool) (text : S → Option (List ℕ)) (faults : S → ℕ) (stands : M → StoreState → Type 0) (store : M) (catalog : Catalog) (fuel : ℕ)
+pub reached_watched : {M S : Type 0} (first_law : FirstEligibleMayStart) (Names : List DxeMachine → DxeMachine → Option ℕ → Type 0) (Lets : List DxeMachine → DxeMachine → ℕ → Bool) (text : S → Option (List ℕ)) (faults : S → ℕ) (stands : M → StoreState → Type 0) (store : M) (catalog : Catalog) (fuel : ℕ)
     (opening : DxeMachine) (first : S) (turns : ℕ) (core later : DxeCore) (kept grown : Queue) (sink shown : S) (before evaluated now : ℕ) (Known : List DxeMachine → Reached DxeEnd → Type 0) (reached : Reached DxeEnd)
     → (way : IsComing Names Lets text faults stands store catalog fuel opening first turns core kept sink before evaluated)
-    → (turned : TurnsBy Names Lets (IsNow stands store catalog later grown) (IsLeft stands store catalog later grown) catalog fuel (came catalog fuel opening way.earlier) (record { old = text sink; new = text shown }) evaluated now (Ok (T.Reached reached)))
+    → (turned : TurnsBy (Names way.earlier) (Lets way.earlier) (IsNow stands store catalog later grown) (IsLeft stands store catalog later grown) catalog fuel (came catalog fuel opening way.earlier) (record { old = text sink; new = text shown }) evaluated now (Ok (T.Reached reached)))
     → Known (has_reached first_law Names Lets text faults stands store catalog fuel opening first turns core later kept grown sink shown before evaluated now reached way turned).all reached
     → RunsKnown (record { names = Names; lets = Lets; stands = stands; store = store; catalog = catalog; fuel = fuel; opening = opening; later = later; old = text first; new = text shown }) grown Known (Ok reached)
 unfolding has_reached coming_to coming_over coming_bars

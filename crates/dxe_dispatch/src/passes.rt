@@ -3,7 +3,7 @@ ghost use Rattle.std.specs.Prelude.{◌≡◌, ◌≤◌, ◌<◌, ◌+◌, ◌-
 ghost use Rattle.mod_catalog.specs.{declared.limits.TheConstants.MOST_MODULES, WellFormed.IsWellFormed};
 ghost use Rattle.boot_model.specs.{DriverLicence.numbers_of, DxeChoice.a_priori_drivers, DxeMachine.DxeMachine};
 ghost use Rattle.dxe_core.specs.Order.{Drivers};
-ghost use Rattle.dxe_dispatch.specs.{declared.answer.Turn.TheVariants as T, Passes.has_type, Passes.in_types};
+ghost use Rattle.dxe_dispatch.specs.Passes.{has_type, in_types};
 ghost use Rattle.dxe_dispatch.specs.PassList.{Follows, FollowsTurn, GetsVolumes, Leave, Refills, RefillsIdle, turn_kept};
 ghost use Rattle.dxe_dispatch.specs.Queue.{IsNewQueue, IsQueueFor, IsQueueOf, IsSeen, owed};
 
@@ -88,7 +88,8 @@ fn push_volumes(
 // Adds the a priori drivers of a volume at the end.
 fn push_ranked(items: &mut Seq<u32>, catalog: &Catalog, volume: u32) -> Result<(), OutOfMemory>
     requires { length catalog.now.modules ≤ MOST_MODULES }
-    ensures { OnOk result (items.new ≡ items.old ++ numbers_of (a_priori_drivers catalog.now (volume ∷ []))) }
+    ensures more { OnOk result (items.new ≡ items.old ++ numbers_of (a_priori_drivers catalog.now (volume ∷ []))) }
+    ensures longer { length items.old ≤ length items.new }
 {
     let mut parts = Parts::new();
     parts.push_ranked(catalog, Phase::Dxe, volume);
@@ -102,7 +103,8 @@ fn push_a_priori(
     volumes: &[u32],
 ) -> Result<(), OutOfMemory>
     requires { length catalog.now.modules ≤ MOST_MODULES }
-    ensures { OnOk result (items.new ≡ items.old ++ numbers_of (a_priori_drivers catalog.now volumes.now)) }
+    ensures more { OnOk result (items.new ≡ items.old ++ numbers_of (a_priori_drivers catalog.now volumes.now)) }
+    ensures longer { length items.old ≤ length items.new }
 {
     'volumes: for volume in volumes {
         push_ranked(items, catalog, *volume)?;
