@@ -6,6 +6,7 @@ pub(crate) const PROGRAM: Program = Program {
     name: "pitools",
     forms: "usage: pitools check PLAN TRACE       yes, or the first line of TRACE that no boot of PLAN prints there
        pitools follow PLAN ORDER      the boot of PLAN in the order of starts that ORDER has
+       pitools passes PLAN            the boot of PLAN in the order of EDK2's dispatchers
        pitools hobs PLAN              the bytes of the HOB list that the boot of PLAN hands to DXE
        pitools explain PLAN           why each module of the boot of PLAN started, and what the others lack
        pitools explain PLAN TRACE     the same of the boot of PLAN of which TRACE tells

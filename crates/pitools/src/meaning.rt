@@ -10,7 +10,7 @@ use tools_core::ToolStatus;
 const SHOWN_LEN: usize = 60;
 
 const USAGE: &str =
-    "usage: pitools check PLAN TRACE | pitools follow PLAN ORDER | pitools hobs PLAN | pitools explain PLAN [TRACE] | pitools gcd HOBS COMMANDS | pitools mp FILE | pitools volume TEXT | pitools text VOLUME | pitools asm depex|script FILE | pitools dis pei|dxe|script FILE";
+    "usage: pitools check PLAN TRACE | pitools follow PLAN ORDER | pitools passes PLAN | pitools hobs PLAN | pitools explain PLAN [TRACE] | pitools gcd HOBS COMMANDS | pitools mp FILE | pitools volume TEXT | pitools text VOLUME | pitools asm depex|script FILE | pitools dis pei|dxe|script FILE";
 
 // The word after so many words.
 fn word_at(words: &[String], place: usize) -> &str {
@@ -21,12 +21,13 @@ fn word_at(words: &[String], place: usize) -> &str {
 }
 
 // The tools, and what each takes.
-static VERB_WORDS: [(&str, &str); 10] = [
+static VERB_WORDS: [(&str, &str); 11] = [
     ("check", "takes the names of two files behind it"),
     ("follow", "takes the names of two files behind it"),
     ("gcd", "takes the names of two files behind it"),
     ("mp", "takes the name of a file behind it"),
     ("hobs", "takes the name of a file behind it"),
+    ("passes", "takes the name of a file behind it"),
     ("volume", "takes the name of a file behind it"),
     ("text", "takes the name of a file behind it"),
     (

@@ -74,12 +74,15 @@ trace_or_tool words Explain plan trace tool file p q = told_or_tool words plan t
 plan_or_map : (words : List (List ℕ)) (asked : PlanTool) (plan hobs commands : List ℕ) → AskForPlan words asked plan → AskForMap words hobs commands → ⊥
 plan_or_map words P.Hobs plan hobs commands p q = let e = ap first (sym p.0 ∙ q.0) in omega (arith, e)
 plan_or_map words P.Reasons plan hobs commands p q = let e = ap first (sym p.0 ∙ q.0) in omega (arith, e)
+plan_or_map words P.Passes plan hobs commands p q = let e = ap first (sym p.0 ∙ q.0) in omega (arith, e)
 
 plan_or_trace : (words : List (List ℕ)) (asked : PlanTool) (plan : List ℕ) (tool : TraceTool) (other trace : List ℕ) → AskForPlan words asked plan → AskForTrace words tool other trace → ⊥
 plan_or_trace words P.Hobs plan Check other trace p q = let e = ap first (sym p.0 ∙ q.0) in omega (arith, e)
 plan_or_trace words P.Hobs plan Explain other trace p q = let e = ap first (sym p.0 ∙ q.0) in omega (arith, e)
 plan_or_trace words P.Reasons plan Check other trace p q = let e = ap first (sym p.0 ∙ q.0) in omega (arith, e)
 plan_or_trace words P.Reasons plan Explain other trace p q = let none : [] ≡ trace ∷ [] = ap (λ (x : List (List ℕ)). rest (rest x)) (sym p.0 ∙ q.0) in cc
+plan_or_trace words P.Passes plan Check other trace p q = let e = ap first (sym p.0 ∙ q.0) in omega (arith, e)
+plan_or_trace words P.Passes plan Explain other trace p q = let e = ap first (sym p.0 ∙ q.0) in omega (arith, e)
 
 plan_or_tool : (words : List (List ℕ)) (asked : PlanTool) (plan : List ℕ) (tool : Tool) (file : List ℕ) → AskForPlan words asked plan → AskForTool words tool file → ⊥
 plan_or_tool words P.Hobs plan Mp file p q = let e = ap first (sym p.0 ∙ q.0) in omega (arith, e)
@@ -90,6 +93,10 @@ plan_or_tool words P.Reasons plan Mp file p q = let e = ap first (sym p.0 ∙ q.
 plan_or_tool words P.Reasons plan Volume file p q = let e = ap first (sym p.0 ∙ q.0) in omega (arith, e)
 plan_or_tool words P.Reasons plan ReadVolume file p q = let e = ap first (sym p.0 ∙ q.0) in omega (arith, e)
 plan_or_tool words P.Reasons plan tool file p q = let e = ap first (sym p.0 ∙ q.0) in omega (arith, e)
+plan_or_tool words P.Passes plan Mp file p q = let e = ap first (sym p.0 ∙ q.0) in omega (arith, e)
+plan_or_tool words P.Passes plan Volume file p q = let e = ap first (sym p.0 ∙ q.0) in omega (arith, e)
+plan_or_tool words P.Passes plan ReadVolume file p q = let e = ap first (sym p.0 ∙ q.0) in omega (arith, e)
+plan_or_tool words P.Passes plan tool file p q = let e = ap first (sym p.0 ∙ q.0) in omega (arith, e)
 
 follow_or_map : (words : List (List ℕ)) (plan order hobs commands : List ℕ) → AskForFollow words plan order → AskForMap words hobs commands → ⊥
 follow_or_map words plan order hobs commands p q = let e = ap first (sym p.0 ∙ q.0) in omega (arith, e)
@@ -101,6 +108,7 @@ follow_or_trace words plan order Explain other trace p q = let e = ap first (sym
 follow_or_plan : (words : List (List ℕ)) (plan order : List ℕ) (asked : PlanTool) (other : List ℕ) → AskForFollow words plan order → AskForPlan words asked other → ⊥
 follow_or_plan words plan order P.Hobs other p q = let e = ap first (sym p.0 ∙ q.0) in omega (arith, e)
 follow_or_plan words plan order P.Reasons other p q = let e = ap first (sym p.0 ∙ q.0) in omega (arith, e)
+follow_or_plan words plan order P.Passes other p q = let e = ap first (sym p.0 ∙ q.0) in omega (arith, e)
 
 follow_or_tool : (words : List (List ℕ)) (plan order : List ℕ) (tool : Tool) (file : List ℕ) → AskForFollow words plan order → AskForTool words tool file → ⊥
 follow_or_tool words plan order Mp file p q = let e = ap first (sym p.0 ∙ q.0) in omega (arith, e)
@@ -111,8 +119,13 @@ follow_or_tool words plan order tool file p q = let e = ap first (sym p.0 ∙ q.
 one_plan_tool : (words : List (List ℕ)) (tool other : PlanTool) (plan name : List ℕ) → AskForPlan words tool plan → AskForPlan words other name → other ≡ tool
 one_plan_tool words P.Hobs P.Hobs plan name p q = refl
 one_plan_tool words P.Reasons P.Reasons plan name p q = refl
+one_plan_tool words P.Passes P.Passes plan name p q = refl
 one_plan_tool words P.Hobs P.Reasons plan name p q = absurd (let e = ap first (sym p.0 ∙ q.0) in omega (arith, e))
+one_plan_tool words P.Hobs P.Passes plan name p q = absurd (let e = ap first (sym p.0 ∙ q.0) in omega (arith, e))
 one_plan_tool words P.Reasons P.Hobs plan name p q = absurd (let e = ap first (sym p.0 ∙ q.0) in omega (arith, e))
+one_plan_tool words P.Reasons P.Passes plan name p q = absurd (let e = ap first (sym p.0 ∙ q.0) in omega (arith, e))
+one_plan_tool words P.Passes P.Hobs plan name p q = absurd (let e = ap first (sym p.0 ∙ q.0) in omega (arith, e))
+one_plan_tool words P.Passes P.Reasons plan name p q = absurd (let e = ap first (sym p.0 ∙ q.0) in omega (arith, e))
 
 one_asked : (words : List (List ℕ)) (tool other : TraceTool) (plan trace text lines : List ℕ) → AskForTrace words tool plan trace → AskForTrace words other text lines → other ≡ tool
 one_asked words Check Check plan trace text lines p q = refl

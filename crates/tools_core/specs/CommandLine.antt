@@ -2,7 +2,7 @@
 -- Own.
 use Rattle.std.specs.Prelude.{◌≡◌, ◌≢◌, ℕ, List, [], ◌∷◌, ◌++◌, codes}
 use Rattle.tools_core.specs.{declared.command_line.Tool.Tool, declared.command_line.PlanTool.PlanTool}
-use Rattle.tools_core.specs.declared.command_line.PlanTool.TheVariants.{Hobs, Reasons}
+use Rattle.tools_core.specs.declared.command_line.PlanTool.TheVariants.{Hobs, Reasons, Passes}
 use Rattle.tools_core.specs.declared.command_line.TraceTool.{TraceTool}
 use Rattle.tools_core.specs.declared.command_line.TraceTool.TheVariants.{Check, Explain}
 use Rattle.tools_core.specs.declared.command_line.Tool.TheVariants.{AssembleDepex, AssembleScript, ReadPei, ReadDxe, ReadScript, Mp, Volume, ReadVolume}
@@ -43,8 +43,9 @@ AskForFollow words plan order = (words ≡ codes "follow" ∷ plan ∷ order ∷
 abbrev pub plan_word : PlanTool → List ℕ
 plan_word Hobs = codes "hobs"
 plan_word Reasons = codes "explain"
+plan_word Passes = codes "passes"
 
--- the words ask for the HOB list that the PEI of a plan hands on, or for an explanation of each module of the plan's boot
+-- the words ask for the HOB list that the PEI of a plan hands on, for an explanation of each module of the plan's boot, or for its boot in the order of EDK2's dispatchers
 abbrev pub AskForPlan : List (List ℕ) → PlanTool → List ℕ → Type 0
 AskForPlan words tool plan = (words ≡ plan_word tool ∷ plan ∷ []) × (plan ≢ [])
 

@@ -24,6 +24,7 @@ failing (R.Twins volume) = Nowhere
 failing (R.Verdict verdict) = Nowhere
 failing (R.Order line) = Nowhere
 failing (R.Followed lines followed) = Nowhere
+failing (R.Passed lines passed) = Nowhere
 failing (R.Hobs fault) = Nowhere
 failing (R.Command line) = Nowhere
 failing (R.Event line) = Nowhere

@@ -1,11 +1,13 @@
 -- What is printed of an order of starts that has a line of no form, and after the lines of a boot in an order. Own.
-use Rattle.std.specs.Prelude.{ℕ, List, [], ◌∷◌, ◌++◌, codes, decimal, flat_map}
+use Rattle.std.specs.Prelude.{ℕ, List, [], ◌∷◌, ◌++◌, Option, Some, None, codes, decimal, flat_map}
 use Rattle.boot_io.specs.Line.{line_of, spaced}
 use Rattle.pi_base.specs.{declared.guid.Guid.Guid, WordText.guid_text}
 use Rattle.recorded_boot.specs.{declared.follow.against.Against.Against, declared.follow.followed.Followed.Followed}
 use Rattle.recorded_boot.specs.declared.follow.against.Against.TheVariants.{Unknown, Started, NotEligible}
 use Rattle.recorded_boot.specs.declared.follow.followed.Followed.TheVariants.{Ended, Stopped, No}
-use Rattle.tools_core.specs.Refusals.{no_line}
+use Rattle.recorded_boot.specs.{declared.order.line.Start.Start, declared.passes.Passed.Passed}
+use Rattle.recorded_boot.specs.declared.passes.Passed.TheVariants as P
+use Rattle.tools_core.specs.Refusals.{no_line, no_text}
 
 unfoldable pub refused_order : List ℕ
 refused_order = codes "refused order"
@@ -41,3 +43,16 @@ abbrev pub last_text : Followed → List ℕ
 last_text (Ended end) = []
 last_text Stopped = line_of stop_text []
 last_text (No line against) = no_line line ++ against_line against
+
+-- the driver whose turn it is in the order of EDK2's dispatchers, if it is anybody's
+unfoldable pub in_dxe_text : List ℕ
+in_dxe_text = codes "dxe"
+
+abbrev pub start_words : Option Start → List (List ℕ)
+start_words None = []
+start_words (Some start) = in_dxe_text ∷ decimal start.volume ∷ guid_text start.name ∷ []
+
+-- and what is printed behind the lines of a boot in that order
+abbrev pub passed_text : Passed → List ℕ
+passed_text (P.Ended end) = []
+passed_text (P.No turn) = line_of no_text (start_words turn.start) ++ against_line (NotEligible turn.lacks)

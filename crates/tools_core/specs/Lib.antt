@@ -17,6 +17,7 @@ pub mod FollowReport
 pub mod TextReport
 pub mod SourceRefusal
 pub mod VolumeReport
+pub mod PassesReport
 pub mod PlanReport
 pub mod PrintReport
 pub mod Outcome

@@ -1,16 +1,17 @@
--- The report for a plan alone: the HOB list that its PEI hands on, or its boot, explained. Own.
+-- The report for a plan alone: the HOB list that its PEI hands on, its boot, explained, or its boot in the order of EDK2's dispatchers. Own.
 use Rattle.std.specs.Prelude.{◌≡◌, ℕ, List, Option}
 use Rattle.boot_plan.specs.declared.plan.Plan.{Plan}
 use Rattle.boot_core.specs.{Job.IsNamedIn, Reading.plan_limit}
 use Rattle.tools_core.specs.declared.command_line.PlanTool.{PlanTool}
-use Rattle.tools_core.specs.declared.command_line.PlanTool.TheVariants.{Hobs, Reasons}
+use Rattle.tools_core.specs.declared.command_line.PlanTool.TheVariants.{Hobs, Reasons, Passes}
 use Rattle.tools_core.specs.{declared.status.ToolStatus.ToolStatus, ExplainReport.ExplainReport}
-use Rattle.tools_core.specs.{FileReading.IsRead, FileReading.LongOutcome, HobsReport.HobsReport, JobOutcome.JobOutcome}
+use Rattle.tools_core.specs.{FileReading.IsRead, FileReading.LongOutcome, HobsReport.HobsReport, JobOutcome.JobOutcome, PassesReport.PassesReport}
 
 -- what a plan and the images of its volumes lead to
 abbrev pub PlanReport : PlanTool → Plan → List (List ℕ) → ToolStatus → List ℕ → Type 0
 PlanReport Hobs = HobsReport
 PlanReport Reasons = ExplainReport
+PlanReport Passes = PassesReport
 
 -- what the file of a plan leads to
 pub data PlanOutcome (tool : PlanTool) (told : List ℕ → Option (List ℕ)) (plan : List ℕ) (status : ToolStatus) (out : List ℕ) : Type 0 where

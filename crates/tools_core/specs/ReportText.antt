@@ -11,9 +11,11 @@ use Rattle.tools_core.specs.{declared.status.ToolStatus.ToolStatus, declared.rep
 use Rattle.tools_core.specs.declared.status.ToolStatus.TheVariants as S
 use Rattle.tools_core.specs.declared.report.Report.TheVariants as R
 use Rattle.tools_core.specs.Refusals.{usage_line, file_line, long_line, plan_line, image_line, twins_line, end_line, verdict_line, text_line, text_long_line, malformed_line, bytes_line}
-use Rattle.tools_core.specs.FollowText.{order_line, last_text}
+use Rattle.tools_core.specs.FollowText.{order_line, last_text, passed_text}
 use Rattle.recorded_boot.specs.declared.follow.followed.Followed.{Followed}
 use Rattle.recorded_boot.specs.declared.follow.followed.Followed.TheVariants as F
+use Rattle.recorded_boot.specs.declared.passes.Passed.{Passed}
+use Rattle.recorded_boot.specs.declared.passes.Passed.TheVariants as P
 
 abbrev pub report_text : Report → List ℕ
 report_text R.Usage = usage_line
@@ -25,6 +27,7 @@ report_text (R.Twins volume) = twins_line volume
 report_text (R.Verdict verdict) = verdict_line verdict
 report_text (R.Order line) = order_line line
 report_text (R.Followed lines followed) = lines ++ last_text followed
+report_text (R.Passed lines passed) = lines ++ passed_text passed
 report_text (R.Hobs fault) = hobs_refusal fault
 report_text (R.Command line) = command_refusal line
 report_text (R.Event line) = bad_line line
@@ -56,6 +59,11 @@ followed_status (F.Ended end) = end_status end
 followed_status F.Stopped = S.Done
 followed_status (F.No line against) = S.No
 
+-- and of one in the order of EDK2's dispatchers
+abbrev pub passed_status : Passed → ToolStatus
+passed_status (P.Ended end) = end_status end
+passed_status (P.No turn) = S.No
+
 abbrev pub report_status : Report → ToolStatus
 report_status R.Usage = S.Usage
 report_status (R.NoFile name) = S.FileFault
@@ -66,6 +74,7 @@ report_status (R.Twins volume) = S.Twins
 report_status (R.Verdict verdict) = verdict_status verdict
 report_status (R.Order line) = S.OrderRefused
 report_status (R.Followed lines followed) = followed_status followed
+report_status (R.Passed lines passed) = passed_status passed
 report_status (R.Hobs fault) = S.HobsRefused
 report_status (R.Command line) = S.CommandRefused
 report_status (R.Event line) = S.CommandRefused

@@ -33,6 +33,8 @@ pub(crate) enum PlanTool {
     Hobs,
     /// Why each module of the plan's boot started, or why it never did.
     Reasons,
+    /// The plan's boot in the order of EDK2's dispatchers.
+    Passes,
 }
 
 /// A tool of a plan and of a trace.
@@ -173,6 +175,8 @@ fn plan_tool_of(verb: &str) -> Option<PlanTool>
         Some(PlanTool::Hobs)
     } else if verb == "explain" {
         Some(PlanTool::Reasons)
+    } else if verb == "passes" {
+        Some(PlanTool::Passes)
     } else {
         None
     }

@@ -2,13 +2,17 @@
 ghost use Rattle.std.specs.Prelude.{◌≡◌, ◌++◌, flat_map};
 ghost use Rattle.boot_io.specs.Sink.{Puts, SinkFaultsAfter};
 ghost use Rattle.recorded_boot.specs.declared.follow.against.Against.TheVariants.{NotEligible};
-ghost use Rattle.tools_core.specs.FollowText.{against_line, guid_word, last_text, not_eligible_text, order_line};
+ghost use Rattle.boot_io.specs.Line.{line_of};
+ghost use Rattle.tools_core.specs.FollowText.{against_line, guid_word, last_text, not_eligible_text, order_line, passed_text, start_words};
+ghost use Rattle.tools_core.specs.Refusals.{no_text};
 
 use crate::print::put_no;
 use boot_io::{Sink, SinkFault, put_line};
 use boot_trace::decimal_word;
 use pi_base::Guid;
 use recorded_boot::follow::{Against, Followed};
+use recorded_boot::order::Start;
+use recorded_boot::passes::Passed;
 
 /// The refusal of an order, by its line.
 #[tactic(auto, unfolding(crate::specs::FollowText::refused_order))]
@@ -98,4 +102,47 @@ pub(crate) fn put_followed<S: Sink>(
 {
     sink.put(lines)?;
     put_last(sink, followed)
+}
+
+// Whose turn it is.
+#[tactic(auto, unfolding(crate::specs::Refusals::no_text, crate::specs::FollowText::in_dxe_text))]
+fn put_turn<S: Sink>(sink: &mut S, start: Option<Start>) -> Result<(), SinkFault>
+    ensures text { Puts result (S.text sink.old) (S.text sink.new) (line_of no_text (start_words start)) }
+    ensures cause { SinkFaultsAfter result (S.faults sink.old) (S.faults sink.new) }
+{
+    match start {
+        Some(start) => {
+            let volume = decimal_word(u64::from(start.volume));
+            let name = start.name.to_text();
+            put_line(sink, b"no", &[b"dxe", volume.as_slice(), name.as_slice()])
+        }
+        None => put_line(sink, b"no", &[]),
+    }
+}
+
+// What is printed after the lines of a boot in the order of EDK2's dispatchers.
+fn put_pass_end<S: Sink>(sink: &mut S, passed: &Passed) -> Result<(), SinkFault>
+    ensures text { Puts result (S.text sink.old) (S.text sink.new) (passed_text passed.now) }
+    ensures cause { SinkFaultsAfter result (S.faults sink.old) (S.faults sink.new) }
+{
+    match passed {
+        Passed::Ended(_) => Ok(()),
+        Passed::No(turn) => {
+            put_turn(sink, turn.start)?;
+            put_lacking(sink, turn.lacks.as_slice())
+        }
+    }
+}
+
+/// Prints the lines of a boot in the order of EDK2's dispatchers, and whose turn it is where it goes no further.
+pub(crate) fn put_passed<S: Sink>(
+    sink: &mut S,
+    lines: &[u8],
+    passed: &Passed,
+) -> Result<(), SinkFault>
+    ensures text { Puts result (S.text sink.old) (S.text sink.new) (lines.now ++ passed_text passed.now) }
+    ensures cause { SinkFaultsAfter result (S.faults sink.old) (S.faults sink.new) }
+{
+    sink.put(lines)?;
+    put_pass_end(sink, passed)
 }

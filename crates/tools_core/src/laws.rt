@@ -69,6 +69,7 @@ pub(crate) fn one_plan_report()
     explain_text::catalog::one_catalog_text();
     boot_laws::cursor_aims();
     boot_laws::order_is_of_modules();
+    recorded_boot::passes::one_pass();
 }
 
 /// A command line and known file contents have one outcome: one status, and one text.

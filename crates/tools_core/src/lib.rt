@@ -1,4 +1,4 @@
-//! The tools, from the words of a command line to their text: `check`, `follow`, `hobs`, `explain`, `gcd`, `mp`, `volume`, `text`, `asm` and `dis`.
+//! The tools, from the words of a command line to their text: `check`, `follow`, `passes`, `hobs`, `explain`, `gcd`, `mp`, `volume`, `text`, `asm` and `dis`.
 //! `tools_main` promises that the text and the status are exactly those that the definitions give for this command line and these file contents. Begin with
 //! `tools` and `specs/Outcome`.
 //!
@@ -16,6 +16,7 @@ mod held_text;
 mod hobs_tool;
 mod laws;
 mod mp_tool;
+mod passes_tool;
 mod plan_tool;
 mod print;
 mod reading;

@@ -1,4 +1,4 @@
-// A plan alone: the HOB list of its boot, or its boot, explained.
+// A plan alone: the HOB list of its boot, its boot, explained, or its boot in the order of EDK2's dispatchers.
 ghost use Rattle.std.specs.Prelude.{◌≡◌, ◌≤◌, IfOk, OnErr, length};
 ghost use Rattle.boot_core.specs.Job.{IsNamedIn};
 ghost use Rattle.tools_core.specs.{Ends.Reports, JobOutcome.JobOutcome};
@@ -7,6 +7,7 @@ ghost use Rattle.tools_core.specs.PlanReport.{PlanNames, PlanOutcome, PlanReport
 use crate::command_line::PlanTool;
 use crate::explain_tool::explain_report;
 use crate::hobs_tool::hobs_report;
+use crate::passes_tool::passes_report;
 use crate::reading::{Reading, read_file, report_of};
 use crate::report::Report;
 use boot_core::plan_files::{NoJob, PLAN_LIMIT, job_of};
@@ -31,6 +32,7 @@ fn with_text<F: Files>(
         Ok(job) => match tool {
             PlanTool::Hobs => hobs_report(alloc, job),
             PlanTool::Reasons => explain_report(alloc, job),
+            PlanTool::Passes => passes_report(alloc, job),
         },
         Err(NoJob::Refused(line)) => Ok(report_of(line)),
         Err(NoJob::Memory) => Err(OutOfMemory),

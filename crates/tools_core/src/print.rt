@@ -4,7 +4,7 @@ ghost use Rattle.boot_io.specs.Sink.{Puts, SinkFaultsAfter};
 ghost use Rattle.tools_core.specs.Refusals.{bytes_line, cause_text, malformed_line, malformed_text, no_line, refused_bytes, refused_text, refused_twins, text_line, twins_line, verdict_line};
 ghost use Rattle.tools_core.specs.ReportText.{report_text};
 
-use crate::follow_print::{put_followed, put_order};
+use crate::follow_print::{put_followed, put_order, put_passed};
 use crate::report::Report;
 use crate::source_refusal::put_source;
 use act_code::{ActCause, ActFault};
@@ -150,6 +150,7 @@ pub(crate) fn put_report<S: Sink>(sink: &mut S, report: &Report) -> Result<(), S
         Report::Verdict(verdict) => put_verdict(sink, *verdict),
         Report::Order(line) => put_order(sink, *line),
         Report::Followed { lines, followed } => put_followed(sink, lines.as_slice(), followed),
+        Report::Passed { lines, passed } => put_passed(sink, lines.as_slice(), passed),
         Report::Hobs(fault) => put_hobs_refusal(sink, *fault),
         Report::Command(line) => put_command_refusal(sink, *line),
         Report::Event(line) => put_bad_line(sink, *line),

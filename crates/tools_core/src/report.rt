@@ -11,6 +11,7 @@ use mod_catalog::ImageFault;
 use mp_core::{MpFile, MpOutcome};
 use pi_base::Seq;
 use recorded_boot::follow::Followed;
+use recorded_boot::passes::Passed;
 use recorded_boot::trace::Verdict;
 use volume_text::Fault;
 
@@ -37,6 +38,11 @@ pub(crate) enum Report {
     Followed {
         lines: Seq<u8>,
         followed: Followed,
+    },
+    /// The lines of a boot in the order of EDK2's dispatchers, and how it ended.
+    Passed {
+        lines: Seq<u8>,
+        passed: Passed,
     },
     /// The first fault of a HOB list.
     Hobs(GcdFault),
@@ -101,6 +107,10 @@ impl Report {
                 Followed::Ended(end) => end_status(*end),
                 Followed::Stopped => ToolStatus::Done,
                 Followed::No { .. } => ToolStatus::No,
+            },
+            Report::Passed { passed, .. } => match passed {
+                Passed::Ended(end) => end_status(*end),
+                Passed::No(_) => ToolStatus::No,
             },
             Report::Hobs(_) => ToolStatus::HobsRefused,
             Report::Command(_) | Report::Event(_) => ToolStatus::CommandRefused,

@@ -15,4 +15,4 @@ returns c =
     } in
     let runs : RunLaws = record { aims = c.cursor_aims.ensures.aims; orders = c.order_is_of_modules.ensures } in
     let laws : Laws = record { plans = plans; well = c.catalogues_are_well_formed.ensures; texts = c.one_catalog_text.ensures; boots = one_boot runs } in
-    one_plan laws
+    one_plan laws c.one_pass.ensures
