@@ -5,19 +5,19 @@ use Rattle.std.proofs.lemmas.Grind.{flat_map-append}
 use Rattle.mod_catalog.specs.declared.catalogue.Catalog.{Catalog}
 use Rattle.boot_io.specs.declared.halt.Halt.{Halt}
 use Rattle.boot_model.specs.{DriverLicence.numbers_of, DxeChoice.a_priori_drivers, DxeMachine.DriverFrame, DxeMachine.DxeMachine, DxeStep.dxe_step, Text.text_of}
-use Rattle.boot_laws.specs.{declared.choice.Before.Before, DxeAim.GroupsAreAimed, Naming.Chooser, Naming.HasPut, Naming.Rules}
+use Rattle.boot_laws.specs.{declared.choice.Before.Before, DxeAim.GroupsAreAimed, Naming.Chooser, Naming.Rules}
 use Rattle.boot_laws.specs.declared.choice.Reached.TheVariants as R
 use Rattle.boot_trace.specs.Printing.{Texts}
 use Rattle.boot_trace.proofs.Lines.{part_whole}
 use Rattle.store_model.specs.StoreState.{StoreState}
-use Rattle.dxe_core.specs.{Order.Drivers, Standing.DxeCore, Standing.IsFor, Turn.Printed, Turn.PrintedPart}
+use Rattle.dxe_core.specs.{Order.Drivers, Standing.DxeCore, Turn.Printed, Turn.PrintedPart}
 use Rattle.boot_laws.proofs.DriverGrowth.{driver_steps_grow}
 use Rattle.dxe_dispatch.specs.{declared.answer.Turn.Turn, declared.passes.Agenda.Agenda}
 use Rattle.dxe_dispatch.specs.declared.answer.Turn.TheVariants as T
-use Rattle.dxe_dispatch.specs.Choices.{ChoiceTurn, DriverChoice, IsOnWay, KeepsPasses, LetsDrivers, NamesDriver, NamesDrivers, OrNonePut, TurnsBy, TurnsByChoice, aimed_at, came, root_of, texts_of}
+use Rattle.dxe_dispatch.specs.Choices.{DriverChoice, KeepsPasses, LetsDrivers, NamesDriver, NamesDrivers, TurnsBy, aimed_at, root_of}
 use Rattle.dxe_dispatch.specs.{Aim.aimed, Aim.is_free, Aim.may_be_next, Queue.IsSeen, Queue.Queue, Queue.owed}
 use Rattle.dxe_dispatch.specs.PassList.{Follows, FollowsTurn, GetsVolumes, IsPassListOf, PassList, RefillsIdle, turn_kept}
-use Rattle.dxe_dispatch.specs.Passes.{first_in, in_types, or_pass, pass, pass_of, queued, queued_behind, refilled, refilled_over, told_in, told_in_dxe}
+use Rattle.dxe_dispatch.specs.Passes.{first_in, in_types, or_pass, pass, pass_of, queued_behind, refilled, refilled_over, told_in, told_in_dxe}
 use Rattle.dxe_dispatch.specs.{Ends.IsNow, Turns.IsLeft, Turns.StartsNone}
 use Rattle.dxe_dispatch.proofs.{Chosen.within_less, Turning.on_ok}
 use Rattle.dxe_dispatch.proofs.Targets.{Aimed, First, IsTarget, Own}
@@ -186,6 +186,11 @@ turn_from by_choice before told Now Left catalog fuel m first t less more now re
     let here : P before = record { target = by.target; aimed = by.aimed; turned = by.turned; few = on_ok result (within_less catalog fuel by.target more less now fewer) by.few } in
     subst P is here
 
+-- a turn was given up, whatever the cause
+pub other_halt : (Names : DxeMachine → Option ℕ → Type 0) (Lets : DxeMachine → ℕ → Bool) (Now Left : DxeMachine → Type 0) (catalog : Catalog) (fuel : ℕ) (m : DxeMachine) (t : Texts) (before now : ℕ) (halt other : Halt)
+    → TurnsBy Names Lets Now Left catalog fuel m t before now (Err halt) → TurnsBy Names Lets Now Left catalog fuel m t before now (Err other)
+other_halt Names Lets Now Left catalog fuel m t before now halt other by = record { target = by.target; aimed = by.aimed; turned = by.turned; few = tt }
+
 -- the same queue
 pub turn_with : {M : Type 0} (Names : DxeMachine → Option ℕ → Type 0) (Lets : DxeMachine → ℕ → Bool) (stands : M → StoreState → Type 0) (store : M) (catalog : Catalog) (fuel : ℕ) (core : DxeCore) (m : DxeMachine) (t : Texts) (before steps : ℕ) (result : Result Turn Halt) (queue same : Queue) → same ≡ queue
     → TurnsBy Names Lets (IsNow stands store catalog core queue) (IsLeft stands store catalog core queue) catalog fuel m t before (steps + owed queue) result
@@ -204,11 +209,3 @@ names_along choice catalog fuel opening first = NamesDrivers choice.by (told_in_
 
 abbrev pub lets_along : {S : Type 0} → DriverChoice S → Catalog → ℕ → DxeMachine → List DxeMachine → DxeMachine → ℕ → Bool
 lets_along choice catalog fuel opening = LetsDrivers choice.by.rules (told_in_dxe choice catalog fuel opening)
-
--- a turn from a machine of a run
-pub turned_along : {M S : Type 0} (choice : DriverChoice S) (stands : M → StoreState → Type 0) (store : M) (catalog : Catalog) (call : ChoiceTurn S) (result : Result Turn Halt) (fuel : ℕ) (opening : DxeMachine) (earlier : List DxeMachine) (first : S)
-    → TurnsByChoice choice stands store catalog call result → IsFor catalog fuel call.core → IsOnWay stands store catalog call.core call.agenda.queue (came catalog fuel opening earlier)
-    → HasPut choice.by.text choice.by.faults first (came catalog fuel opening earlier).lines call.sink → IsPassListOf catalog choice.by.rules.wants_turn (came catalog fuel opening earlier) (queued catalog fuel opening earlier) call.agenda.passes
-    → OrNonePut (texts_of choice.by.text call) (λ r. (by : TurnsBy (names_along choice catalog fuel opening first earlier) (lets_along choice catalog fuel opening earlier) (IsNow stands store catalog call.later call.grown.queue) (IsLeft stands store catalog call.later call.grown.queue) catalog fuel (came catalog fuel opening earlier) (texts_of choice.by.text call) call.before call.now r)
-    × KeepsPasses choice.by.rules.wants_turn catalog fuel (came catalog fuel opening earlier) (queued catalog fuel opening earlier) call.grown.passes by.target r) result
-turned_along choice stands store catalog call result fuel opening earlier first turned made on has is = turned (came catalog fuel opening earlier) fuel first (queued catalog fuel opening earlier) made on has is

@@ -1,4 +1,4 @@
-use Rattle.std.proofs.Common.{◌≡◌, ◌+◌, ◌-◌, ℕ, List, Err, inl, inr, sym, subst, arith, ◌∙◌, ap, length, drop}
+use Rattle.std.proofs.Common.{◌≡◌, ◌+◌, ◌-◌, ℕ, List, inl, inr, sym, subst, arith, ◌∙◌, ap, length, drop}
 use Rattle.std.proofs.lemmas.Result.{err_from_is_err_and}
 use Rattle.boot_io.proofs.PutsLaws.{appends_none}
 use Rattle.boot_trace.specs.Printing.{Texts}
@@ -7,7 +7,7 @@ use Rattle.dxe_dispatch.specs.{Queue.IsSeen, Queue.Queue, Queue.owed, Ends.IsNow
 use Rattle.dxe_dispatch.specs.Choices.{IsOnWay, NamesDriver}
 use Rattle.dxe_dispatch.specs.{PassList.IsPassListOf, PassList.PassList, Passes.refilled, Passes.told_in}
 use Rattle.dxe_dispatch.proofs.Chosen.{few_started}
-use Rattle.dxe_dispatch.proofs.Following.{choice_of, given_up, keeps_passes, refilled_so, told_so, turn_from, turn_with}
+use Rattle.dxe_dispatch.proofs.Following.{choice_of, given_up, keeps_passes, other_halt, refilled_so, told_so, turn_from, turn_with}
 use Rattle.dxe_dispatch.proofs.turns.turn_by.Goals as goal
 
 pub refill-requires-clause-seen : goal.refill-requires-clause-seen
@@ -46,9 +46,13 @@ returns-in_err-turn-clause-row g c m fuel first queue made on has is =
     let kept = refilled_so catalog choice.by.rules.wants_turn m queue c.args.dxe.now c.args.agenda.now.queue c.args.agenda.now.passes filled.passes on.now.machine.core.frames seen c.in_ok-refill.ensures.row is in
     let told = c.before-before.ensures ∙ told_so choice catalog m queue filled.passes filled.queue.left mid.now.queue.left kept.wanted kept.left in
     let p = err_from_is_err_and c.from_residual-in_err-turn.result c.from_residual-in_err-turn.ensures.1 in
+    let t : Texts = record { old = T c.args.sink.now; new = T c.turn_told.new.sink } in
+    let so = told_in choice catalog m queue in
+    let turned = turn_from choice.by c.before-before.result so (IsNow stands store catalog c.turn_told.new.dxe now.queue) (IsLeft stands store catalog c.turn_told.new.dxe now.queue) catalog fuel m first t
+    (c.refill.new.steps + owed filled.queue) (c.args.steps.now + owed c.args.agenda.now.queue) (c.turn_told.new.steps + owed now.queue) _ told c.refill.ensures.owes (c.in_err-turn.ensures.row m fuel first made mid has) in
     rw p.1 (inr (
-      turn_from choice.by c.before-before.result (told_in choice catalog m queue) (IsNow stands store catalog c.turn_told.new.dxe now.queue) (IsLeft stands store catalog c.turn_told.new.dxe now.queue) catalog fuel m first (record { old = T c.args.sink.now; new = T c.turn_told.new.sink })
-          (c.refill.new.steps + owed filled.queue) (c.args.steps.now + owed c.args.agenda.now.queue) (c.turn_told.new.steps + owed now.queue) (Err _) told c.refill.ensures.owes (c.in_err-turn.ensures.row m fuel first made mid has),
+      other_halt (NamesDriver choice.by so first) (λ m number. choice.by.rules.lets_in_dxe so number) (IsNow stands store catalog c.turn_told.new.dxe now.queue) (IsLeft stands store catalog c.turn_told.new.dxe now.queue) catalog fuel m t
+          (c.args.steps.now + owed c.args.agenda.now.queue) (c.turn_told.new.steps + owed now.queue) _ p.0 turned,
       tt,
     ))
 

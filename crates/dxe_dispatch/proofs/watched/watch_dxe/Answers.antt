@@ -6,7 +6,7 @@ use Rattle.dxe_dispatch.specs.Queue.{owed}
 use Rattle.dxe_dispatch.specs.{Choices.came, Passes.queued, Passes.told_in_dxe}
 use Rattle.dxe_dispatch.proofs.Chosen.{StepLaws}
 use Rattle.dxe_dispatch.proofs.ChosenWays.{coming_few, coming_on, coming_stops, few_left, few_over, none_evaluated, opening_comes, opening_drivers, opening_halts, opening_part, turn_to_come}
-use Rattle.dxe_dispatch.proofs.Following.{choice_of, lets_along, names_along, opening_passes, turned_along}
+use Rattle.dxe_dispatch.proofs.Following.{choice_of, lets_along, names_along, opening_passes}
 use Rattle.dxe_dispatch.proofs.Watching.{says_told, halts_watched, has_reached, opening_now, reached_watched, stands_there, was_step}
 use Rattle.dxe_dispatch.proofs.watched.watch_dxe.Goals as goal
 
@@ -31,6 +31,18 @@ returns-in_err-discover-clause-row g c s actions fuel made stands =
     let Lets = lets_along choice catalog fuel opening in
     let p = err_from_is_err_and c.from_residual.result c.from_residual.ensures.1 in
     halts_watched _ _ _ c.from_residual.result p.0 p.1 (opening_part Names Lets catalog fuel s actions (T c.args.sink.now))
+
+pub returns-in_err-discover-2-clause-row : goal.returns-in_err-discover-2-clause-row
+returns-in_err-discover-2-clause-row g c s actions fuel made stands =
+    let T = g.S.Sink.text in
+    let catalog = c.args.catalog.now in
+    let F = g.S.Sink.faults in
+    let choice = choice_of (g.C.Choice.rules c.args.choice.now) T F c.args.in_pei in
+    let opening = dxe_opening catalog s actions in
+    let Names = names_along choice catalog fuel opening c.args.sink.now in
+    let Lets = lets_along choice catalog fuel opening in
+    let p = err_from_is_err_and c.from_residual-in_err-discover-2.result c.from_residual-in_err-discover-2.ensures.1 in
+    halts_watched _ _ _ c.from_residual-in_err-discover-2.result p.0 p.1 (opening_part Names Lets catalog fuel s actions (T c.args.sink.now))
 
 pub returns-in_err-discover-clause-few_steps : goal.returns-in_err-discover-clause-few_steps
 returns-in_err-discover-clause-few_steps g c s actions fuel made stands =
@@ -101,11 +113,10 @@ pub saw-requires-clause-state : goal.saw-requires-clause-state
 saw-requires-clause-state g c =
     let catalog = c.args.catalog.now in
     let fuel = c.requires.made.0 in
-    let choice = choice_of (g.C.Choice.rules c.args.choice.now) g.S.Sink.text g.S.Sink.faults c.args.in_pei in
     let opening = dxe_opening catalog c.requires.opening.0 c.requires.opening.1 in
     let both = c.turns.invariant.way c.requires.opening.0 c.requires.opening.1 fuel c.requires.made.1 c.requires.opening.2 in
     let way = both.0 in
-    let row = rw c.in-Took.is at (turned_along choice g.M.PeiStore.stands_for c.args.store.now catalog _ _ fuel opening way.earlier c.args.sink.now c.in_ok-step.ensures.row (c.turns.invariant.made fuel c.requires.made.1) way.on way.has both.2) in
+    let row = rw c.in-Took.is at (c.in_ok-step.ensures.row _ fuel c.args.sink.now (queued catalog fuel opening way.earlier) (c.turns.invariant.made fuel c.requires.made.1) way.on way.has both.2) in
     (dxe_step catalog fuel row.0.target, row.0.turned.0.now)
 
 pub turns-preserved : goal.turns-preserved
@@ -122,7 +133,7 @@ turns-preserved g c = record {
       let Lets = lets_along choice catalog fuel opening in
       let both = c.turns.invariant.way s actions fuel made stands in
       let way = both.0 in
-      let row = rw c.in-Took.is at (turned_along choice g.M.PeiStore.stands_for c.args.store.now catalog _ _ fuel opening way.earlier c.args.sink.now c.in_ok-step.ensures.row (c.turns.invariant.made fuel made) way.on way.has both.2) in (
+      let row = rw c.in-Took.is at (c.in_ok-step.ensures.row _ fuel c.args.sink.now (queued catalog fuel opening way.earlier) (c.turns.invariant.made fuel made) way.on way.has both.2) in (
         coming_on laws Names Lets T F g.M.PeiStore.stands_for c.args.store.now catalog fuel opening c.args.sink.now c.turns.counter c.turns.dxe c.turn_by.new.dxe c.turns.agenda.queue c.turn_by.new.agenda.queue c.turns.sink c.turn_by.new.sink
             c.args.steps.now (c.turns.steps + owed c.turns.agenda.queue) (c.turn_by.new.steps + owed c.turn_by.new.agenda.queue) c.in-Took.step c.requires.catalog way row.0 c.in_ok-step.ensures.faults,
         c.saw.ensures.knows_more fuel opening way.earlier row.0.target both.1
@@ -154,7 +165,7 @@ ends-requires-clause-state g c =
     stands_there g.M.PeiStore.stands_for c.args.store.now catalog fuel opening way.earlier c.turn_by.new.dxe c.turn_by.new.agenda.queue c.in-Reached.reached
     (has_reached c.dxe_chooses_by_groups.ensures Names Lets T F g.M.PeiStore.stands_for c.args.store.now catalog fuel opening c.args.sink.now c.turns.counter c.turns.dxe c.turn_by.new.dxe c.turns.agenda.queue c.turn_by.new.agenda.queue c.turns.sink c.turn_by.new.sink
     c.args.steps.now (c.turns.steps + owed c.turns.agenda.queue) (c.turn_by.new.steps + owed c.turn_by.new.agenda.queue) c.in-Reached.reached way
-    (rw c.in-Reached.is at (turned_along choice g.M.PeiStore.stands_for c.args.store.now catalog _ _ fuel opening way.earlier c.args.sink.now c.in_ok-step.ensures.row (c.turns.invariant.made fuel made) way.on way.has both.2)).0)
+    (rw c.in-Reached.is at (c.in_ok-step.ensures.row _ fuel c.args.sink.now (queued catalog fuel opening way.earlier) (c.turns.invariant.made fuel made) way.on way.has both.2)).0)
 
 pub returns-in-Reached-clause-row : goal.returns-in-Reached-clause-row
 returns-in-Reached-clause-row g c s actions fuel made stands =
@@ -167,7 +178,7 @@ returns-in-Reached-clause-row g c s actions fuel made stands =
     let Lets = lets_along choice catalog fuel opening in
     let both = c.turns.invariant.way s actions fuel made stands in
     let way = both.0 in
-    let row = rw c.in-Reached.is at (turned_along choice g.M.PeiStore.stands_for c.args.store.now catalog _ _ fuel opening way.earlier c.args.sink.now c.in_ok-step.ensures.row (c.turns.invariant.made fuel made) way.on way.has both.2) in
+    let row = rw c.in-Reached.is at (c.in_ok-step.ensures.row _ fuel c.args.sink.now (queued catalog fuel opening way.earlier) (c.turns.invariant.made fuel made) way.on way.has both.2) in
     let has = has_reached c.dxe_chooses_by_groups.ensures Names Lets T F g.M.PeiStore.stands_for c.args.store.now catalog fuel opening c.args.sink.now c.turns.counter c.turns.dxe c.turn_by.new.dxe c.turns.agenda.queue c.turn_by.new.agenda.queue c.turns.sink c.turn_by.new.sink
     c.args.steps.now (c.turns.steps + owed c.turns.agenda.queue) (c.turn_by.new.steps + owed c.turn_by.new.agenda.queue) c.in-Reached.reached way row.0 in
     let says = says_told c.dxe_chooses_by_groups.ensures c.groups_are_aimed.ensures choice g.M.PeiStore.stands_for c.args.store.now catalog fuel opening c.args.sink.now c.turns.counter c.turns.dxe c.turn_by.new.dxe c.turns.agenda.queue c.turn_by.new.agenda.queue c.turns.sink c.turn_by.new.sink
@@ -194,7 +205,7 @@ returns-in-Reached-clause-few_starts g c =
     let way = both.0 in
     let few = few_left laws Names Lets T F g.M.PeiStore.stands_for c.args.store.now catalog fuel opening c.args.sink.now c.turns.counter c.turns.dxe c.turn_by.new.dxe c.turns.agenda.queue c.turn_by.new.agenda.queue c.turns.sink c.turn_by.new.sink
     c.args.steps.now (c.turns.steps + owed c.turns.agenda.queue) (c.turn_by.new.steps + owed c.turn_by.new.agenda.queue) c.in-Reached.reached c.requires.catalog way
-    (rw c.in-Reached.is at (turned_along choice g.M.PeiStore.stands_for c.args.store.now catalog _ _ fuel opening way.earlier c.args.sink.now c.in_ok-step.ensures.row (c.turns.invariant.made fuel made) way.on way.has both.2)).0 in
+    (rw c.in-Reached.is at (c.in_ok-step.ensures.row _ fuel c.args.sink.now (queued catalog fuel opening way.earlier) (c.turns.invariant.made fuel made) way.on way.has both.2)).0 in
     let modules = c.requires.catalog.few_modules in
     omega (arith, few, modules)
 
@@ -220,7 +231,7 @@ returns-in-Reached-clause-few g c few =
     let below : fuel < 2 ^ 32 = omega (arith, is, fits) in
     few_over laws Names Lets T F g.M.PeiStore.stands_for c.args.store.now catalog fuel opening c.args.sink.now c.turns.counter c.args.dxe.now c.turns.dxe c.turn_by.new.dxe c.turns.agenda.queue c.turn_by.new.agenda.queue c.turns.sink c.turn_by.new.sink
     c.args.steps.now (c.turns.steps + owed c.turns.agenda.queue) (c.turn_by.new.steps + owed c.turn_by.new.agenda.queue) (2 ^ 32) c.in-Reached.reached below few stands.core (c.in_ok-step.ensures.made fuel (c.turns.invariant.made fuel made)) way
-    (rw c.in-Reached.is at (turned_along choice g.M.PeiStore.stands_for c.args.store.now catalog _ _ fuel opening way.earlier c.args.sink.now c.in_ok-step.ensures.row (c.turns.invariant.made fuel made) way.on way.has both.2)).0
+    (rw c.in-Reached.is at (c.in_ok-step.ensures.row _ fuel c.args.sink.now (queued catalog fuel opening way.earlier) (c.turns.invariant.made fuel made) way.on way.has both.2)).0
 
 pub returns-in-Reached-clause-few_steps : goal.returns-in-Reached-clause-few_steps
 returns-in-Reached-clause-few_steps g c s actions fuel made stands =
@@ -248,7 +259,7 @@ returns-in_err-step-clause-row g c s actions fuel made stands =
     let p = err_from_is_err_and c.from_residual-in_err-step.result c.from_residual-in_err-step.ensures.1 in
     halts_watched _ _ _ c.from_residual-in_err-step.result p.0 p.1 (coming_stops c.dxe_chooses_by_groups.ensures Names Lets T F g.M.PeiStore.stands_for c.args.store.now catalog fuel opening c.args.sink.now c.turns.counter c.turns.dxe c.turn_by.new.dxe c.turns.agenda.queue c.turn_by.new.agenda.queue c.turns.sink c.turn_by.new.sink
     c.args.steps.now (c.turns.steps + owed c.turns.agenda.queue) (c.turn_by.new.steps + owed c.turn_by.new.agenda.queue) _ way
-    (turned_along choice g.M.PeiStore.stands_for c.args.store.now catalog _ _ fuel opening way.earlier c.args.sink.now c.in_err-step.ensures.row (c.turns.invariant.made fuel made) way.on way.has both.2))
+    (c.in_err-step.ensures.row _ fuel c.args.sink.now (queued catalog fuel opening way.earlier) (c.turns.invariant.made fuel made) way.on way.has both.2))
 
 pub returns-in_err-step-clause-few_steps : goal.returns-in_err-step-clause-few_steps
 returns-in_err-step-clause-few_steps g c s actions fuel made stands =
