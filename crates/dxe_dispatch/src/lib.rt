@@ -2,6 +2,8 @@
 //! that is handed in may name the driver, and may bar one. Which driver is next a queue says: the head of those that are scheduled, or the first of the
 //! group of the first eligible driver in discovered order, which the index of the waiting drivers tells.
 //!
+//! A choice that wants to know is told whose turn it is in the order of EDK2's dispatcher: `passes` keeps the queue that this dispatcher would have.
+//!
 //! Tried in `boot_trials`: `tests`, and in `choice_trials`: `drivers`.
 #![tactic(auto)]
 
