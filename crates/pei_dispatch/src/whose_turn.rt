@@ -1,12 +1,13 @@
-// Whose turn it is in the order of EDK2's PEI core.
+//! Whose turn it is in the order of EDK2's PEI core, and what a choice is told of it.
 ghost use Rattle.std.specs.Prelude.{◌≡◌, ◌≤◌, ◌+◌, find};
 ghost use Rattle.boot_model.specs.PeiMachine.{PeiMachine};
 ghost use Rattle.mod_catalog.specs.{WellFormed.IsWellFormed, declared.catalogue.Catalog.Catalog as OfCatalog};
-ghost use Rattle.pei_dispatch.specs.{InTurn.next_again, Queue.owed_by, Turns.IsNow, View.awaits_at};
+ghost use Rattle.pei_dispatch.specs.{InTurn.next_again, InTurn.told_in_pei, Queue.owed_by, Turns.IsNow, View.awaits_at};
 ghost use Rattle.pei_dispatch.specs.InTurn as T;
 
 use crate::PeiQueue;
 use crate::queue::awaits_again;
+use boot_laws::{Before, Choice};
 use boot_model::{PeimState, state_of};
 use depex_code::Steps;
 use mod_catalog::Catalog;
@@ -58,4 +59,27 @@ pub fn in_turn<M: PeiStore + Drop, L: Ledger>(
             queue.choose_from(catalog, from, steps)
         }
     }
+}
+
+/// What the choice is told before a start: how many starts there were, and whose turn it is if it wants to know. If it does not, no part is looked for.
+pub fn before_start<M: PeiStore + Drop, S, C: Choice<S>, L: Ledger>(
+    pei: &Pei<M>,
+    queue: &mut PeiQueue,
+    choice: &C,
+    catalog: &Catalog,
+    steps: &mut Steps<L>,
+) -> Before
+    requires catalog { IsWellFormed catalog.now }
+    requires state { (m : PeiMachine) × IsNow M.stands_for catalog.now pei.now queue.old m }
+    ensures told { (m : PeiMachine) → IsNow M.stands_for catalog.now pei.now queue.old m → result ≡ told_in_pei (C.rules choice.now) catalog.now m }
+    ensures kept { (m : PeiMachine) → IsNow M.stands_for catalog.now pei.now queue.old m
+        → IsNow M.stands_for catalog.now pei.now queue.new m }
+    ensures few_steps { steps.new + owed_by queue.new ≤ steps.old + owed_by queue.old }
+{
+    let starts = u64::from(pei.starts());
+    if choice.wants_turn() {
+        let turn = in_turn(pei, queue, catalog, steps);
+        return Before { starts, turn };
+    }
+    Before { starts, turn: None }
 }
