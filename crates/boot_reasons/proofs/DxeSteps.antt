@@ -1,8 +1,8 @@
 -- What is told of a run of DXE by choices, a turn further.
-use Rattle.std.proofs.Common.{◌≡◌, ◌≤◌, ℕ, ◌+◌, arith, Bool, false, List, [], ◌∷◌, ◌++◌, Option, Some, None, Ok, option_map, is_some, refl, sym, ap, ◌∙◌, subst, option_to_list, append-nil}
+use Rattle.std.proofs.Common.{◌≡◌, ◌≤◌, ℕ, ◌+◌, arith, Bool, false, List, [], ◌∷◌, ◌++◌, Option, Some, None, Ok, option_map, is_some, refl, sym, ap, ◌∙◌, subst, flat_map, option_to_list, append-nil}
 use Rattle.pi_base.specs.{declared.guid.Guid.Guid, declared.phase.Phase.TheVariants.Dxe}
 use Rattle.boot_laws.specs.{UnrequestedDrivers.UnrequestedDriversWait, declared.choice.Before.Before, declared.choice.Reached.Reached, DxeAim.FirstEligibleMayStart, Naming.Rules}
-use Rattle.boot_model.specs.{declared.licence.Licence.Licence, declared.phase_end.DxeEnd.DxeEnd, DriverLicence.target_of, DxeChoice.a_priori_drivers}
+use Rattle.boot_model.specs.{declared.licence.Licence.Licence, declared.phase_end.DxeEnd.DxeEnd, DriverLicence.numbers_of, DriverLicence.target_of, DxeChoice.a_priori_drivers}
 use Rattle.boot_model.specs.declared.licence.Licence.TheVariants as G
 use Rattle.boot_model.specs.{declared.driver.Scheduled.Scheduled, DxeMachine.DxeMachine, DxeRun.dxe_bound, DxeRun.dxe_opening}
 use Rattle.boot_model.specs.DxeStep.{DxeActs, DxeCase, DxeFires, DxeStarts, DxeStops, driver_started, dxe_case_of, dxe_step, in_dxe_case}
@@ -13,12 +13,11 @@ use Rattle.dxe_core.specs.Standing.{DxeCore, IsCoreOf, IsFor, StandsFor}
 use Rattle.dxe_dispatch.specs.{declared.answer.Step.Step, declared.answer.Step.TheVariants.Acted, declared.answer.Step.TheVariants.Started}
 use Rattle.dxe_dispatch.specs.declared.answer.Turn.TheVariants as T
 use Rattle.dxe_dispatch.specs.Choices.{IsAimedBy, IsOnWay, IsRunBy, KeepsPasses, NamesDrivers, TurnsBy, came}
-use Rattle.dxe_dispatch.specs.{declared.passes.Agenda.Agenda, PassList.GetsVolumes, PassList.IsPassListOf, Passes.queued}
+use Rattle.dxe_dispatch.specs.{declared.passes.Agenda.Agenda, PassList.GetsVolumes, PassList.IsPassListOf, PassList.PassList, Passes.in_types, Passes.queued}
 use Rattle.dxe_dispatch.specs.Ends.{IsNow}
 use Rattle.dxe_dispatch.specs.Turns.{IsLeft, IsStep, StartsNone}
 use Rattle.dxe_dispatch.proofs.Chosen.{Any, StepLaws, nearer_by, target_at, waits_behind}
 use Rattle.dxe_dispatch.proofs.ChosenWays.{opening_queue}
-use Rattle.dxe_dispatch.proofs.Following.{opening_passes}
 use Rattle.dxe_dispatch.proofs.Targets.{Aimed, First, IsTarget, Own}
 use Rattle.phase_parts.specs.Frames.{top_of}
 use Rattle.boot_laws.specs.declared.choice.Reached.TheVariants as R
@@ -202,6 +201,17 @@ told_to law Names Others Lets stands store catalog fuel opening turns wants core
         barred = by.turned.barred;
       },
     )
+
+-- at the opening the a priori drivers are in EDK2's queue, if it is kept
+opening_passes : (catalog : Catalog) (wants : Bool) (opening : DxeMachine) (volumes : List ℕ) (old new : PassList) → old ≡ record { wanted = wants; drivers = []; left = [] } → opening.scheduled ≡ a_priori_drivers catalog volumes
+    → volumes ≡ opening.discovered → GetsVolumes catalog volumes old new → IsPassListOf catalog wants opening (numbers_of opening.scheduled) new
+opening_passes catalog wants opening volumes old new is scheduled are gets =
+    let wanted : old.wanted ≡ wants = ap (λ (k : PassList). k.wanted) is in
+    record {
+      wanted = gets.wanted ∙ wanted;
+      drivers = λ w. gets.drivers (wanted ∙ w) ∙ ap (λ (k : PassList). k.drivers ++ flat_map (in_types catalog) volumes) is ∙ ap (flat_map (in_types catalog)) are;
+      left = λ w. gets.left (wanted ∙ w) ∙ ap (λ (k : PassList). k.left ++ numbers_of (a_priori_drivers catalog volumes)) is ∙ ap numbers_of (sym scheduled);
+    }
 
 -- the opening, of which nothing is told
 pub at_opening : {M : Type 0} (opens : DxeOpensUnderWay) (waits : UnrequestedDriversWait) (stands : M → StoreState → Type 0) (store : M) (catalog : Catalog) (fuel : ℕ) (s : StoreState) (actions : ℕ) (wants : Bool) (core : DxeCore) (kept agenda : Agenda) (told : DxeTold)
