@@ -1,5 +1,6 @@
 -- The run by choices so far.
-use Rattle.std.proofs.Common.{◌≡◌, ◌≤◌, ◌<◌, ℕ, ◌+◌, arith, Bool, false, inl, inr, List, [], ◌∷◌, ◌++◌, Option, Ok, Err, refl, sym, ap, ◌∙◌, subst, is_some, length, append-nil}
+use Rattle.std.specs.Bool.{⊤}
+use Rattle.std.proofs.Common.{◌≡◌, ◌⊎◌, ◌≤◌, ◌<◌, ℕ, ◌+◌, arith, Bool, false, inl, inr, List, [], ◌∷◌, ◌++◌, Option, Ok, Err, refl, sym, ap, ◌∙◌, subst, is_some, length, append-nil}
 use Rattle.std.specs.Io.KnownBytes.{Appends}
 use Rattle.boot_io.proofs.PutsLaws.{appends_then, part_then}
 use Rattle.boot_io.specs.{Sink.AppendsPart, declared.halt.Halt.Halt}
@@ -223,6 +224,18 @@ coming_halts first_law Names Lets text faults stands store catalog fuel opening 
           run = (up.aimed, passes, running, way.run);
           part = part_more m step part.told (text first) (text sink) (text shown) (from_target m up.target step part.told same part.lines) way.has.put part.text;
         }
+
+-- or it was given up before anything was named
+pub coming_stops : {M S : Type 0} (first_law : FirstEligibleMayStart) (Names : List DxeMachine → DxeMachine → Option ℕ → Type 0) (Lets : List DxeMachine → DxeMachine → ℕ → Bool) (text : S → Option (List ℕ)) (faults : S → ℕ) (stands : M → StoreState → Type 0) (store : M) (catalog : Catalog) (fuel : ℕ)
+    (opening : DxeMachine) (first : S) (turns : ℕ) (core later : DxeCore) (kept grown : Queue) (sink shown : S) (before evaluated now : ℕ) (halt : Halt)
+    → (way : IsComing Names Lets text faults stands store catalog fuel opening first turns core kept sink before evaluated)
+    → Appends (text sink) (text shown) [] ⊎ (TurnsBy (Names way.earlier) (Lets way.earlier) (IsNow stands store catalog later grown) (IsLeft stands store catalog later grown) catalog fuel (came catalog fuel opening way.earlier) (record { old = text sink; new = text shown }) evaluated now (Err halt) × ⊤)
+    → StopsShort Names Lets catalog fuel opening (text first) (text shown)
+coming_stops first_law Names Lets text faults stands store catalog fuel opening first turns core later kept grown sink shown before evaluated now halt way (inl none) =
+    let lines = text_of (came catalog fuel opening way.earlier).lines in
+    record { earlier = way.earlier; run = way.run; part = part_whole (text first) (text shown) lines (text_still lines (text first) (text sink) (text shown) way.has.put none) }
+coming_stops first_law Names Lets text faults stands store catalog fuel opening first turns core later kept grown sink shown before evaluated now halt way (inr up) =
+    coming_halts first_law Names Lets text faults stands store catalog fuel opening first turns core later kept grown sink shown before evaluated now halt way up.0
 
 -- the bound lets what was evaluated
 pub coming_few : {M S : Type 0} (Names : List DxeMachine → DxeMachine → Option ℕ → Type 0) (Lets : List DxeMachine → DxeMachine → ℕ → Bool) (text : S → Option (List ℕ)) (faults : S → ℕ) (stands : M → StoreState → Type 0) (store : M) (catalog : Catalog) (fuel : ℕ)

@@ -3,6 +3,7 @@ pub mod ChosenWays
 pub mod FirstStarts
 pub mod FirstRuns
 mod Followed
+mod Following
 pub mod Growing
 pub mod Idle
 pub mod Openings

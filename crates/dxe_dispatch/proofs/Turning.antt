@@ -62,6 +62,7 @@ stops_so lets catalog fuel core queue grown m t idle are none put =
       passes = stop_passes lets catalog m idle none.0;
       none = stop_starts_none catalog m idle none.0;
       handles = refl;
+      still = refl;
       ended = refl;
       printed = record { told = stop_lines catalog m; lines = refl; text = put };
       now = record {
@@ -143,6 +144,7 @@ ends_so lets stands store catalog fuel later queue m end t busy ended was =
       passes = busy_passes lets catalog m busy;
       none = busy_starts_none catalog m busy;
       handles = refl;
+      still = refl;
       ended = refl;
       printed = record { told = []; lines = sym (append-nil m.lines); text = ended.stayed.text };
       now = now_still stands store catalog later queue m m.lines (record { machine = ended.stayed.machine; queue = was });
@@ -169,6 +171,7 @@ turns_over lets stands store catalog fuel m later queue t (Ok (Reached (R.End ho
   passes = over.passes;
   none = over.none;
   handles = over.handles;
+  still = over.still;
   ended = over.ended;
   printed = over.printed;
   now = now_over stands store catalog later queue m (record (dxe_step catalog fuel m) { ended = None }) here (driver_steps_grow catalog fuel m).store over.now;

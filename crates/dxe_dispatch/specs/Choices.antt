@@ -127,7 +127,7 @@ TurnsByChoice {S = S} choice stands store catalog call result =
     (m : DxeMachine) (fuel : ℕ) (first : S) (queue : List ℕ) → IsFor catalog fuel call.core → IsOnWay stands store catalog call.core call.agenda.queue m
     → HasPut choice.by.text choice.by.faults first m.lines call.sink → IsPassListOf catalog choice.by.rules.wants_turn m queue call.agenda.passes
     → OrNonePut (texts_of choice.by.text call) (λ result. (by : TurnsBy (NamesDriver choice.by (told_in choice catalog m queue) first)
-    (λ m number. choice.by.rules.lets_in_dxe (told_in choice catalog m queue) number) (IsNow stands store catalog call.later call.grown.queue)
+    (λ target number. choice.by.rules.lets_in_dxe (told_in choice catalog m queue) number) (IsNow stands store catalog call.later call.grown.queue)
     (IsLeft stands store catalog call.later call.grown.queue) catalog fuel m (texts_of choice.by.text call) call.before call.now result)
     × KeepsPasses choice.by.rules.wants_turn catalog fuel m queue call.grown.passes by.target result) result
 

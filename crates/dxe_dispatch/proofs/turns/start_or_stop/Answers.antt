@@ -10,20 +10,20 @@ choose-requires-clause-state g c = (c.requires.state.0, c.requires.state.1)
 pub returns-in_err-next-clause-row : goal.returns-in_err-next-clause-row
 returns-in_err-next-clause-row g c m fuel are idle =
     let p = err_from_is_err_and c.from_residual.result c.from_residual.ensures.1 in
-    rw p.1 (none_put (g.C.Choice.lets_in_dxe c.args.choice.now c.args.starts) c.args.catalog.now m (dxe_step c.args.catalog.now fuel m) (g.S.Sink.text c.args.sink.now))
+    rw p.1 (none_put ((g.C.Choice.rules c.args.choice.now).lets_in_dxe c.args.before) c.args.catalog.now m (dxe_step c.args.catalog.now fuel m) (g.S.Sink.text c.args.sink.now))
 
 pub returns-in_err-start-in-Some-clause-row : goal.returns-in_err-start-in-Some-clause-row
 returns-in_err-start-in-Some-clause-row g c m fuel are idle =
     let chosen = rw c.in-Some.is at (c.in_ok-next.ensures.row m are) in
     let p = err_from_is_err_and c.from_residual-in_err-start-in-Some.result c.from_residual-in_err-start-in-Some.ensures.1 in
-    rw p.1 (part_started (g.C.Choice.lets_in_dxe c.args.choice.now c.args.starts) c.args.catalog.now fuel m c.in-Some.next c.choose.new.queue _ chosen idle (sym c.lets_driver.ensures ∙ c.if-not-lets_driver.false) (c.in_err-start-in-Some.ensures.row m chosen.rest are.core))
+    rw p.1 (part_started ((g.C.Choice.rules c.args.choice.now).lets_in_dxe c.args.before) c.args.catalog.now fuel m c.in-Some.next c.choose.new.queue _ chosen idle (sym c.lets_driver.ensures ∙ c.if-not-lets_driver.false) (c.in_err-start-in-Some.ensures.row m chosen.rest are.core))
 
 pub returns-in_ok-start-in-Some-clause-row : goal.returns-in_ok-start-in-Some-clause-row
 returns-in_ok-start-in-Some-clause-row g c m fuel are idle =
     let next = c.in-Some.next in
     let chosen = rw c.in-Some.is at (c.in_ok-next.ensures.row m are) in
     let driver = rw c.in-Some.is at c.in_ok-next.ensures.driver in
-    let turned = starts_so (g.C.Choice.lets_in_dxe c.args.choice.now c.args.starts) c.args.catalog.now fuel c.start.new.self c.choose.new.queue m next _ chosen idle driver (sym c.lets_driver.ensures ∙ c.if-not-lets_driver.false) (c.in_ok-start-in-Some.ensures.row m chosen.rest are.core) in
+    let turned = starts_so ((g.C.Choice.rules c.args.choice.now).lets_in_dxe c.args.before) c.args.catalog.now fuel c.start.new.self c.choose.new.queue m next _ chosen idle driver (sym c.lets_driver.ensures ∙ c.if-not-lets_driver.false) (c.in_ok-start-in-Some.ensures.row m chosen.rest are.core) in
     (turned, (chosen.rest, case_starts c.args.catalog.now m next chosen.rest idle chosen.next_is))
 
 pub returns-in_err-next-clause-made : goal.returns-in_err-next-clause-made
@@ -87,18 +87,18 @@ start-requires g c =
 pub returns-in_ok-put_stop-in-None-clause-row : goal.returns-in_ok-put_stop-in-None-clause-row
 returns-in_ok-put_stop-in-None-clause-row g c m fuel are idle =
     let none = rw c.in-None.is at (c.in_ok-next.ensures.row m are) in
-    stops_so (g.C.Choice.lets_in_dxe c.args.choice.now c.args.starts) c.args.catalog.now fuel c.args.dxe.now c.args.queue.now c.choose.new.queue m _ idle are none (c.in_ok-put_stop-in-None.ensures.row m (record { core = are.core; queue = none.1 }))
+    stops_so ((g.C.Choice.rules c.args.choice.now).lets_in_dxe c.args.before) c.args.catalog.now fuel c.args.dxe.now c.args.queue.now c.choose.new.queue m _ idle are none (c.in_ok-put_stop-in-None.ensures.row m (record { core = are.core; queue = none.1 }))
 
 pub returns-then-not-lets_driver-clause-row : goal.returns-then-not-lets_driver-clause-row
 returns-then-not-lets_driver-clause-row g c m fuel are idle =
     let chosen = rw c.in-Some.is at (c.in_ok-next.ensures.row m are) in
-    stays_so (g.C.Choice.lets_in_dxe c.args.choice.now c.args.starts) c.args.catalog.now c.args.dxe.now c.args.queue.now c.choose.new.queue m c.in-Some.next _ chosen idle are (sym c.lets_driver.ensures ∙ c.if-not-lets_driver.true)
+    stays_so ((g.C.Choice.rules c.args.choice.now).lets_in_dxe c.args.before) c.args.catalog.now c.args.dxe.now c.args.queue.now c.choose.new.queue m c.in-Some.next _ chosen idle are (sym c.lets_driver.ensures ∙ c.if-not-lets_driver.true)
 
 pub returns-in_err-put_stop-in-None-clause-row : goal.returns-in_err-put_stop-in-None-clause-row
 returns-in_err-put_stop-in-None-clause-row g c m fuel are idle =
     let none = rw c.in-None.is at (c.in_ok-next.ensures.row m are) in
     let p = err_from_is_err_and c.from_residual-in_err-put_stop-in-None.result c.from_residual-in_err-put_stop-in-None.ensures.1 in
-    rw p.1 (part_stopped (g.C.Choice.lets_in_dxe c.args.choice.now c.args.starts) c.args.catalog.now fuel m c.choose.new.queue _ idle none (c.in_err-put_stop-in-None.ensures.row m (record { core = are.core; queue = none.1 })))
+    rw p.1 (part_stopped ((g.C.Choice.rules c.args.choice.now).lets_in_dxe c.args.before) c.args.catalog.now fuel m c.choose.new.queue _ idle none (c.in_err-put_stop-in-None.ensures.row m (record { core = are.core; queue = none.1 })))
 
 pub returns-then-not-lets_driver-clause-made : goal.returns-then-not-lets_driver-clause-made
 returns-then-not-lets_driver-clause-made g c fuel for = for

@@ -15,14 +15,14 @@ act-requires-clause-busy g c idle = true≢false (sym (c.is_idle.ensures.1 idle)
 
 pub returns-then-is_idle-clause-row : goal.returns-then-is_idle-clause-row
 returns-then-is_idle-clause-row g c m fuel made ready =
-    turns_over (g.C.Choice.lets_in_dxe c.args.choice.now c.args.starts) g.M.PeiStore.stands_for c.args.store.now c.args.catalog.now fuel m c.start_or_stop.new.dxe c.start_or_stop.new.queue _ c.start_or_stop.result ready.now.machine.store
+    turns_over ((g.C.Choice.rules c.args.choice.now).lets_in_dxe c.args.before) g.M.PeiStore.stands_for c.args.store.now c.args.catalog.now fuel m c.start_or_stop.new.dxe c.start_or_stop.new.queue _ c.start_or_stop.result ready.now.machine.store
     (c.start_or_stop.ensures.row m fuel (record { core = ready.now.machine.core; queue = ready.now.queue }) (ready.now.machine.core.frames ∙ c.is_idle.ensures.0 c.if-is_idle.true))
 
 pub returns-then-is_idle-clause-owes : goal.returns-then-is_idle-clause-owes
 returns-then-is_idle-clause-owes g c = on_ok c.start_or_stop.result (λ few m fuel made ready. owes_still c.args.catalog.now fuel m _ _ few) c.start_or_stop.ensures.owes
 
 pub returns-else-is_idle-clause-row : goal.returns-else-is_idle-clause-row
-returns-else-is_idle-clause-row g c = c.act.ensures.row (g.C.Choice.lets_in_dxe c.args.choice.now c.args.starts)
+returns-else-is_idle-clause-row g c = c.act.ensures.row ((g.C.Choice.rules c.args.choice.now).lets_in_dxe c.args.before)
 
 pub returns-else-is_idle-clause-owes : goal.returns-else-is_idle-clause-owes
 returns-else-is_idle-clause-owes g c = on_ok c.act.result (λ owes. owes c.args.steps.now) c.act.ensures.owes

@@ -1,77 +1,109 @@
-use Rattle.std.proofs.Common.{arith, ◌+◌, ℕ, ap, ◌∙◌, subst, Option}
+use Rattle.std.proofs.Common.{◌≡◌, ◌+◌, ◌-◌, ℕ, List, Err, inl, inr, sym, subst, arith, ◌∙◌, ap, length, drop}
 use Rattle.std.proofs.lemmas.Result.{err_from_is_err_and}
-use Rattle.boot_model.specs.DxeMachine.{DxeMachine}
-use Rattle.dxe_dispatch.specs.{Queue.owed, Ends.IsNow}
-use Rattle.dxe_dispatch.specs.Choices.{LetsDrivers, NamesDrivers, aimed_at}
-use Rattle.dxe_dispatch.specs.Turns.{AreKeptFor, IsLeft, TurnsDxeTo}
-use Rattle.dxe_dispatch.proofs.Chosen.{Any, StepLaws, aim_by, few_started, has_aimed, not_aimed, starts_are, turned_by, within_less}
-use Rattle.dxe_dispatch.proofs.Turning.{on_ok}
+use Rattle.boot_io.proofs.PutsLaws.{appends_none}
+use Rattle.boot_trace.specs.Printing.{Texts}
+use Rattle.dxe_core.specs.Order.{Drivers}
+use Rattle.dxe_dispatch.specs.{Queue.IsSeen, Queue.Queue, Queue.owed, Ends.IsNow, Turns.IsLeft}
+use Rattle.dxe_dispatch.specs.Choices.{IsOnWay, NamesDriver}
+use Rattle.dxe_dispatch.specs.{PassList.IsPassListOf, PassList.PassList, Passes.refilled, Passes.told_in}
+use Rattle.dxe_dispatch.proofs.Chosen.{few_started}
+use Rattle.dxe_dispatch.proofs.Following.{choice_of, given_up, keeps_passes, refilled_so, told_so, turn_from, turn_with}
 use Rattle.dxe_dispatch.proofs.turns.turn_by.Goals as goal
 
-pub starts-starts-requires : goal.starts-starts-requires
-starts-starts-requires g c =
+pub refill-requires-clause-seen : goal.refill-requires-clause-seen
+refill-requires-clause-seen g c = let on = c.requires.state.3 in (c.requires.state.0, record { queue = on.now.queue; order = on.now.machine.core.services.order })
+
+pub before-before-requires : goal.before-before-requires
+before-before-requires g c =
     let on = c.requires.state.3 in
     let few = few_started c.args.catalog.now c.requires.state.0 on.way in
-    let left = on.now.queue.left in
+    let left = (c.refill.ensures.queue c.requires.state.0 on.now.queue).left in
     let modules = c.requires.catalog.few_modules in
     record { few = omega (arith, few, left, modules) }
 
-pub aim-requires-clause-state : goal.aim-requires-clause-state
-aim-requires-clause-state g c = let on = c.requires.state.3 in (c.requires.state.0, record { core = on.now.machine.core; queue = on.now.queue })
-
-pub turn-requires-clause-state : goal.turn-requires-clause-state
-turn-requires-clause-state g c =
-    let laws : StepLaws = record { nearer = c.dxe_opens.ensures.nearer; own = c.dxe_goes_on.ensures.own; first = c.dxe_chooses_by_groups.ensures; groups = c.groups_are_aimed.ensures } in
-    let catalog = c.args.catalog.now in
+pub turn_told-requires-clause-state : goal.turn_told-requires-clause-state
+turn_told-requires-clause-state g c =
     let m = c.requires.state.0 in
-    let fuel = c.requires.state.1 in
     let on = c.requires.state.3 in
-    let are : AreKeptFor catalog c.args.dxe.now c.args.queue.now m = record { core = on.now.machine.core; queue = on.now.queue } in
-    let names : Option ℕ → Type 0 = g.C.Choice.drivers c.args.choice.now c.args.sink.now c.starts-starts.result in
-    let Names : DxeMachine → Option ℕ → Type 0 = λ m named. names named in
-    let by = aim_by Names names catalog c.args.dxe.now c.args.queue.now m c.named-driver.result (c.named-driver.ensures catalog) are (λ may. may) in
-    let aimed = has_aimed laws Names g.M.PeiStore.stands_for c.args.store.now catalog fuel c.args.dxe.now c.args.queue.now c.aim.new.queue m (aimed_at catalog m c.named-driver.result) c.requires.catalog on by (c.in_ok-aim.ensures.row m are) in
-    (aimed.target, fuel, c.requires.state.2, aimed.ready)
+    (m, c.requires.state.1, c.requires.state.2, record { now = record { machine = on.now.machine; queue = c.refill.ensures.queue m on.now.queue }; way = on.way; waits = on.waits })
 
-pub returns-in_err-aim-clause-row : goal.returns-in_err-aim-clause-row
-returns-in_err-aim-clause-row g c m fuel first made on has =
+pub returns-in_err-refill-clause-row : goal.returns-in_err-refill-clause-row
+returns-in_err-refill-clause-row g c m fuel first queue made on has is =
+    let p = err_from_is_err_and c.from_residual.result c.from_residual.ensures.1 in
+    rw p.1 (inl (appends_none (g.S.Sink.text c.args.sink.now)))
+
+pub returns-in_err-turn-clause-row : goal.returns-in_err-turn-clause-row
+returns-in_err-turn-clause-row g c m fuel first queue made on has is =
     let T = g.S.Sink.text in
     let catalog = c.args.catalog.now in
-    let Names = NamesDrivers (g.C.Choice.drivers c.args.choice.now) T g.S.Sink.faults c.args.in_pei first in
-    let Lets = LetsDrivers (g.C.Choice.lets_in_dxe c.args.choice.now) c.args.in_pei in
-    let are : AreKeptFor catalog c.args.dxe.now c.args.queue.now m = record { core = on.now.machine.core; queue = on.now.queue } in
-    let names : Option ℕ → Type 0 = g.C.Choice.drivers c.args.choice.now c.args.sink.now c.starts-starts.result in
-    let counted = c.starts-starts.ensures ∙ ap (λ n. c.args.in_pei + n) on.now.queue.left in
-    let by = aim_by Names names catalog c.args.dxe.now c.args.queue.now m c.named-driver.result (c.named-driver.ensures catalog) are
-    (λ may. record { sink = c.args.sink.now; has = has; is = subst (λ n. g.C.Choice.drivers c.args.choice.now c.args.sink.now n c.named-driver.result) counted may }) in
-    let p = err_from_is_err_and c.from_residual.result c.from_residual.ensures.1 in
     let stands = g.M.PeiStore.stands_for in
-    rw p.1 (not_aimed Names Lets (IsNow stands c.args.store.now catalog c.args.dxe.now c.aim.new.queue) (IsLeft stands c.args.store.now catalog c.args.dxe.now c.aim.new.queue) catalog fuel m (aimed_at catalog m c.named-driver.result) (T c.args.sink.now) _ _ _ by)
+    let store = c.args.store.now in
+    let choice = choice_of (g.C.Choice.rules c.args.choice.now) T g.S.Sink.faults c.args.in_pei in
+    let filled = c.refill.new.self in
+    let now = c.turn_told.new.agenda in
+    let mid : IsOnWay stands store catalog c.args.dxe.now filled.queue m = record { now = record { machine = on.now.machine; queue = c.refill.ensures.queue m on.now.queue }; way = on.way; waits = on.waits } in
+    let seen : IsSeen catalog m c.args.agenda.now.queue c.args.dxe.now.services.order = record { queue = on.now.queue; order = on.now.machine.core.services.order } in
+    let kept = refilled_so catalog choice.by.rules.wants_turn m queue c.args.dxe.now c.args.agenda.now.queue c.args.agenda.now.passes filled.passes on.now.machine.core.frames seen c.in_ok-refill.ensures.row is in
+    let told = c.before-before.ensures ∙ told_so choice catalog m queue filled.passes filled.queue.left mid.now.queue.left kept.wanted kept.left in
+    let p = err_from_is_err_and c.from_residual-in_err-turn.result c.from_residual-in_err-turn.ensures.1 in
+    rw p.1 (inr (
+      turn_from choice.by c.before-before.result (told_in choice catalog m queue) (IsNow stands store catalog c.turn_told.new.dxe now.queue) (IsLeft stands store catalog c.turn_told.new.dxe now.queue) catalog fuel m first (record { old = T c.args.sink.now; new = T c.turn_told.new.sink })
+          (c.refill.new.steps + owed filled.queue) (c.args.steps.now + owed c.args.agenda.now.queue) (c.turn_told.new.steps + owed now.queue) (Err _) told c.refill.ensures.owes (c.in_err-turn.ensures.row m fuel first made mid has),
+      tt,
+    ))
+
+pub returns-in_err-follow-clause-row : goal.returns-in_err-follow-clause-row
+returns-in_err-follow-clause-row g c m fuel first queue made on has is =
+    let T = g.S.Sink.text in
+    let catalog = c.args.catalog.now in
+    let stands = g.M.PeiStore.stands_for in
+    let store = c.args.store.now in
+    let choice = choice_of (g.C.Choice.rules c.args.choice.now) T g.S.Sink.faults c.args.in_pei in
+    let rules = choice.by.rules in
+    let filled = c.refill.new.self in
+    let now = c.turn_told.new.agenda in
+    let t : Texts = record { old = T c.args.sink.now; new = T c.turn_told.new.sink } in
+    let so = told_in choice catalog m queue in
+    let mid : IsOnWay stands store catalog c.args.dxe.now filled.queue m = record { now = record { machine = on.now.machine; queue = c.refill.ensures.queue m on.now.queue }; way = on.way; waits = on.waits } in
+    let seen : IsSeen catalog m c.args.agenda.now.queue c.args.dxe.now.services.order = record { queue = on.now.queue; order = on.now.machine.core.services.order } in
+    let kept = refilled_so catalog rules.wants_turn m queue c.args.dxe.now c.args.agenda.now.queue c.args.agenda.now.passes filled.passes on.now.machine.core.frames seen c.in_ok-refill.ensures.row is in
+    let told = c.before-before.ensures ∙ told_so choice catalog m queue filled.passes filled.queue.left mid.now.queue.left kept.wanted kept.left in
+    let turned = turn_from choice.by c.before-before.result so (IsNow stands store catalog c.turn_told.new.dxe now.queue) (IsLeft stands store catalog c.turn_told.new.dxe now.queue) catalog fuel m first t
+    (c.refill.new.steps + owed filled.queue) (c.args.steps.now + owed c.args.agenda.now.queue) (c.turn_told.new.steps + owed now.queue) _ told c.refill.ensures.owes (c.in_ok-turn.ensures.row m fuel first made mid has) in
+    let p = err_from_is_err_and c.from_residual-in_err-follow.result c.from_residual-in_err-follow.ensures.1 in
+    rw p.1 (inr (
+      given_up (NamesDriver choice.by so first) (λ m number. rules.lets_in_dxe so number) (IsNow stands store catalog c.turn_told.new.dxe c.follow.new.self.queue) (IsLeft stands store catalog c.turn_told.new.dxe c.follow.new.self.queue) catalog fuel m t
+          (c.args.steps.now + owed c.args.agenda.now.queue) (c.turn_told.new.steps + owed c.follow.new.self.queue) c.in_ok-turn.turn _
+          (turn_with (NamesDriver choice.by so first) (λ m number. rules.lets_in_dxe so number) stands store catalog fuel c.turn_told.new.dxe m t (c.args.steps.now + owed c.args.agenda.now.queue) c.turn_told.new.steps _ now.queue c.follow.new.self.queue c.follow.ensures.queue turned),
+      tt,
+    ))
 
 pub returns-clause-row : goal.returns-clause-row
-returns-clause-row g c m fuel first made on has =
-    let laws : StepLaws = record { nearer = c.dxe_opens.ensures.nearer; own = c.dxe_goes_on.ensures.own; first = c.dxe_chooses_by_groups.ensures; groups = c.groups_are_aimed.ensures } in
+returns-clause-row g c m fuel first queue made on has is =
     let T = g.S.Sink.text in
     let catalog = c.args.catalog.now in
     let stands = g.M.PeiStore.stands_for in
-    let lets = g.C.Choice.lets_in_dxe c.args.choice.now in
-    let Names = NamesDrivers (g.C.Choice.drivers c.args.choice.now) T g.S.Sink.faults c.args.in_pei first in
-    let are : AreKeptFor catalog c.args.dxe.now c.args.queue.now m = record { core = on.now.machine.core; queue = on.now.queue } in
-    let names : Option ℕ → Type 0 = g.C.Choice.drivers c.args.choice.now c.args.sink.now c.starts-starts.result in
-    let counted = c.starts-starts.ensures ∙ ap (λ n. c.args.in_pei + n) on.now.queue.left in
-    let by = aim_by Names names catalog c.args.dxe.now c.args.queue.now m c.named-driver.result (c.named-driver.ensures catalog) are
-    (λ may. record { sink = c.args.sink.now; has = has; is = subst (λ n. g.C.Choice.drivers c.args.choice.now c.args.sink.now n c.named-driver.result) counted may }) in
-    let aimed = has_aimed laws Names stands c.args.store.now catalog fuel c.args.dxe.now c.args.queue.now c.aim.new.queue m (aimed_at catalog m c.named-driver.result) c.requires.catalog on by (c.in_ok-aim.ensures.row m are) in
-    let few = on_ok c.turn.result (λ owes. within_less catalog fuel aimed.target (c.args.steps.now + owed c.args.queue.now) _ _ c.in_ok-aim.ensures.owes (owes aimed.target fuel made aimed.ready)) c.turn.ensures.owes in
-    let same = starts_are c.args.in_pei catalog m aimed.target Any c.args.queue.now c.starts-starts.result c.starts-starts.ensures on.now.queue aimed.is in
-    let turned = subst (λ n. TurnsDxeTo (lets n) (IsNow stands c.args.store.now catalog c.turn.new.dxe c.turn.new.queue) (IsLeft stands c.args.store.now catalog c.turn.new.dxe c.turn.new.queue) catalog fuel aimed.target (record { old = T c.args.sink.now; new = T c.turn.new.sink }) c.turn.result) same (c.turn.ensures.row aimed.target fuel made aimed.ready) in
-    turned_by Names (LetsDrivers lets c.args.in_pei) stands c.args.store.now catalog fuel c.args.dxe.now c.turn.new.dxe c.aim.new.queue c.turn.new.queue m (record { old = T c.args.sink.now; new = T c.turn.new.sink }) (c.args.steps.now + owed c.args.queue.now) _ c.turn.result aimed turned few
-
-pub returns-clause-made : goal.returns-clause-made
-returns-clause-made g c = c.turn.ensures.made
-
-pub returns-clause-queue : goal.returns-clause-queue
-returns-clause-queue g c = c.turn.ensures.queue
-
-pub returns-clause-faults : goal.returns-clause-faults
-returns-clause-faults g c = c.turn.ensures.faults
+    let store = c.args.store.now in
+    let choice = choice_of (g.C.Choice.rules c.args.choice.now) T g.S.Sink.faults c.args.in_pei in
+    let rules = choice.by.rules in
+    let filled = c.refill.new.self in
+    let now = c.turn_told.new.agenda in
+    let t : Texts = record { old = T c.args.sink.now; new = T c.turn_told.new.sink } in
+    let so = told_in choice catalog m queue in
+    let mid : IsOnWay stands store catalog c.args.dxe.now filled.queue m = record { now = record { machine = on.now.machine; queue = c.refill.ensures.queue m on.now.queue }; way = on.way; waits = on.waits } in
+    let seen : IsSeen catalog m c.args.agenda.now.queue c.args.dxe.now.services.order = record { queue = on.now.queue; order = on.now.machine.core.services.order } in
+    let kept = refilled_so catalog rules.wants_turn m queue c.args.dxe.now c.args.agenda.now.queue c.args.agenda.now.passes filled.passes on.now.machine.core.frames seen c.in_ok-refill.ensures.row is in
+    let told = c.before-before.ensures ∙ told_so choice catalog m queue filled.passes filled.queue.left mid.now.queue.left kept.wanted kept.left in
+    let Names = NamesDriver choice.by so first in
+    let turned = turn_from choice.by c.before-before.result so (IsNow stands store catalog c.turn_told.new.dxe now.queue) (IsLeft stands store catalog c.turn_told.new.dxe now.queue) catalog fuel m first t
+    (c.refill.new.steps + owed filled.queue) (c.args.steps.now + owed c.args.agenda.now.queue) (c.turn_told.new.steps + owed now.queue) _ told c.refill.ensures.owes (c.in_ok-turn.ensures.row m fuel first made mid has) in
+    let by = turn_with Names (λ m number. rules.lets_in_dxe so number) stands store catalog fuel c.turn_told.new.dxe m t (c.args.steps.now + owed c.args.agenda.now.queue) c.turn_told.new.steps _ now.queue c.follow.new.self.queue c.follow.ensures.queue turned in
+    let count = ap (λ (q : Queue). q.left - c.left_count-left.result) (sym c.follow.ensures.queue) ∙ ap (λ n. c.follow.new.self.queue.left - n) (c.left_count-left.ensures ∙ mid.now.queue.left) in
+    let volumes = ap (λ (o : Drivers). drop (length c.volumes-known.result.now) o.volumes) c.order-2.ensures
+    ∙ ap (λ xs. drop (length xs) c.turn_told.new.dxe.services.order.volumes) (c.volumes-known.ensures ∙ ap (λ (o : Drivers). o.volumes) c.order.ensures ∙ on.now.machine.core.services.order.volumes_are) in
+    let P : PassList → Type 0 = λ k. IsPassListOf catalog rules.wants_turn m (refilled catalog m queue) k in
+    (
+      by,
+      keeps_passes Names (λ m number. rules.lets_in_dxe so number) stands store (IsLeft stands store catalog c.turn_told.new.dxe c.follow.new.self.queue) catalog fuel m t (c.args.steps.now + owed c.args.agenda.now.queue) (c.turn_told.new.steps + owed c.follow.new.self.queue) c.in_ok-turn.turn
+          rules.wants_turn queue c.turn_told.new.dxe c.follow.new.self.queue now.passes c.follow.new.self.passes _ _ count volumes (subst P (sym c.turn_told.ensures.passes) kept) c.in_ok-follow.ensures.row by,
+    )
