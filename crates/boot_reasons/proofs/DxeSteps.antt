@@ -1,8 +1,8 @@
 -- What is told of a run of DXE by choices, a turn further.
-use Rattle.std.proofs.Common.{◌≡◌, ◌≤◌, ℕ, ◌+◌, arith, Bool, false, List, [], ◌∷◌, ◌++◌, Option, Some, None, Ok, option_map, is_some, refl, sym, ap, ◌∙◌, subst, option_to_list, append-nil}
+use Rattle.std.proofs.Common.{◌≡◌, ◌≤◌, ℕ, ◌+◌, arith, Bool, false, List, [], ◌∷◌, ◌++◌, Option, Some, None, Ok, option_map, is_some, refl, sym, ap, ◌∙◌, subst, flat_map, option_to_list, append-nil}
 use Rattle.pi_base.specs.{declared.guid.Guid.Guid, declared.phase.Phase.TheVariants.Dxe}
-use Rattle.boot_laws.specs.{UnrequestedDrivers.UnrequestedDriversWait, declared.choice.Reached.Reached, DxeAim.FirstEligibleMayStart}
-use Rattle.boot_model.specs.{declared.licence.Licence.Licence, declared.phase_end.DxeEnd.DxeEnd, DriverLicence.target_of}
+use Rattle.boot_laws.specs.{UnrequestedDrivers.UnrequestedDriversWait, declared.choice.Before.Before, declared.choice.Reached.Reached, DxeAim.FirstEligibleMayStart, Naming.Rules}
+use Rattle.boot_model.specs.{declared.licence.Licence.Licence, declared.phase_end.DxeEnd.DxeEnd, DriverLicence.numbers_of, DriverLicence.target_of, DxeChoice.a_priori_drivers}
 use Rattle.boot_model.specs.declared.licence.Licence.TheVariants as G
 use Rattle.boot_model.specs.{declared.driver.Scheduled.Scheduled, DxeMachine.DxeMachine, DxeRun.dxe_bound, DxeRun.dxe_opening}
 use Rattle.boot_model.specs.DxeStep.{DxeActs, DxeCase, DxeFires, DxeStarts, DxeStops, driver_started, dxe_case_of, dxe_step, in_dxe_case}
@@ -12,7 +12,8 @@ use Rattle.dxe_dispatch.specs.Queue.{Discovers, IsNewQueue, Queue}
 use Rattle.dxe_core.specs.Standing.{DxeCore, IsCoreOf, IsFor, StandsFor}
 use Rattle.dxe_dispatch.specs.{declared.answer.Step.Step, declared.answer.Step.TheVariants.Acted, declared.answer.Step.TheVariants.Started}
 use Rattle.dxe_dispatch.specs.declared.answer.Turn.TheVariants as T
-use Rattle.dxe_dispatch.specs.Choices.{IsAimedBy, IsOnWay, IsRunBy, NamesDrivers, TurnsBy, came}
+use Rattle.dxe_dispatch.specs.Choices.{IsAimedBy, IsOnWay, IsRunBy, KeepsPasses, NamesDrivers, TurnsBy, came}
+use Rattle.dxe_dispatch.specs.{declared.passes.Agenda.Agenda, PassList.GetsVolumes, PassList.IsPassListOf, PassList.PassList, Passes.in_types, Passes.queued}
 use Rattle.dxe_dispatch.specs.Ends.{IsNow}
 use Rattle.dxe_dispatch.specs.Turns.{IsLeft, IsStep, StartsNone}
 use Rattle.dxe_dispatch.proofs.Chosen.{Any, StepLaws, nearer_by, target_at, waits_behind}
@@ -25,8 +26,8 @@ use Rattle.store_model.specs.{HandleState.has_protocol, HandleState.no_handles, 
 use Rattle.boot_reasons.specs.{declared.nowhere.Nowhere.Nowhere, declared.told.DxeTold.DxeTold, Givers.actor_in}
 use Rattle.explain_text.specs.{declared.reasons.Giver.Giver, declared.reasons.Giver.TheVariants.Absent}
 use Rattle.boot_reasons.specs.DxeReasons.{beside_by, dxe_begun, dxe_begun_at, dxe_begun_by, dxe_begun_in, dxe_giver}
-use Rattle.boot_reasons.specs.DxeTelling.{EndsTo, IsAtOpening, IsTold, NamesUnseenAfter, Tells}
-use Rattle.boot_reasons.specs.{Noting.AreNoted, Noting.giver_in, Unseen.nowhere}
+use Rattle.boot_reasons.specs.DxeTelling.{EndsTo, IsAtOpening, IsTold, Tells}
+use Rattle.boot_reasons.specs.{Noting.AreNoted, Noting.giver_in, Unseen.NamesUnseenDrivers, Unseen.nowhere, Unseen.unseen_by}
 use Rattle.boot_reasons.proofs.GiverSteps.{actor_present, first_of, giver_on, giver_same, giver_still}
 
 -- what a machine has installed, and who runs in it
@@ -83,12 +84,12 @@ none_begins catalog m giver none = by (dxe_case_of catalog m) refl
     by DxeStops is = refl
 
 -- at the opening of a run no protocol is installed
-first_has_none : (catalog : Catalog) (fuel : ℕ) (Names : DxeMachine → Option ℕ → Type 0) (Lets : DxeMachine → ℕ → Bool) (law : FirstEligibleMayStart) (opening : DxeMachine) (earlier : List DxeMachine) (m : DxeMachine) → opening.handles ≡ no_handles
+first_has_none : (catalog : Catalog) (fuel : ℕ) (Names : List DxeMachine → DxeMachine → Option ℕ → Type 0) (Lets : List DxeMachine → DxeMachine → ℕ → Bool) (law : FirstEligibleMayStart) (opening : DxeMachine) (earlier : List DxeMachine) (m : DxeMachine) → opening.handles ≡ no_handles
     → IsRunBy Names Lets catalog fuel opening earlier → m.handles ≡ (came catalog fuel opening earlier).handles → (guid : Guid) → has_at (first_of earlier m) guid ≡ false
 first_has_none catalog fuel Names Lets law opening [] m none run same guid = ap (λ h. has_protocol h guid) (same ∙ none)
 first_has_none catalog fuel Names Lets law opening (target ∷ earlier) m none run same guid =
     first_has_none catalog fuel Names Lets law opening earlier target none run.3
-    (same_handles catalog (came catalog fuel opening earlier) target Any (target_at Names catalog (came catalog fuel opening earlier) target law run.2 run.0)) guid
+    (same_handles catalog (came catalog fuel opening earlier) target Any (target_at (Names earlier) catalog (came catalog fuel opening earlier) target law run.2 run.0)) guid
 
 -- a run with the turn from this machine, at which the choices were aimed
 pub record Turned (catalog : Catalog) (fuel : ℕ) (opening : DxeMachine) (earlier : List DxeMachine) (target : DxeMachine) : Type 0 where
@@ -96,11 +97,11 @@ pub record Turned (catalog : Catalog) (fuel : ℕ) (opening : DxeMachine) (earli
   pub frames : target.frames ≡ (came catalog fuel opening earlier).frames
   pub first : (guid : Guid) → has_at (first_of earlier target) guid ≡ false
 
-pub turned : (catalog : Catalog) (fuel : ℕ) (Names : DxeMachine → Option ℕ → Type 0) (Lets : DxeMachine → ℕ → Bool) (law : FirstEligibleMayStart) (opening : DxeMachine) (earlier : List DxeMachine) (target : DxeMachine) → opening.handles ≡ no_handles
-    → IsRunBy Names Lets catalog fuel opening earlier → (came catalog fuel opening earlier).ended ≡ None → IsAimedBy Names catalog (came catalog fuel opening earlier) target → Turned catalog fuel opening earlier target
+pub turned : (catalog : Catalog) (fuel : ℕ) (Names : List DxeMachine → DxeMachine → Option ℕ → Type 0) (Lets : List DxeMachine → DxeMachine → ℕ → Bool) (law : FirstEligibleMayStart) (opening : DxeMachine) (earlier : List DxeMachine) (target : DxeMachine) → opening.handles ≡ no_handles
+    → IsRunBy Names Lets catalog fuel opening earlier → (came catalog fuel opening earlier).ended ≡ None → IsAimedBy (Names earlier) catalog (came catalog fuel opening earlier) target → Turned catalog fuel opening earlier target
 turned catalog fuel Names Lets law opening earlier target none run going aimed =
     let m = came catalog fuel opening earlier in
-    let is = target_at Names catalog m target law going aimed in
+    let is = target_at (Names earlier) catalog m target law going aimed in
     let same = same_handles catalog m target Any is in
     record { handles = same; frames = same_frames catalog m target Any is; first = first_has_none catalog fuel Names Lets law opening earlier target none run same }
 
@@ -152,94 +153,103 @@ pub aimed_by : (Names Others : DxeMachine → Option ℕ → Type 0) (catalog : 
 aimed_by Names Others catalog m target may by = record { named = by.named; allowed = λ choosing. may m by.named (by.allowed choosing); busy = by.busy; is = by.is }
 
 -- a run by choices is one by others that may name all that these name
-pub run_by : (Names Others : DxeMachine → Option ℕ → Type 0) (Lets : DxeMachine → ℕ → Bool) (catalog : Catalog) (fuel : ℕ) (opening : DxeMachine) (earlier : List DxeMachine) → ((m : DxeMachine) (named : Option ℕ) → Names m named → Others m named)
+pub run_by : (Names Others : List DxeMachine → DxeMachine → Option ℕ → Type 0) (Lets : List DxeMachine → DxeMachine → ℕ → Bool) (catalog : Catalog) (fuel : ℕ) (opening : DxeMachine) (earlier : List DxeMachine)
+    → ((earlier : List DxeMachine) (m : DxeMachine) (named : Option ℕ) → Names earlier m named → Others earlier m named)
     → IsRunBy Names Lets catalog fuel opening earlier → IsRunBy Others Lets catalog fuel opening earlier
 run_by Names Others Lets catalog fuel opening [] may run = tt
 run_by Names Others Lets catalog fuel opening (target ∷ earlier) may run =
-    (aimed_by Names Others catalog (came catalog fuel opening earlier) target may run.0, run.1, run.2, run_by Names Others Lets catalog fuel opening earlier may run.3)
+    (aimed_by (Names earlier) (Others earlier) catalog (came catalog fuel opening earlier) target (may earlier) run.0, run.1, run.2, run_by Names Others Lets catalog fuel opening earlier may run.3)
 
 -- a machine of the run that has so many turns behind it, and what is told up to it
-pub record IsComing {M : Type 0} (Names : DxeMachine → Option ℕ → Type 0) (Lets : DxeMachine → ℕ → Bool) (stands : M → StoreState → Type 0) (store : M) (catalog : Catalog) (fuel : ℕ)
-    (opening : DxeMachine) (turns : ℕ) (core : DxeCore) (queue : Queue) (told : DxeTold) : Type 0 where
+pub record IsComing {M : Type 0} (Names : List DxeMachine → DxeMachine → Option ℕ → Type 0) (Lets : List DxeMachine → DxeMachine → ℕ → Bool) (stands : M → StoreState → Type 0) (store : M) (catalog : Catalog) (fuel : ℕ)
+    (opening : DxeMachine) (turns : ℕ) (wants : Bool) (core : DxeCore) (agenda : Agenda) (told : DxeTold) : Type 0 where
   pub earlier : List DxeMachine
   pub run : IsRunBy Names Lets catalog fuel opening earlier
-  pub on : IsOnWay stands store catalog core queue (came catalog fuel opening earlier)
+  pub on : IsOnWay stands store catalog core agenda.queue (came catalog fuel opening earlier)
+  pub passes : IsPassListOf catalog wants (came catalog fuel opening earlier) (queued catalog fuel opening earlier) agenda.passes
   pub left : steps_left catalog fuel (came catalog fuel opening earlier) + turns ≤ dxe_bound catalog fuel
   pub is_told : IsTold catalog earlier (came catalog fuel opening earlier) told
 
 -- where it goes no further
-pub told_to : {M : Type 0} (law : FirstEligibleMayStart) (Names Others : DxeMachine → Option ℕ → Type 0) (Lets : DxeMachine → ℕ → Bool) (stands : M → StoreState → Type 0) (store : M) (catalog : Catalog) (fuel : ℕ)
-    (opening : DxeMachine) (turns : ℕ) (core later : DxeCore) (queue grown : Queue) (before now : ℕ) (told : DxeTold) (t : Texts) (reached : Reached DxeEnd) → opening.handles ≡ no_handles
-    → ((m : DxeMachine) (named : Option ℕ) → Names m named → Others m named)
-    → (is : IsComing Names Lets stands store catalog fuel opening turns core queue told)
-    → TurnsBy Names Lets (IsNow stands store catalog later grown) (IsLeft stands store catalog later grown) catalog fuel (came catalog fuel opening is.earlier) t before now (Ok (T.Reached reached))
+pub told_to : {M : Type 0} (law : FirstEligibleMayStart) (Names Others : List DxeMachine → DxeMachine → Option ℕ → Type 0) (Lets : List DxeMachine → DxeMachine → ℕ → Bool) (stands : M → StoreState → Type 0) (store : M) (catalog : Catalog) (fuel : ℕ)
+    (opening : DxeMachine) (turns : ℕ) (wants : Bool) (core later : DxeCore) (agenda : Agenda) (grown : Queue) (before now : ℕ) (told : DxeTold) (t : Texts) (reached : Reached DxeEnd) → opening.handles ≡ no_handles
+    → ((earlier : List DxeMachine) (m : DxeMachine) (named : Option ℕ) → Names earlier m named → Others earlier m named)
+    → (is : IsComing Names Lets stands store catalog fuel opening turns wants core agenda told)
+    → TurnsBy (Names is.earlier) (Lets is.earlier) (IsNow stands store catalog later grown) (IsLeft stands store catalog later grown) catalog fuel (came catalog fuel opening is.earlier) t before now (Ok (T.Reached reached))
     → EndsTo Others Lets stands store catalog fuel opening later grown told reached
-told_to law Names Others Lets stands store catalog fuel opening turns core later queue grown before now told t (R.End how) none may is by =
+told_to law Names Others Lets stands store catalog fuel opening turns wants core later agenda grown before now told t (R.End how) none may is by =
     let earlier = is.earlier in
     let m = came catalog fuel opening earlier in
     let going = is.on.now.machine.core.running in
     let turn = turned catalog fuel Names Lets law opening earlier by.target none is.run going by.aimed in (
       by.target ∷ earlier,
       record {
-        run = (aimed_by Names Others catalog m by.target may by.aimed, by.turned.passes, going, run_by Names Others Lets catalog fuel opening earlier may is.run);
+        run = (aimed_by (Names earlier) (Others earlier) catalog m by.target (may earlier) by.aimed, by.turned.passes, going, run_by Names Others Lets catalog fuel opening earlier may is.run);
         ended = by.turned.ended;
         stands_at_end = by.turned.now;
         is_told = quiet_told catalog fuel opening earlier by.target (dxe_step catalog fuel by.target) told turn is.is_told by.turned.none by.turned.handles;
       },
     )
-told_to law Names Others Lets stands store catalog fuel opening turns core later queue grown before now told t (R.Barred number) none may is by =
+told_to law Names Others Lets stands store catalog fuel opening turns wants core later agenda grown before now told t (R.Barred number) none may is by =
     let earlier = is.earlier in
     let m = came catalog fuel opening earlier in (
       earlier,
       record {
         run = run_by Names Others Lets catalog fuel opening earlier may is.run;
         running = is.on.now.machine.core.running;
-        due = record { target = by.target; aimed = aimed_by Names Others catalog m by.target may by.aimed; starting = by.turned.starting };
+        due = record { target = by.target; aimed = aimed_by (Names earlier) (Others earlier) catalog m by.target (may earlier) by.aimed; starting = by.turned.starting };
         barred = by.turned.barred;
       },
     )
 
--- a sink that tells nothing
-abbrev pub untold : Nowhere → Option (List ℕ)
-untold sink = None
-
-abbrev pub flawless : Nowhere → ℕ
-flawless sink = 0
+-- at the opening the a priori drivers are in EDK2's queue, if it is kept
+opening_passes : (catalog : Catalog) (wants : Bool) (opening : DxeMachine) (volumes : List ℕ) (old new : PassList) → old ≡ record { wanted = wants; drivers = []; left = [] } → opening.scheduled ≡ a_priori_drivers catalog volumes
+    → volumes ≡ opening.discovered → GetsVolumes catalog volumes old new → IsPassListOf catalog wants opening (numbers_of opening.scheduled) new
+opening_passes catalog wants opening volumes old new is scheduled are gets =
+    let wanted : old.wanted ≡ wants = ap (λ (k : PassList). k.wanted) is in
+    record {
+      wanted = gets.wanted ∙ wanted;
+      drivers = λ w. gets.drivers (wanted ∙ w) ∙ ap (λ (k : PassList). k.drivers ++ flat_map (in_types catalog) volumes) is ∙ ap (flat_map (in_types catalog)) are;
+      left = λ w. gets.left (wanted ∙ w) ∙ ap (λ (k : PassList). k.left ++ numbers_of (a_priori_drivers catalog volumes)) is ∙ ap numbers_of (sym scheduled);
+    }
 
 -- the opening, of which nothing is told
-pub at_opening : {M : Type 0} (opens : DxeOpensUnderWay) (waits : UnrequestedDriversWait) (stands : M → StoreState → Type 0) (store : M) (catalog : Catalog) (fuel : ℕ) (s : StoreState) (actions : ℕ) (core : DxeCore) (kept queue : Queue) (told : DxeTold)
-    → IsWellFormed catalog → IsFor catalog fuel core → StandsFor stands store catalog core (dxe_opening catalog s actions) → IsNewQueue catalog kept → Discovers catalog kept core.services.order.volumes queue
-    → told.begun ≡ [] → ((guid : Guid) → giver_in told.givers.map guid ≡ Absent) → IsAtOpening stands store catalog fuel s actions core queue told
-at_opening opens waits stands store catalog fuel s actions core kept queue told well made is new discovers begun givers = record {
+pub at_opening : {M : Type 0} (opens : DxeOpensUnderWay) (waits : UnrequestedDriversWait) (stands : M → StoreState → Type 0) (store : M) (catalog : Catalog) (fuel : ℕ) (s : StoreState) (actions : ℕ) (wants : Bool) (core : DxeCore) (kept agenda : Agenda) (told : DxeTold)
+    → IsWellFormed catalog → IsFor catalog fuel core → StandsFor stands store catalog core (dxe_opening catalog s actions) → IsNewQueue catalog kept.queue → kept.passes ≡ record { wanted = wants; drivers = []; left = [] }
+    → Discovers catalog kept.queue core.services.order.volumes agenda.queue → GetsVolumes catalog core.services.order.volumes kept.passes agenda.passes
+    → told.begun ≡ [] → ((guid : Guid) → giver_in told.givers.map guid ≡ Absent) → IsAtOpening stands store catalog fuel s actions wants core agenda told
+at_opening opens waits stands store catalog fuel s actions wants core kept agenda told well made is new blank discovers gets begun givers = record {
   made = made;
   on = record {
-    now = record { machine = is; queue = opening_queue catalog kept queue core.services.order.volumes s actions new is.core.services.order.volumes_are discovers };
+    now = record { machine = is; queue = opening_queue catalog kept.queue agenda.queue core.services.order.volumes s actions new is.core.services.order.volumes_are discovers };
     way = (opens catalog fuel s actions well.parents).way;
     waits = waits catalog well fuel 0 s actions;
   };
+  passes = opening_passes catalog wants (dxe_opening catalog s actions) core.services.order.volumes kept.passes agenda.passes blank (ap (a_priori_drivers catalog) (sym is.core.services.order.volumes_are)) is.core.services.order.volumes_are gets;
   is_told = record { begun = begun; givers = givers };
 }
 
 -- from there so many turns are left as the bound lets
-pub comes_first : {M : Type 0} (opens : DxeOpensUnderWay) (Names : DxeMachine → Option ℕ → Type 0) (Lets : DxeMachine → ℕ → Bool) (stands : M → StoreState → Type 0) (store : M) (catalog : Catalog) (fuel : ℕ) (s : StoreState) (actions : ℕ) (core : DxeCore) (queue : Queue) (told : DxeTold)
-    → IsWellFormed catalog → IsAtOpening stands store catalog fuel s actions core queue told → IsComing Names Lets stands store catalog fuel (dxe_opening catalog s actions) 0 core queue told
-comes_first opens Names Lets stands store catalog fuel s actions core queue told well at =
+pub comes_first : {M : Type 0} (opens : DxeOpensUnderWay) (Names : List DxeMachine → DxeMachine → Option ℕ → Type 0) (Lets : List DxeMachine → DxeMachine → ℕ → Bool) (stands : M → StoreState → Type 0) (store : M) (catalog : Catalog) (fuel : ℕ) (s : StoreState) (actions : ℕ) (wants : Bool) (core : DxeCore) (agenda : Agenda) (told : DxeTold)
+    → IsWellFormed catalog → IsAtOpening stands store catalog fuel s actions wants core agenda told → IsComing Names Lets stands store catalog fuel (dxe_opening catalog s actions) 0 wants core agenda told
+comes_first opens Names Lets stands store catalog fuel s actions wants core agenda told well at =
     let few = (opens catalog fuel s actions well.parents).few in
-    record { earlier = []; run = tt; on = at.on; left = omega (arith, few); is_told = at.is_told }
+    record { earlier = []; run = tt; on = at.on; passes = at.passes; left = omega (arith, few); is_told = at.is_told }
 
 -- one turn more
-pub told_further : {M : Type 0} (laws : StepLaws) (Names : DxeMachine → Option ℕ → Type 0) (Lets : DxeMachine → ℕ → Bool) (stands : M → StoreState → Type 0) (store : M) (catalog : Catalog) (fuel : ℕ)
-    (opening : DxeMachine) (turns : ℕ) (core later : DxeCore) (queue grown : Queue) (before now : ℕ) (told after : DxeTold) (t : Texts) (actor : Giver) (step : Step) → IsWellFormed catalog → opening.handles ≡ no_handles
-    → (is : IsComing Names Lets stands store catalog fuel opening turns core queue told)
-    → TurnsBy Names Lets (IsNow stands store catalog later grown) (IsLeft stands store catalog later grown) catalog fuel (came catalog fuel opening is.earlier) t before now (Ok (T.Took step))
+pub told_further : {M : Type 0} (laws : StepLaws) (Names : List DxeMachine → DxeMachine → Option ℕ → Type 0) (Lets : List DxeMachine → DxeMachine → ℕ → Bool) (stands : M → StoreState → Type 0) (store : M) (catalog : Catalog) (fuel : ℕ)
+    (opening : DxeMachine) (turns : ℕ) (wants : Bool) (core later : DxeCore) (agenda grown : Agenda) (before now : ℕ) (told after : DxeTold) (t : Texts) (actor : Giver) (step : Step) → IsWellFormed catalog → opening.handles ≡ no_handles
+    → (is : IsComing Names Lets stands store catalog fuel opening turns wants core agenda told)
+    → (by : TurnsBy (Names is.earlier) (Lets is.earlier) (IsNow stands store catalog later grown.queue) (IsLeft stands store catalog later grown.queue) catalog fuel (came catalog fuel opening is.earlier) t before now (Ok (T.Took step)))
+    → KeepsPasses wants catalog fuel (came catalog fuel opening is.earlier) (queued catalog fuel opening is.earlier) grown.passes by.target (Ok (T.Took step))
     → actor ≡ actor_in core.frames → Tells catalog later actor step told after
-    → IsComing Names Lets stands store catalog fuel opening (turns + 1) later grown after
-told_further laws Names Lets stands store catalog fuel opening turns core later queue grown before now told after t actor step well none is by acts tells =
+    → IsComing Names Lets stands store catalog fuel opening (turns + 1) wants later grown after
+told_further laws Names Lets stands store catalog fuel opening turns wants core later agenda grown before now told after t actor step well none is by keeps acts tells =
     let earlier = is.earlier in
     let m = came catalog fuel opening earlier in
     let going = is.on.now.machine.core.running in
     let turn = turned catalog fuel Names Lets laws.first opening earlier by.target none is.run going by.aimed in
-    let aim = target_at Names catalog m by.target laws.first going by.aimed in
+    let aim = target_at (Names earlier) catalog m by.target laws.first going by.aimed in
     let near = nearer_by laws catalog fuel m by.target Any well going is.on.way aim in
     let less = near.less in
     let left = is.left in
@@ -247,15 +257,16 @@ told_further laws Names Lets stands store catalog fuel opening turns core later 
       earlier = by.target ∷ earlier;
       run = (by.aimed, by.turned.0.passes, going, is.run);
       on = record { now = by.turned.0.now; way = near.way; waits = waits_behind laws.groups catalog fuel m by.target Any well is.on.way is.on.waits aim };
+      passes = keeps;
       left = omega (arith, less, left);
       is_told = told_on catalog fuel opening earlier by.target later told after actor step turn is.is_told by.turned.1 by.turned.0.now.machine.core
           (acts ∙ ap actor_in (sym (turn.frames ∙ is.on.now.machine.core.frames))) tells;
     }
 
 -- with no turn left the run has ended
-pub turn_to_come : {M : Type 0} (ended : DxeHasEnded) (Names : DxeMachine → Option ℕ → Type 0) (Lets : DxeMachine → ℕ → Bool) (stands : M → StoreState → Type 0) (store : M) (catalog : Catalog) (fuel : ℕ)
-    (opening : DxeMachine) (turns : ℕ) (core : DxeCore) (queue : Queue) (told : DxeTold) → IsComing Names Lets stands store catalog fuel opening turns core queue told → dxe_bound catalog fuel ≤ turns → ⊥
-turn_to_come ended Names Lets stands store catalog fuel opening turns core queue told is all =
+pub turn_to_come : {M : Type 0} (ended : DxeHasEnded) (Names : List DxeMachine → DxeMachine → Option ℕ → Type 0) (Lets : List DxeMachine → DxeMachine → ℕ → Bool) (stands : M → StoreState → Type 0) (store : M) (catalog : Catalog) (fuel : ℕ)
+    (opening : DxeMachine) (turns : ℕ) (wants : Bool) (core : DxeCore) (agenda : Agenda) (told : DxeTold) → IsComing Names Lets stands store catalog fuel opening turns wants core agenda told → dxe_bound catalog fuel ≤ turns → ⊥
+turn_to_come ended Names Lets stands store catalog fuel opening turns wants core agenda told is all =
     let m = came catalog fuel opening is.earlier in
     let left = is.left in
     let none : steps_left catalog fuel m ≡ 0 = omega (arith, left, all) in
@@ -264,5 +275,5 @@ turn_to_come ended Names Lets stands store catalog fuel opening turns core queue
     absurd (cc)
 
 -- what a choice that sees no text may name, looking into this sink or that
-pub unseen : (names : Nowhere → ℕ → Option ℕ → Type 0) (in_pei : ℕ) (m : DxeMachine) (named : Option ℕ) → NamesDrivers names untold flawless in_pei nowhere m named → NamesUnseenAfter names in_pei m named
-unseen names in_pei m named may = may.is
+pub unseen : (rules : Rules Nowhere) (told : List DxeMachine → Before) (earlier : List DxeMachine) (m : DxeMachine) (named : Option ℕ) → NamesDrivers (unseen_by rules) told nowhere earlier m named → NamesUnseenDrivers rules told earlier m named
+unseen rules told earlier m named may = may.is

@@ -18,7 +18,7 @@ use Rattle.dxe_dispatch.specs.Choices as D
 use Rattle.dxe_dispatch.specs.Turns.{PassesStart}
 use Rattle.dxe_dispatch.proofs.Targets.{Doing, HasScheduled, MayChoose, RunsScript, doing, none_aimed, none_named}
 use Rattle.boot_core.specs.Choices.{Choices}
-use Rattle.boot_core.proofs.OneRun.{Boot, DxeStands, RunLaws, Stands, barred, came, differ, dxe_barred, dxe_over, one_due, one_dxe_run, one_run, one_target, over}
+use Rattle.boot_core.proofs.OneRun.{Boot, DxeStands, IsDue, Stands, barred, came, differ, dxe_barred, dxe_over, one_due, one_dxe_run, one_run, one_target, over}
 use Rattle.boot_reasons.specs.{declared.dxe.DxeExplained.DxeExplained, declared.pei.PeiExplained.PeiExplained}
 use Rattle.explain_text.specs.declared.reasons.Explained.{Explained}
 use Rattle.boot_reasons.specs.{Boots.HasOneExplanation, Joining.together, PeiEnding.IsPeiExplained}
@@ -114,13 +114,13 @@ one_left b one other (left_in_dxe e pei run handed before x) (left_in_dxe f last
     let way : before ≡ after = one_dxe_run b last before after there.run (dxe_barred one there.due there.barred) y.run (dxe_barred other y.due y.barred) in
     one_driver b last after (came b last after) one other y.running (subst (λ xs. D.IsDue (b.by.drivers last xs) b.catalog (came b last xs) one) way there.due) y.due
 
-pub one_boot : (laws : RunLaws) (by : Choices) → HasOneExplanation by
-one_boot laws by names board catalog fuel well one other p q = same one other p q
+pub one_boot : (laws : RunLaws) (by : Catalog → ℕ → Choices) → HasOneExplanation by
+one_boot laws by board catalog fuel names well one other p q = same one other p q
   where
     b : Boot
-    b = record { by = by; board = board; catalog = catalog; fuel = fuel; well = well; names = names; laws = laws }
+    b = record { by = by catalog fuel; board = board; catalog = catalog; fuel = fuel; well = well; names = names; laws = laws }
 
-    same : (one other : Reached Explained) → ExplainsTo by board catalog fuel one → ExplainsTo by board catalog fuel other → one ≡ other
+    same : (one other : Reached Explained) → ExplainsTo (by catalog fuel) board catalog fuel one → ExplainsTo (by catalog fuel) board catalog fuel other → one ≡ other
     same (R.End x) (R.End y) p q = ap R.End (one_explained b x y p q)
     same (R.End x) (R.Barred n) p q = absurd (not_left b x n p q)
     same (R.Barred m) (R.End y) p q = absurd (not_left b y m q p)

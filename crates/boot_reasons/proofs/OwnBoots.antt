@@ -21,13 +21,13 @@ result_of : (one other : Explained) → one ≡ other → other.result ≡ one.r
 result_of one other same = ap (λ (x : Explained). x.result) (sym same)
 
 -- it is a boot by these choices
-pub boot_of : (by : Choices) → ExplainsBoots by
+pub boot_of : (by : Catalog → ℕ → Choices) → ExplainsBoots by
 boot_of by board catalog fuel e is = after is.first.«end» refl is.ends
   where
     so : (how : PeiEnd) → is.first.«end» ≡ how → is.pei.ended ≡ Some how
     so how same = is.peims.ended ∙ ap Some same
 
-    after : (how : PeiEnd) → is.first.«end» ≡ how → IsExplainedAfter by catalog fuel is.pei is.first how e → IsOfBoot by board catalog fuel e is
+    after : (how : PeiEnd) → is.first.«end» ≡ how → IsExplainedAfter (by catalog fuel) catalog fuel is.pei is.first how e → IsOfBoot (by catalog fuel) board catalog fuel e is
     after Handoff same ends =
         let drivers = ends.drivers in
         let m = came catalog fuel (dxe_opening catalog is.pei.store is.pei.actions) drivers.earlier in
@@ -115,10 +115,10 @@ unfolding end_of
 end_is_of board catalog fuel end is = is
 
 -- choices that name none lead to the machine's own end of DXE
-own_drivers : (dxe_ends : DxeRunsEnd) (catalog : Catalog) (fuel : ℕ) (pei : PeiMachine) (first : PeiExplained) (e : Explained) → IsWellFormed catalog → (ends : IsExplainedInDxe own_choices catalog fuel pei first e)
+own_drivers : (dxe_ends : DxeRunsEnd) (catalog : Catalog) (fuel : ℕ) (pei : PeiMachine) (first : PeiExplained) (e : Explained) → IsWellFormed catalog → (ends : IsExplainedInDxe (own_choices catalog fuel) catalog fuel pei first e)
     → came catalog fuel (dxe_opening catalog pei.store pei.actions) ends.drivers.earlier ≡ dxe_end catalog fuel pei.store pei.actions
 own_drivers dxe_ends catalog fuel pei first e well ends =
-    D.first_end (own_choices.drivers pei) (own_choices.lets_driver pei) catalog fuel (dxe_bound catalog fuel) (dxe_opening catalog pei.store pei.actions) ends.drivers.earlier ends.second.«end» (λ x named none. none)
+    D.first_end ((own_choices catalog fuel).drivers pei) ((own_choices catalog fuel).lets_driver pei) catalog fuel (dxe_bound catalog fuel) (dxe_opening catalog pei.store pei.actions) ends.drivers.earlier ends.second.«end» (λ over x named none. none)
     (dxe_ends catalog well.parents fuel pei.store pei.actions) ends.drivers.run ends.drivers.explained.ended
 
 pub own_boot : (pei_ends : PeiRunsEnd) (dxe_ends : DxeRunsEnd) (board : Board) (catalog : Catalog) (fuel : ℕ) (e : Explained) → IsWellFormed catalog → (is : IsExplained board catalog fuel e) → IsOfOwnBoot board catalog fuel e is
@@ -129,7 +129,7 @@ own_boot pei_ends dxe_ends board catalog fuel e well is = record {
 }
   where
     same : is.pei ≡ pei_end board catalog fuel
-    same = P.first_end pei_ends own_choices.peims own_choices.lets_peim board catalog fuel is.pei is.first.«end» (λ m named none. none) (record { earlier = is.earlier; run = is.run }) is.peims.ended
+    same = P.first_end pei_ends (own_choices catalog fuel).peims (own_choices catalog fuel).lets_peim board catalog fuel is.pei is.first.«end» (λ m named none. none) (record { earlier = is.earlier; run = is.run }) is.peims.ended
 
     Result : PeiMachine → Type 0
     Result x = end_after catalog fuel x x.ended ≡ Some e.result
@@ -137,7 +137,7 @@ own_boot pei_ends dxe_ends board catalog fuel e well is = record {
     so : (how : PeiEnd) (o : Option RunEnd) → is.first.«end» ≡ how → end_after catalog fuel is.pei (Some how) ≡ o → end_after catalog fuel is.pei is.pei.ended ≡ o
     so how o this f = ap (end_after catalog fuel is.pei) (is.peims.ended ∙ ap Some this) ∙ f
 
-    after : (how : PeiEnd) → is.first.«end» ≡ how → IsExplainedAfter own_choices catalog fuel is.pei is.first how e → Result is.pei
+    after : (how : PeiEnd) → is.first.«end» ≡ how → IsExplainedAfter (own_choices catalog fuel) catalog fuel is.pei is.first how e → Result is.pei
     after Handoff this ends =
         let last = own_drivers dxe_ends catalog fuel is.pei is.first e well ends in
         let over : (dxe_end catalog fuel is.pei.store is.pei.actions).ended ≡ Some ends.second.«end» = ap (λ (x : DxeMachine). x.ended) (sym last) ∙ ends.drivers.explained.ended in
@@ -147,7 +147,7 @@ own_boot pei_ends dxe_ends board catalog fuel e well is = record {
     after Spent this ends = so Spent (Some e.result) this (ap Some (result_of e (alone is.first is.pei.actions E.Spent) ends))
     after Deep this ends = so Deep (Some e.result) this (ap Some (result_of e (alone is.first is.pei.actions E.Deep) ends))
 
-    told : (how : PeiEnd) → is.first.«end» ≡ how → IsExplainedAfter own_choices catalog fuel is.pei is.first how e → is.pei.ended ≡ Some Handoff → AreDriversOf (dxe_end catalog fuel is.pei.store is.pei.actions) e
+    told : (how : PeiEnd) → is.first.«end» ≡ how → IsExplainedAfter (own_choices catalog fuel) catalog fuel is.pei is.first how e → is.pei.ended ≡ Some Handoff → AreDriversOf (dxe_end catalog fuel is.pei.store is.pei.actions) e
     told Handoff this ends handed =
         let last = own_drivers dxe_ends catalog fuel is.pei is.first e well ends in
         record {

@@ -66,15 +66,15 @@ AlikeAreShown = (catalog : Catalog) (queue : PeiQueue) (view other : View) → S
 -- the queue knows the volumes of the opening
 pub opened : {M : Type 0} (alike : AlikeAreShown) (stands : M → StoreState → Type 0) (board : Board) (catalog : Catalog) (fuel : ℕ) (pei : Pei M) (fresh queue : PeiQueue) (volumes : List ℕ)
     → IsFor catalog fuel pei → StandsFor stands pei (pei_opening board catalog) → IsNewQueue catalog fresh → volumes ≡ (pei_opening board catalog).reported
-    → ShowsBehind catalog fresh queue (AreNew volumes) (with_volumes volumes) → queue.cursor ≡ fresh.cursor → IsNow stands catalog pei queue (pei_opening board catalog)
-opened alike stands board catalog fuel pei fresh queue volumes made stand new are shows place =
+    → ShowsBehind catalog fresh queue (AreNew volumes) (with_volumes volumes) → queue.cursor ≡ fresh.cursor → queue.walked ≡ fresh.walked → IsNow stands catalog pei queue (pei_opening board catalog)
+opened alike stands board catalog fuel pei fresh queue volumes made stand new are shows place walked =
     let m = pei_opening board catalog in
     let differ : AllDiffer volumes = subst AllDiffer (sym (are ∙ stand.has.fields.reported)) made.known.differ in
     let same : AreAlike (with_volumes volumes first_view) (view_of m) = record { volumes = are; starts = λ n. refl; allows = λ n h. refl; installs = λ guid. refl } in
     let shown : Shows catalog queue (view_of m) = alike catalog queue (with_volumes volumes first_view) (view_of m) (shows first_view new.shows differ) same in
     let order : ℕ = length (pei_order catalog m.reported) in
     let within : 0 ≤ order = omega arith in
-    record { machine = stand; parts = record { shows = shown; place = sym (place ∙ new.place) }; within = within }
+    record { machine = stand; parts = record { shows = shown; place = sym (place ∙ new.place); walked = walked ∙ new.walked }; within = within }
 
 -- nothing is told at the opening
 pub at_opening : {M : Type 0} (opens : PeiOpensUnderWay) (Names : PeiMachine → Option ℕ → Type 0) (Lets : PeiMachine → ℕ → Bool) (stands : M → StoreState → Type 0) (board : Board) (catalog : Catalog) (fuel : ℕ) (pei : Pei M) (queue : PeiQueue) (told : PeiTold)

@@ -8,9 +8,9 @@ use Rattle.boot_model.specs.{PeiMachine.PeiMachine, PeiRun.pei_opening}
 use Rattle.boot_model.specs.PeiStep.{Stops, case_of, pei_step, started, started_part, stopped, with_start}
 use Rattle.boot_trace.specs.Printing.{Texts}
 use Rattle.mod_catalog.specs.{declared.catalogue.Catalog.Catalog, declared.catalogue.Part.Part, Parts.has_number, Parts.part_at}
-use Rattle.boot_laws.specs.{PeiAim.CursorAims, PeiAim.with_cursor, PeiFree.IsOwnCase, PeiFree.OwnPeiStepsAreFree}
+use Rattle.boot_laws.specs.{declared.choice.Before.Before, Naming.Rules, PeiAim.CursorAims, PeiAim.with_cursor, PeiFree.IsOwnCase, PeiFree.OwnPeiStepsAreFree}
 use Rattle.boot_laws.specs.PeiUnderWay.{IsUnderWay, PeiStepsRunOut}
-use Rattle.pei_dispatch.specs.{declared.queue.PeiQueue.PeiQueue, Queue.IsQueueOf, Queue.parts_in, View.event_guids, Ends.pei_starts}
+use Rattle.pei_dispatch.specs.{declared.queue.PeiQueue.PeiQueue, Queue.IsQueueOf, Queue.parts_in, View.event_guids, InTurn.told_in_pei}
 use Rattle.pei_core.specs.{declared.event.Event.Event, declared.pei.Pei.Pei, Standing.StandsFor, Steps.IsEvent, Steps.IsIdle}
 use Rattle.pei_dispatch.specs.Choices.{IsDue, IsPlaceFor, IsRunBy, IsStepBy}
 use Rattle.pei_dispatch.specs.Turns.{HasTurned, IsNext, IsNow, IsOver}
@@ -140,14 +140,14 @@ went_on change these laws Names Lets stands board catalog fuel earlier m pei lat
     actor_in_present x = actor_present _
 
 -- the cursor is put where the choice, which sees no text, names it
-pub chose_unseen : (names : Nowhere → ℕ → Option ℕ → Type 0) (catalog : Catalog) (m : PeiMachine) (old new : PeiQueue) (starts : ℕ) (named : Option ℕ)
-    → CursorAims → IsIdle m → IsUnderWay catalog m → IsQueueOf catalog m old → starts ≡ pei_starts m → names nowhere starts named → IsPlaceFor (parts_in old) old.cursor named new.cursor
-    → Chose (NamesUnseen names) catalog m new.cursor
-chose_unseen names catalog m old new starts named aims idle way of count is place = record {
+pub chose_unseen : (rules : Rules Nowhere) (catalog : Catalog) (m : PeiMachine) (old new : PeiQueue) (before : Before) (named : Option ℕ)
+    → CursorAims → IsIdle m → IsUnderWay catalog m → IsQueueOf catalog m old → before ≡ told_in_pei rules catalog m → rules.peims nowhere before named → IsPlaceFor (parts_in old) old.cursor named new.cursor
+    → Chose (NamesUnseen rules catalog) catalog m new.cursor
+chose_unseen rules catalog m old new before named aims idle way of told is place = record {
   idle = idle;
   way = way;
   named = named;
-  allowed = subst (λ n. names nowhere n named) count is;
+  allowed = subst (λ b. rules.peims nowhere b named) told is;
   place = subst (λ xs. IsPlaceFor xs m.cursor named new.cursor) of.shows.order (subst (λ n. IsPlaceFor (parts_in old) n named new.cursor) (sym of.place) place);
   aims = aims catalog m new.cursor;
 }

@@ -10,11 +10,11 @@ use Rattle.boot_core.specs.{WholeEnd.end_of, ByChoice.BootBy, Choices.Choices, C
 use Rattle.explain_text.specs.declared.reasons.Explained.{Explained}
 use Rattle.boot_reasons.specs.Explained.{ExplainsTo, IsExplained, IsExplainedBy}
 
--- over each board a boot by such choices has one explanation, or is left before one start
-abbrev pub HasOneExplanation : Choices → Type 0
+-- over each board a boot by such choices, those of its catalogue and fuel, has one explanation, or is left before one start
+abbrev pub HasOneExplanation : (Catalog → ℕ → Choices) → Type 0
 HasOneExplanation by =
-    NameOne by → (board : Board) (catalog : Catalog) (fuel : ℕ) → IsWellFormed catalog → (one other : Reached Explained)
-    → ExplainsTo by board catalog fuel one → ExplainsTo by board catalog fuel other → one ≡ other
+    (board : Board) (catalog : Catalog) (fuel : ℕ) → NameOne (by catalog fuel) → IsWellFormed catalog → (one other : Reached Explained)
+    → ExplainsTo (by catalog fuel) board catalog fuel one → ExplainsTo (by catalog fuel) board catalog fuel other → one ≡ other
 
 -- a boot by these choices, whose last machine of PEI is the one that is explained, and whose result is the one that is told
 pub record IsOfBoot (by : Choices) (board : Board) (catalog : Catalog) (fuel : ℕ) (e : Explained) (is : IsExplainedBy by board catalog fuel e) : Type 0 where
@@ -23,8 +23,10 @@ pub record IsOfBoot (by : Choices) (board : Board) (catalog : Catalog) (fuel : �
   pub result_is : boot.result ≡ e.result
 
 -- each explanation is of such a boot
-abbrev pub ExplainsBoots : Choices → Type 0
-ExplainsBoots by = (board : Board) (catalog : Catalog) (fuel : ℕ) (e : Explained) (is : IsExplainedBy by board catalog fuel e) → IsOfBoot by board catalog fuel e is
+abbrev pub ExplainsBoots : (Catalog → ℕ → Choices) → Type 0
+ExplainsBoots by =
+    (board : Board) (catalog : Catalog) (fuel : ℕ) (e : Explained) (is : IsExplainedBy (by catalog fuel) board catalog fuel e)
+    → IsOfBoot (by catalog fuel) board catalog fuel e is
 
 -- what is told of the drivers is of this last machine of DXE
 pub record AreDriversOf (m : DxeMachine) (e : Explained) : Type 0 where

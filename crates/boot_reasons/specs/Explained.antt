@@ -1,13 +1,13 @@
 -- A boot by choices, explained: why modules started and why others never did, along the runs of PEI and of DXE to which the choices lead. Or it is left before the start of a module that they do not let.
 -- Own; PI 1.8, volumes 1 and 2, leave the order of the modules that may start to the dispatchers.
-use Rattle.std.specs.Prelude.{◌≡◌, ℕ, true, List, Some, None}
+use Rattle.std.specs.Prelude.{◌≡◌, ℕ, List, Some}
 use Rattle.mod_catalog.specs.declared.catalogue.Catalog.{Catalog}
 use Rattle.store_model.specs.StoreState.{Board, StoreState}
 use Rattle.boot_model.specs.declared.line.RunEnd.TheVariants as E
 use Rattle.boot_model.specs.{declared.phase_end.PeiEnd.PeiEnd, DxeMachine.DxeMachine, DxeRun.dxe_opening, PeiMachine.PeiMachine}
 use Rattle.boot_model.specs.declared.phase_end.PeiEnd.TheVariants.{Handoff, NoMemory, NoIpl, Spent, Deep}
 use Rattle.boot_model.specs.PeiRun.{pei_opening}
-use Rattle.boot_laws.specs.declared.choice.Reached.{Reached}
+use Rattle.boot_laws.specs.{declared.choice.Reached.Reached, Naming.first_eligible_rules}
 use Rattle.boot_laws.specs.declared.choice.Reached.TheVariants as R
 use Rattle.pei_core.specs.declared.pei.Pei.{Pei}
 use Rattle.pei_dispatch.specs.Choices.{IsRunBy}
@@ -61,9 +61,9 @@ ExplainsBehind by stands catalog fuel pei first reached =
     (board : Board) → ExplainsRun by.peims by.lets_peim stands board catalog fuel pei first → ExplainsTo by board catalog fuel reached
 
 -- the choices of the machine itself: no module is named, so that the first that may start does, and each is let
-abbrev pub own_choices : Choices
-own_choices = choices_of (λ sink starts named. named ≡ None) (λ starts number. true) (λ sink starts named. named ≡ None) (λ starts number. true)
+abbrev pub own_choices : Catalog → ℕ → Choices
+own_choices catalog fuel = choices_of first_eligible_rules catalog fuel
 
 -- this is the explanation of the machine's own boot
 abbrev pub IsExplained : Board → Catalog → ℕ → Explained → Type 0
-IsExplained board catalog fuel e = IsExplainedBy own_choices board catalog fuel e
+IsExplained board catalog fuel e = IsExplainedBy (own_choices catalog fuel) board catalog fuel e

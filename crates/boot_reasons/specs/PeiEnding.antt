@@ -4,7 +4,7 @@ use Rattle.std.specs.Prelude.{◌≡◌, ℕ, Bool, List, [], Option, Some, None
 use Rattle.mod_catalog.specs.declared.catalogue.Catalog.{Catalog}
 use Rattle.store_model.specs.{declared.store_handle.Sweep.Sweep, StoreState.Board, StoreState.StoreState}
 use Rattle.boot_model.specs.{declared.phase_end.PeiEnd.PeiEnd, PeiMachine.PeiMachine, PeiRun.pei_opening}
-use Rattle.boot_laws.specs.declared.choice.Reached.{Reached}
+use Rattle.boot_laws.specs.{declared.choice.Reached.Reached, Naming.Rules}
 use Rattle.boot_laws.specs.declared.choice.Reached.TheVariants as R
 use Rattle.pei_dispatch.specs.{declared.queue.PeiQueue.PeiQueue, Choices.IsRunBy, Choices.LetsPeims, Turns.IsNow}
 use Rattle.pei_core.specs.{declared.pei.Pei.Pei, Standing.IsFor, Standing.StandsFor}
@@ -31,20 +31,20 @@ IsOpened stands catalog pei queue =
     (board : Board) (fuel : ℕ) → IsFor catalog fuel pei → StandsFor stands pei (pei_opening board catalog) → IsNow stands catalog pei queue (pei_opening board catalog)
 
 -- a run at its opening, of which nothing is told yet
-abbrev pub IsAtOpening : {M : Type 0} → (Nowhere → ℕ → Option ℕ → Type 0) → (ℕ → ℕ → Bool) → (M → StoreState → Type 0) → Board → Catalog → ℕ → Pei M → PeiQueue → PeiTold → Type 0
-IsAtOpening names lets stands board catalog fuel pei queue told =
-    IsFor catalog fuel pei × IsAt (NamesUnseen names) (LetsPeims lets) stands board catalog fuel [] (pei_opening board catalog) pei queue told
+abbrev pub IsAtOpening : {M : Type 0} → Rules Nowhere → (M → StoreState → Type 0) → Board → Catalog → ℕ → Pei M → PeiQueue → PeiTold → Type 0
+IsAtOpening rules stands board catalog fuel pei queue told =
+    IsFor catalog fuel pei × IsAt (NamesUnseen rules catalog) (LetsPeims rules catalog) stands board catalog fuel [] (pei_opening board catalog) pei queue told
 
 -- one of some board
-abbrev pub BeginsTold : {M : Type 0} → (Nowhere → ℕ → Option ℕ → Type 0) → (ℕ → ℕ → Bool) → (M → StoreState → Type 0) → Catalog → Pei M → PeiQueue → PeiTold → Type 0
-BeginsTold names lets stands catalog pei queue told = (board : Board) × (fuel : ℕ) × IsAtOpening names lets stands board catalog fuel pei queue told
+abbrev pub BeginsTold : {M : Type 0} → Rules Nowhere → (M → StoreState → Type 0) → Catalog → Pei M → PeiQueue → PeiTold → Type 0
+BeginsTold rules stands catalog pei queue told = (board : Board) × (fuel : ℕ) × IsAtOpening rules stands board catalog fuel pei queue told
 
 -- from there
-abbrev pub Ends : {M : Type 0} → (Nowhere → ℕ → Option ℕ → Type 0) → (ℕ → ℕ → Bool) → (M → StoreState → Type 0) → Catalog
+abbrev pub Ends : {M : Type 0} → Rules Nowhere → (M → StoreState → Type 0) → Catalog
     → Pei M → PeiQueue → PeiTold → Pei M → PeiQueue → PeiTold → Reached PeiEnd → Type 0
-Ends names lets stands catalog pei queue told later grown after reached =
-    (board : Board) (fuel : ℕ) → IsAtOpening names lets stands board catalog fuel pei queue told
-    → EndsTo (NamesUnseen names) (LetsPeims lets) stands board catalog fuel later grown after reached
+Ends rules stands catalog pei queue told later grown after reached =
+    (board : Board) (fuel : ℕ) → IsAtOpening rules stands board catalog fuel pei queue told
+    → EndsTo (NamesUnseen rules catalog) (LetsPeims rules catalog) stands board catalog fuel later grown after reached
 
 -- what is handed on are the lists of a run at its last machine
 pub record IsPeiExplained (catalog : Catalog) (earlier : List PeiMachine) («end» : PeiMachine) (e : PeiExplained) : Type 0 where
@@ -79,8 +79,8 @@ ExplainsTo Names Lets stands board catalog fuel pei (R.Barred number) =
     (earlier : List PeiMachine) × (m : PeiMachine) × IsBarred Names Lets board catalog fuel earlier m number
 
 -- so over each board and fuel for which the core was made
-abbrev pub Explains : {M : Type 0} → (Nowhere → ℕ → Option ℕ → Type 0) → (ℕ → ℕ → Bool) → (M → StoreState → Type 0) → Catalog
+abbrev pub Explains : {M : Type 0} → Rules Nowhere → (M → StoreState → Type 0) → Catalog
     → Pei M → Pei M → Reached PeiExplained → Type 0
-Explains names lets stands catalog pei later reached =
+Explains rules stands catalog pei later reached =
     (board : Board) (fuel : ℕ) → IsFor catalog fuel pei → StandsFor stands pei (pei_opening board catalog)
-    → ExplainsTo (NamesUnseen names) (LetsPeims lets) stands board catalog fuel later reached
+    → ExplainsTo (NamesUnseen rules catalog) (LetsPeims rules catalog) stands board catalog fuel later reached

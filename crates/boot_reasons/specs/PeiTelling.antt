@@ -6,7 +6,7 @@ use Rattle.mod_catalog.specs.declared.catalogue.Catalog.{Catalog}
 use Rattle.store_model.specs.{Service.Install.has_ppi, StoreState.Board, StoreState.StoreState, declared.store_handle.Sweep.Sweep}
 use Rattle.boot_model.specs.{declared.phase_end.PeiEnd.PeiEnd, PeiChoice.pei_order, PeiMachine.PeiMachine, PeiRun.pei_opening}
 use Rattle.boot_model.specs.PeiStep.{started}
-use Rattle.boot_laws.specs.{declared.choice.Reached.Reached, PeiUnderWay.IsUnderWay}
+use Rattle.boot_laws.specs.{declared.choice.Reached.Reached, Naming.Rules, PeiUnderWay.IsUnderWay}
 use Rattle.boot_laws.specs.declared.choice.Reached.TheVariants as R
 use Rattle.pei_dispatch.specs.{declared.queue.PeiQueue.PeiQueue, Queue.parts_in, View.event_guids, Turns.IsNow}
 use Rattle.pei_core.specs.{declared.event.Event.Event, declared.pei.Pei.Pei, Standing.IsFor, Standing.StandsFor, Steps.IsIdle}
@@ -63,20 +63,20 @@ TurnsTo Names Lets stands board catalog fuel earlier m pei queue told (Some (R.B
     IsBarred Names Lets board catalog fuel earlier m number
 
 -- so from each run by a choice that leads to the machine of the core and the queue and was told
-abbrev pub Turns : {M : Type 0} → (Nowhere → ℕ → Option ℕ → Type 0) → (ℕ → ℕ → Bool) → (M → StoreState → Type 0) → Catalog
+abbrev pub Turns : {M : Type 0} → Rules Nowhere → (M → StoreState → Type 0) → Catalog
     → Pei M → PeiQueue → PeiTold → Pei M → PeiQueue → PeiTold → Option (Reached PeiEnd) → Type 0
-Turns names lets stands catalog pei queue told later grown after turned =
+Turns rules stands catalog pei queue told later grown after turned =
     (board : Board) (fuel : ℕ) (earlier : List PeiMachine) (m : PeiMachine) → IsFor catalog fuel pei
-    → IsAt (NamesUnseen names) (LetsPeims lets) stands board catalog fuel earlier m pei queue told
-    → TurnsTo (NamesUnseen names) (LetsPeims lets) stands board catalog fuel earlier m later grown after turned
+    → IsAt (NamesUnseen rules catalog) (LetsPeims rules catalog) stands board catalog fuel earlier m pei queue told
+    → TurnsTo (NamesUnseen rules catalog) (LetsPeims rules catalog) stands board catalog fuel earlier m later grown after turned
 
 -- the same where that machine is idle
-abbrev pub TurnsIdle : {M : Type 0} → (Nowhere → ℕ → Option ℕ → Type 0) → (ℕ → ℕ → Bool) → (M → StoreState → Type 0) → Catalog
+abbrev pub TurnsIdle : {M : Type 0} → Rules Nowhere → (M → StoreState → Type 0) → Catalog
     → Pei M → PeiQueue → PeiTold → Pei M → PeiQueue → PeiTold → Option (Reached PeiEnd) → Type 0
-TurnsIdle names lets stands catalog pei queue told later grown after turned =
+TurnsIdle rules stands catalog pei queue told later grown after turned =
     (board : Board) (fuel : ℕ) (earlier : List PeiMachine) (m : PeiMachine) → IsFor catalog fuel pei
-    → IsAt (NamesUnseen names) (LetsPeims lets) stands board catalog fuel earlier m pei queue told → IsIdle m
-    → TurnsTo (NamesUnseen names) (LetsPeims lets) stands board catalog fuel earlier m later grown after turned
+    → IsAt (NamesUnseen rules catalog) (LetsPeims rules catalog) stands board catalog fuel earlier m pei queue told → IsIdle m
+    → TurnsTo (NamesUnseen rules catalog) (LetsPeims rules catalog) stands board catalog fuel earlier m later grown after turned
 
 -- a PEIM has started, and this is told of it
 pub record IsStartTold {M : Type 0} (stands : M → StoreState → Type 0) (catalog : Catalog) (m : PeiMachine) (number : ℕ)

@@ -1,5 +1,5 @@
 // DXE by a choice from the hand-off to its end, explained.
-ghost use Rattle.std.specs.Prelude.{◌≡◌, ◌<◌, ℕ, IfOk};
+ghost use Rattle.std.specs.Prelude.{◌≡◌, ◌<◌, ℕ, [], IfOk};
 ghost use Rattle.boot_model.specs.DxeRun.{dxe_opening};
 ghost use Rattle.mod_catalog.specs.WellFormed.{IsWellFormed};
 ghost use Rattle.dxe_dispatch.specs.Queue.{IsNewQueue, IsQueueFor};
@@ -20,7 +20,7 @@ use boot_laws::{
 use boot_model::DxeEnd;
 use depex_code::Steps;
 use dxe_core::Dxe;
-use dxe_dispatch::{DriverQueue, Turn, bound, dxe_at_opening, turn_by};
+use dxe_dispatch::{Agenda, DriverQueue, Turn, bound, dxe_at_opening, turn_by};
 use explain_text::{Begun, Held};
 use mod_catalog::Catalog;
 use pi_base::{OutOfMemory, Seq};
@@ -43,7 +43,7 @@ pub(crate) struct DxeExplained {
 fn run_to_end<M: PeiStore, C: Choice<Nowhere>, L: Ledger>(
     dxe: &mut Dxe,
     store: &M,
-    queue: &mut DriverQueue,
+    agenda: &mut Agenda,
     choice: &C,
     in_pei: u32,
     catalog: &Catalog,
@@ -51,11 +51,11 @@ fn run_to_end<M: PeiStore, C: Choice<Nowhere>, L: Ledger>(
     steps: &mut Steps<L>,
 ) -> Result<Reached<DxeEnd>, OutOfMemory>
     requires catalog { IsWellFormed catalog.now }
-    requires queue { IsQueueFor catalog.now queue.old }
+    requires queue { IsQueueFor catalog.now agenda.old.queue }
     requires opening { (s : StoreState) × (actions : ℕ) × (fuel : ℕ)
-        × IsAtOpening M.stands_for store.now catalog.now fuel s actions dxe.old queue.old told.old }
-    ensures row { IfOk result (Ends (C.drivers choice.now) (C.lets_in_dxe choice.now) in_pei M.stands_for store.now catalog.now
-        dxe.old queue.old told.old dxe.new queue.new told.new) }
+        × IsAtOpening M.stands_for store.now catalog.now fuel s actions (C.rules choice.now).wants_turn dxe.old agenda.old told.old }
+    ensures row { IfOk result (Ends (C.rules choice.now) in_pei M.stands_for store.now catalog.now
+        dxe.old agenda.old told.old dxe.new agenda.new.queue told.new) }
 {
     dxe_opens();
     dxe_goes_on();
@@ -68,7 +68,7 @@ fn run_to_end<M: PeiStore, C: Choice<Nowhere>, L: Ledger>(
         match turn_by(
             dxe,
             store,
-            queue,
+            agenda,
             choice,
             in_pei,
             catalog,
@@ -113,38 +113,40 @@ fn explain_end<M: PeiStore>(
     })
 }
 
-// The whole of DXE from its opening, over a new queue.
+// The whole of DXE from its opening, over a new agenda.
 fn explain_opened<M: PeiStore, C: Choice<Nowhere>, L: Ledger>(
     alloc: Global,
     dxe: &mut Dxe,
     store: &M,
-    queue: &mut DriverQueue,
+    agenda: &mut Agenda,
     choice: &C,
     in_pei: u32,
     catalog: &Catalog,
     steps: &mut Steps<L>,
 ) -> Result<Reached<DxeExplained>, OutOfMemory>
     requires catalog { IsWellFormed catalog.now }
-    requires new { IsNewQueue catalog.now queue.old }
-    requires queue { IsQueueFor catalog.now queue.old }
+    requires new { IsNewQueue catalog.now agenda.old.queue }
+    requires queue { IsQueueFor catalog.now agenda.old.queue }
+    requires passes { agenda.old.passes ≡ record { wanted = (C.rules choice.now).wants_turn; drivers = []; left = [] } }
     requires opening { (s : StoreState) × (actions : ℕ) × (fuel : ℕ) × IsFor catalog.now fuel dxe.old
         × StandsFor M.stands_for store.now catalog.now dxe.old (dxe_opening catalog.now s actions) }
-    ensures row { IfOk result (Explains (C.drivers choice.now) (C.lets_in_dxe choice.now) in_pei
+    ensures row { IfOk result (Explains (C.rules choice.now) in_pei
         M.stands_for store.now catalog.now dxe.old) }
 {
     dxe_opens();
     unrequested_drivers_wait();
     discovered_order_has_each_once();
-    match queue.discover(catalog, dxe.order(), dxe.order().volumes()) {
-        Ok(()) => {}
-        Err(OutOfMemory) => return Err(OutOfMemory),
-    }
+    let volumes = dxe.order().volumes();
+    agenda.queue.discover(catalog, dxe.order(), volumes)?;
+    agenda.passes.discover(catalog, volumes)?;
     let mut told = DxeTold::new(alloc);
-    match run_to_end(dxe, store, queue, choice, in_pei, catalog, &mut told, steps) {
-        Ok(Reached::End(end)) => match explain_end(alloc, dxe, store, queue, catalog, told, end) {
-            Ok(explained) => Ok(Reached::End(explained)),
-            Err(OutOfMemory) => Err(OutOfMemory),
-        },
+    match run_to_end(dxe, store, agenda, choice, in_pei, catalog, &mut told, steps) {
+        Ok(Reached::End(end)) => {
+            match explain_end(alloc, dxe, store, &agenda.queue, catalog, told, end) {
+                Ok(explained) => Ok(Reached::End(explained)),
+                Err(OutOfMemory) => Err(OutOfMemory),
+            }
+        }
         Ok(Reached::Barred(number)) => {
             drop(told);
             Ok(Reached::Barred(number))
@@ -156,7 +158,7 @@ fn explain_opened<M: PeiStore, C: Choice<Nowhere>, L: Ledger>(
     }
 }
 
-// The same over a queue that is made for it. The expressions that are evaluated are counted in the ledger of a blank.
+// The same over an agenda that is made for it. The expressions that are evaluated are counted in the ledger of a blank.
 fn explain_with_ledger<M: PeiStore, C: Choice<Nowhere>, L: Ledger>(
     alloc: Global,
     dxe: &mut Dxe,
@@ -172,15 +174,15 @@ fn explain_with_ledger<M: PeiStore, C: Choice<Nowhere>, L: Ledger>(
     requires name { blank.name ≡ L.name }
     requires parts { blank.parts ≡ L.parts }
     requires counts { 0 < L.parts }
-    ensures row { IfOk result (Explains (C.drivers choice.now) (C.lets_in_dxe choice.now) in_pei
+    ensures row { IfOk result (Explains (C.rules choice.now) in_pei
         M.stands_for store.now catalog.now dxe.old) }
 {
-    let mut queue = DriverQueue::new(alloc, catalog)?;
+    let mut agenda = Agenda::new(alloc, catalog, choice.wants_turn())?;
     let mut steps = Steps::<L>::new(blank);
     let reached = explain_opened(
-        alloc, dxe, store, &mut queue, choice, in_pei, catalog, &mut steps,
+        alloc, dxe, store, &mut agenda, choice, in_pei, catalog, &mut steps,
     );
-    drop(queue);
+    drop(agenda);
     reached
 }
 
@@ -197,7 +199,7 @@ pub(crate) fn explain_dxe<M: PeiStore, C: Choice<Nowhere>>(
     requires catalog { IsWellFormed catalog.now }
     requires state { Present (M.stands_for store.now) Anything }
     ensures { OfEach (M.stands_for store.now) Anything
-        (λ s. IfOk result (λ reached. ExplainsBehind (C.drivers choice.now) (C.lets_in_dxe choice.now) in_pei
+        (λ s. IfOk result (λ reached. ExplainsBehind (C.rules choice.now) in_pei
         catalog.now fuel taken reached s)) }
 {
     let Ok(mut dxe) = dxe_at_opening(alloc, store, catalog, fuel, taken) else {

@@ -11,8 +11,7 @@ use boot_laws::{Choice, cursor_aims, dxe_runs_end, order_is_of_modules, pei_runs
 
 /// A boot by a choice that names one module at most has one explanation, or is left before one start.
 pub fn one_explanation<C: Choice<Nowhere>>(choice: &C)
-    ensures { HasOneExplanation (choices_of (C.peims choice.now) (C.lets_in_pei choice.now)
-        (C.drivers choice.now) (C.lets_in_dxe choice.now)) }
+    ensures { HasOneExplanation (choices_of (C.rules choice.now)) }
 {
     cursor_aims();
     order_is_of_modules();
@@ -20,8 +19,7 @@ pub fn one_explanation<C: Choice<Nowhere>>(choice: &C)
 
 /// What is explained is a boot by the choice.
 pub fn explained_is_a_boot<C: Choice<Nowhere>>(choice: &C)
-    ensures { ExplainsBoots (choices_of (C.peims choice.now) (C.lets_in_pei choice.now)
-        (C.drivers choice.now) (C.lets_in_dxe choice.now)) }
+    ensures { ExplainsBoots (choices_of (C.rules choice.now)) }
 {}
 
 /// Where the first module that may start does, it is the boot of the machine itself, of which `boot` prints the lines.

@@ -61,8 +61,8 @@ fn run_to_end<M: PeiStore + Drop, C: Choice<Nowhere>, L: Ledger>(
     steps: &mut Steps<L>,
 ) -> Result<Reached<PeiEnd>, OutOfMemory>
     requires catalog { IsWellFormed catalog.now }
-    requires opening { BeginsTold (C.peims choice.now) (C.lets_in_pei choice.now) M.stands_for catalog.now pei.old queue.old told.old }
-    ensures row { IfOk result (Ends (C.peims choice.now) (C.lets_in_pei choice.now) M.stands_for catalog.now
+    requires opening { BeginsTold (C.rules choice.now) M.stands_for catalog.now pei.old queue.old told.old }
+    ensures row { IfOk result (Ends (C.rules choice.now) M.stands_for catalog.now
         pei.old queue.old told.old pei.new queue.new told.new) }
 {
     cursor_aims();
@@ -119,7 +119,7 @@ fn explain_opened<M: PeiStore + Drop, C: Choice<Nowhere>, L: Ledger>(
     requires catalog { IsWellFormed catalog.now }
     requires opening { StandsAtOpening M.stands_for catalog.now pei.old }
     requires queue { IsOpened M.stands_for catalog.now pei.old queue.old }
-    ensures row { IfOk result (Explains (C.peims choice.now) (C.lets_in_pei choice.now) M.stands_for catalog.now pei.old pei.new) }
+    ensures row { IfOk result (Explains (C.rules choice.now) M.stands_for catalog.now pei.old pei.new) }
 {
     pei_opens();
     let mut told = PeiTold::new(alloc);
@@ -152,7 +152,7 @@ fn explain_with_ledger<M: PeiStore + Drop, C: Choice<Nowhere>, L: Ledger>(
     requires name { blank.name ≡ L.name }
     requires parts { blank.parts ≡ L.parts }
     requires counts { 0 < L.parts }
-    ensures row { IfOk result (Explains (C.peims choice.now) (C.lets_in_pei choice.now) M.stands_for catalog.now pei.old pei.new) }
+    ensures row { IfOk result (Explains (C.rules choice.now) M.stands_for catalog.now pei.old pei.new) }
 {
     let mut queue = queue_of_opening(alloc, pei, catalog)?;
     let mut steps = Steps::<L>::new(blank);
@@ -170,7 +170,7 @@ pub(crate) fn explain_pei<M: PeiStore + Drop, C: Choice<Nowhere>>(
 ) -> Result<Reached<PeiExplained>, OutOfMemory>
     requires catalog { IsWellFormed catalog.now }
     requires opening { StandsAtOpening M.stands_for catalog.now pei.old }
-    ensures row { IfOk result (Explains (C.peims choice.now) (C.lets_in_pei choice.now) M.stands_for catalog.now pei.old pei.new) }
+    ensures row { IfOk result (Explains (C.rules choice.now) M.stands_for catalog.now pei.old pei.new) }
 {
     let blank = Blank::new(1);
     explain_with_ledger::<M, C, Brand>(alloc, pei, choice, catalog, blank)

@@ -22,7 +22,7 @@ use depex_code::Steps;
 use explain_text::{Begun, Giver};
 use mod_catalog::Catalog;
 use pei_core::{Event, Pei, Stepped};
-use pei_dispatch::{PeiQueue, aim, choose, go_on, licence_of, start, stop_pei};
+use pei_dispatch::{PeiQueue, aim, before_start, choose, go_on, licence_of, start, stop_pei};
 use phase_parts::part_of;
 use pi_base::{Guid, OutOfMemory, Phase};
 use std::sync::ledger::Ledger;
@@ -122,18 +122,18 @@ fn start_or_stop<M: PeiStore + Drop, C: Choice<Nowhere>, L: Ledger>(
     requires catalog { IsWellFormed catalog.now }
     requires made { (fuel : ℕ) × IsFor catalog.now fuel pei.old }
     requires state { (m : PeiMachine) × IsNow M.stands_for catalog.now pei.old queue.old m × IsIdle m }
-    ensures row { IfOk result (TurnsIdle (C.peims choice.now) (C.lets_in_pei choice.now) M.stands_for catalog.now
+    ensures row { IfOk result (TurnsIdle (C.rules choice.now) M.stands_for catalog.now
         pei.old queue.old told.old pei.new queue.new told.new) }
     ensures made { (fuel : ℕ) → IsFor catalog.now fuel pei.old → IsFor catalog.now fuel pei.new }
 {
     cursor_aims();
     pei_opens();
     pei_starts_freely();
-    let starts = u64::from(pei.starts());
-    aim(queue, choice.peim(&Nowhere, starts));
+    let before = before_start(pei, queue, choice, catalog, steps);
+    aim(queue, choice.peim(&Nowhere, before));
     match choose(pei, queue, catalog, steps) {
         Some(number) => {
-            if !choice.lets_peim(starts, number) {
+            if !choice.lets_peim(before, number) {
                 return Ok(Some(Reached::Barred(number)));
             }
             start_told(pei, queue, catalog, told, number)?;
@@ -180,7 +180,7 @@ pub(crate) fn turn<M: PeiStore + Drop, C: Choice<Nowhere>, L: Ledger>(
     requires catalog { IsWellFormed catalog.now }
     requires made { (fuel : ℕ) × IsFor catalog.now fuel pei.old }
     requires state { (m : PeiMachine) × IsNow M.stands_for catalog.now pei.old queue.old m }
-    ensures row { IfOk result (Turns (C.peims choice.now) (C.lets_in_pei choice.now) M.stands_for catalog.now
+    ensures row { IfOk result (Turns (C.rules choice.now) M.stands_for catalog.now
         pei.old queue.old told.old pei.new queue.new told.new) }
     ensures made { (fuel : ℕ) → IsFor catalog.now fuel pei.old → IsFor catalog.now fuel pei.new }
 {

@@ -28,8 +28,7 @@ fn explain_over<C: Choice<Nowhere>>(
     requires board { IsBoard (record (board_of plan.now catalog.now []) { roms = roms }) }
     requires catalog { IsWellFormed catalog.now }
     requires some { 1 ≤ length catalog.now.volumes }
-    ensures { IfOk result (ExplainsTo (choices_of (C.peims choice.now) (C.lets_in_pei choice.now)
-        (C.drivers choice.now) (C.lets_in_dxe choice.now))
+    ensures { IfOk result (ExplainsTo (choices_of (C.rules choice.now) catalog.now plan.now.fuel)
         (record (board_of plan.now catalog.now []) { roms = roms }) catalog.now plan.now.fuel) }
 {
     match MemStore::new(alloc, plan.temp, plan.pages, plan.ram, roms) {
@@ -49,8 +48,7 @@ pub fn explain_plan_by<C: Choice<Nowhere>>(
     requires board { IsBoard (board_of plan.now catalog.now images) }
     requires catalog { IsWellFormed catalog.now }
     requires some { 1 ≤ length catalog.now.volumes }
-    ensures { IfOk result (ExplainsTo (choices_of (C.peims choice.now) (C.lets_in_pei choice.now)
-        (C.drivers choice.now) (C.lets_in_dxe choice.now)) (board_of plan.now catalog.now images) catalog.now plan.now.fuel) }
+    ensures { IfOk result (ExplainsTo (choices_of (C.rules choice.now) catalog.now plan.now.fuel) (board_of plan.now catalog.now images) catalog.now plan.now.fuel) }
 {
     let roms = roms(alloc, catalog.volumes.as_slice(), images)?;
     explain_over(alloc, plan, catalog, roms, choice)

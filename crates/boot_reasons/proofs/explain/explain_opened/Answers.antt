@@ -13,7 +13,7 @@ explain_behind-requires-clause-state g c =
 pub returns-in-End : goal.returns-in-End
 returns-in-End g c board is =
     let run = rw c.in-End.is at (c.in_ok-explained.ensures.row board c.args.fuel c.requires.made is) in
-    let by = choices_of (g.C.Choice.peims c.args.choice.now) (g.C.Choice.lets_in_pei c.args.choice.now) (g.C.Choice.drivers c.args.choice.now) (g.C.Choice.lets_in_dxe c.args.choice.now) in
+    let by = choices_of (g.C.Choice.rules c.args.choice.now) c.args.catalog.now c.args.fuel in
     if_ok c.explain_behind.result (ExplainsBehind by g.M.PeiStore.stands_for c.args.catalog.now c.args.fuel c.explain_pei.new.pei c.in-End.explained) (ExplainsTo by board c.args.catalog.now c.args.fuel) (λ reached told. told board run) c.explain_behind.ensures
 
 pub returns-in-Barred : goal.returns-in-Barred

@@ -5,4 +5,4 @@ use Rattle.boot_reasons.proofs.laws.one_explanation.Goals as goal
 pub returns : goal.returns
 returns g c =
     let laws : RunLaws = record { aims = c.cursor_aims.ensures.aims; orders = c.order_is_of_modules.ensures } in
-    one_boot laws (choices_of (g.C.Choice.peims c.args.choice.now) (g.C.Choice.lets_in_pei c.args.choice.now) (g.C.Choice.drivers c.args.choice.now) (g.C.Choice.lets_in_dxe c.args.choice.now))
+    one_boot laws (choices_of (g.C.Choice.rules c.args.choice.now))

@@ -5,8 +5,8 @@ use Rattle.boot_reasons.proofs.pei.explain_opened.Goals as goal
 
 pub run_to_end-requires-clause-opening : goal.run_to_end-requires-clause-opening
 run_to_end-requires-clause-opening g c =
-    let names = NamesUnseen (g.C.Choice.peims c.args.choice.now) in
-    let lets = LetsPeims (g.C.Choice.lets_in_pei c.args.choice.now) in
+    let names = NamesUnseen (g.C.Choice.rules c.args.choice.now) c.args.catalog.now in
+    let lets = LetsPeims (g.C.Choice.rules c.args.choice.now) c.args.catalog.now in
     let catalog = c.args.catalog.now in
     let board = c.requires.opening.0 in
     let fuel = c.requires.opening.1 in
@@ -23,8 +23,8 @@ run_to_end-requires-clause-opening g c =
 
 pub explain_end-requires : goal.explain_end-requires
 explain_end-requires g c =
-    let names = NamesUnseen (g.C.Choice.peims c.args.choice.now) in
-    let lets = LetsPeims (g.C.Choice.lets_in_pei c.args.choice.now) in
+    let names = NamesUnseen (g.C.Choice.rules c.args.choice.now) c.args.catalog.now in
+    let lets = LetsPeims (g.C.Choice.rules c.args.choice.now) c.args.catalog.now in
     let catalog = c.args.catalog.now in
     let board = c.requires.opening.0 in
     let fuel = c.requires.opening.1 in
@@ -38,8 +38,8 @@ explain_end-requires g c =
 pub returns-in-Ok : goal.returns-in-Ok
 returns-in-Ok g c = record {
   row = λ board fuel made stand.
-      let names = NamesUnseen (g.C.Choice.peims c.args.choice.now) in
-      let lets = LetsPeims (g.C.Choice.lets_in_pei c.args.choice.now) in
+      let names = NamesUnseen (g.C.Choice.rules c.args.choice.now) c.args.catalog.now in
+      let lets = LetsPeims (g.C.Choice.rules c.args.choice.now) c.args.catalog.now in
       let catalog = c.args.catalog.now in
       let at = at_opening c.pei_opens.ensures.opens names lets g.M.PeiStore.stands_for board catalog fuel c.args.pei.now c.args.queue.now c.new-told.result (c.requires.queue board fuel made stand)
       c.new-told.ensures.begun c.new-told.ensures.givers c.new-told.ensures.moved in
@@ -50,8 +50,8 @@ returns-in-Ok g c = record {
 pub returns-in-Ok-Barred : goal.returns-in-Ok-Barred
 returns-in-Ok-Barred g c = record {
   row = λ board fuel made stand.
-      let names = NamesUnseen (g.C.Choice.peims c.args.choice.now) in
-      let lets = LetsPeims (g.C.Choice.lets_in_pei c.args.choice.now) in
+      let names = NamesUnseen (g.C.Choice.rules c.args.choice.now) c.args.catalog.now in
+      let lets = LetsPeims (g.C.Choice.rules c.args.choice.now) c.args.catalog.now in
       let at = at_opening c.pei_opens.ensures.opens names lets g.M.PeiStore.stands_for board c.args.catalog.now fuel c.args.pei.now c.args.queue.now c.new-told.result (c.requires.queue board fuel made stand)
       c.new-told.ensures.begun c.new-told.ensures.givers c.new-told.ensures.moved in
       rw c.in-Ok-Barred.field-0-is at (c.in-Ok-Barred.ensures.row board fuel (made, at));

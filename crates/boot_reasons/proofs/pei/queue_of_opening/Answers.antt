@@ -22,4 +22,4 @@ report-requires-clause-new g c =
 pub returns : goal.returns
 returns g c board fuel made stand =
     opened c.alike_views_are_shown.ensures g.M.PeiStore.stands_for board c.args.catalog.now fuel c.args.pei.now c.in_ok-queue.queue c.report.new.self c.reported.result.now made stand c.in_ok-queue.ensures
-    (c.reported.ensures (pei_opening board c.args.catalog.now) stand) c.report.ensures.shows c.report.ensures.cursor
+    (c.reported.ensures (pei_opening board c.args.catalog.now) stand) c.report.ensures.shows c.report.ensures.cursor c.report.ensures.walked

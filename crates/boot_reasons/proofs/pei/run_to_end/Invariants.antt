@@ -9,7 +9,7 @@ use Rattle.boot_reasons.proofs.pei.run_to_end.Given as goal
 -- a run by the choice leads to the machine for which the core and the queue stand, and all of it is told
 abbrev pub invariant-turns : goal.invariant-turns
 invariant-turns g l = record {
-  way : (board : Board) (fuel : ℕ) → IsAtOpening (g.C.Choice.peims l.fn.choice) (g.C.Choice.lets_in_pei l.fn.choice) g.M.PeiStore.stands_for board l.fn.catalog fuel l.fn.pei l.fn.queue l.fn.told
-      → IsOnWay (NamesUnseen (g.C.Choice.peims l.fn.choice)) (LetsPeims (g.C.Choice.lets_in_pei l.fn.choice)) g.M.PeiStore.stands_for board l.fn.catalog fuel l.counter l.pei l.queue l.told;
+  way : (board : Board) (fuel : ℕ) → IsAtOpening (g.C.Choice.rules l.fn.choice) g.M.PeiStore.stands_for board l.fn.catalog fuel l.fn.pei l.fn.queue l.fn.told
+      → IsOnWay (NamesUnseen (g.C.Choice.rules l.fn.choice) l.fn.catalog) (LetsPeims (g.C.Choice.rules l.fn.choice) l.fn.catalog) g.M.PeiStore.stands_for board l.fn.catalog fuel l.counter l.pei l.queue l.told;
   made : (fuel : ℕ) → IsFor l.fn.catalog fuel l.fn.pei → IsFor l.fn.catalog fuel l.pei;
 }

@@ -30,8 +30,7 @@ start_or_stop-requires-clause-state g c =
 pub returns-in-Ok-clause-row : goal.returns-in-Ok-clause-row
 returns-in-Ok-clause-row g c board fuel earlier m made at =
     let catalog = c.args.catalog.now in
-    let names = g.C.Choice.peims c.args.choice.now in
-    let lets = g.C.Choice.lets_in_pei c.args.choice.now in
+    let rules = g.C.Choice.rules c.args.choice.now in
     let laws : Laws = record { aims = c.cursor_aims.ensures.aims; own = c.pei_starts_freely.ensures.own; nearer = c.pei_opens.ensures.nearer } in
     let row = rw c.in-Ok-Went.field-0-is at (c.in-Ok-Went.ensures.row m fuel made at.now) in
     let machine = at.now.machine in
@@ -39,7 +38,7 @@ returns-in-Ok-clause-row g c board fuel earlier m made at =
     let next = pei_step catalog fuel m in
     let told = c.in-Ok.ensures in (
       next,
-      went_on c.guids_change.ensures c.guids_are_these.ensures laws (NamesUnseen names) (LetsPeims lets) g.M.PeiStore.stands_for board catalog fuel earlier m c.args.pei.now c.go_on.new.pei c.args.queue.now c.go_on.new.queue
+      went_on c.guids_change.ensures c.guids_are_these.ensures laws (NamesUnseen rules catalog) (LetsPeims rules catalog) g.M.PeiStore.stands_for board catalog fuel earlier m c.args.pei.now c.go_on.new.pei c.args.queue.now c.go_on.new.queue
           c.args.told.now c.tell_step.new.told c.in-Ok-Went.event c.unmoved_base-from.result c.actor-actor.result _ at kept row.0 row.1 row.2
           (c.actor-actor.ensures ∙ ap actor_by (c.running.ensures m machine)) (c.unmoved_base-from.ensures m.store (c.store.ensures m machine) tt)
           (told.givers next row.2.now.machine) (told.moved next row.2.now.machine) told.begun,
@@ -56,10 +55,9 @@ returns-in-Ok-Idle-clause-row g c =
 pub returns-in-Ok-Ended-clause-row : goal.returns-in-Ok-Ended-clause-row
 returns-in-Ok-Ended-clause-row g c board fuel earlier m made at =
     let catalog = c.args.catalog.now in
-    let names = g.C.Choice.peims c.args.choice.now in
-    let lets = g.C.Choice.lets_in_pei c.args.choice.now in
+    let rules = g.C.Choice.rules c.args.choice.now in
     let row = rw c.in-Ok-Ended.field-0-is at (c.in-Ok-Ended.ensures.row m fuel made at.now) in
-    cut_on (NamesUnseen names) (LetsPeims lets) g.M.PeiStore.stands_for board catalog fuel earlier m c.args.pei.now c.go_on.new.pei c.args.queue.now c.go_on.new.queue c.args.told.now c.in-Ok-Ended.end _ at row.0 row.1 row.2
+    cut_on (NamesUnseen rules catalog) (LetsPeims rules catalog) g.M.PeiStore.stands_for board catalog fuel earlier m c.args.pei.now c.go_on.new.pei c.args.queue.now c.go_on.new.queue c.args.told.now c.in-Ok-Ended.end _ at row.0 row.1 row.2
 
 pub unmoved_base-from-requires : goal.unmoved_base-from-requires
 unmoved_base-from-requires g c = record { state = (c.requires.state.0.store, c.store.ensures c.requires.state.0 c.requires.state.1.machine, tt) }
