@@ -3,7 +3,7 @@ ghost use Rattle.std.specs.Prelude.{◌≡◌, length};
 ghost use Rattle.std.proofs.Props.{props};
 ghost use Rattle.recorded_boot.specs.Named.{AreNames};
 
-use boot_laws::Choice;
+use boot_laws::{Before, Choice};
 use recorded_boot::follow::ByOrder;
 
 /// The choice by an order of starts: it names the module of the next start, and allows each. If the named module may not start, the first eligible one starts.
@@ -24,31 +24,27 @@ impl<'o> ByStarts<'o> {
 }
 
 impl<S> Choice<S> for ByStarts<'_> {
-    ghost use Rattle.std.specs.Prelude.{true};
-    ghost use Rattle.pi_base.specs.declared.phase.Phase.TheVariants.{Pei, Dxe};
-    ghost use Rattle.recorded_boot.specs.ByOrder.{NamesAsked};
+    ghost use Rattle.tools_core.specs.ToldReport.{start_rules};
 
-    ghost peims = { λ it sink starts named. NamesAsked it.by.catalog.now Pei it.by.order.now starts named };
+    ghost rules = { λ it. start_rules it.by.catalog.now it.by.order.now };
 
-    ghost drivers = { λ it sink starts named. NamesAsked it.by.catalog.now Dxe it.by.order.now starts named };
-
-    ghost lets_in_pei = { λ it starts number. true };
-
-    ghost lets_in_dxe = { λ it starts number. true };
-
-    fn peim(&self, sink: &S, starts: u64) -> Option<u32> {
-        self.by.peim(sink, starts)
+    fn wants_turn(&self) -> bool {
+        false
     }
 
-    fn driver(&self, sink: &S, starts: u64) -> Option<u32> {
-        self.by.driver(sink, starts)
+    fn peim(&self, sink: &S, before: Before) -> Option<u32> {
+        self.by.peim(sink, before)
     }
 
-    fn lets_peim(&self, _starts: u64, _number: u32) -> bool {
+    fn driver(&self, sink: &S, before: Before) -> Option<u32> {
+        self.by.driver(sink, before)
+    }
+
+    fn lets_peim(&self, _before: Before, _number: u32) -> bool {
         true
     }
 
-    fn lets_driver(&self, _starts: u64, _number: u32) -> bool {
+    fn lets_driver(&self, _before: Before, _number: u32) -> bool {
         true
     }
 }
