@@ -1,5 +1,5 @@
 -- EDK2's queue follows a run.
-use Rattle.std.proofs.Common.{◌≡◌, ◌≢◌, ℕ, ◌+◌, ◌-◌, Bool, true, false, cond, List, [], ◌∷◌, ◌++◌, length, drop, flat_map, Option, Some, None, Result, Ok, Err, ◌≤◌, refl, sym, ap, subst, ◌∙◌, append-nil, inl, inr, arith, ◌&&◌}
+use Rattle.std.proofs.Common.{◌≡◌, ℕ, ◌+◌, ◌-◌, Bool, true, false, cond, List, [], ◌∷◌, ◌++◌, length, drop, flat_map, Option, Some, None, Result, Ok, Err, ◌≤◌, refl, sym, ap, subst, ◌∙◌, append-nil, inl, inr, arith, ◌&&◌}
 use Rattle.std.proofs.Math.Seq.{drop-append_seam, drop-length}
 use Rattle.std.proofs.lemmas.Grind.{flat_map-append}
 use Rattle.mod_catalog.specs.declared.catalogue.Catalog.{Catalog}
@@ -10,12 +10,12 @@ use Rattle.boot_laws.specs.declared.choice.Reached.TheVariants as R
 use Rattle.boot_trace.specs.Printing.{Texts}
 use Rattle.boot_trace.proofs.Lines.{part_whole}
 use Rattle.store_model.specs.StoreState.{StoreState}
-use Rattle.dxe_core.specs.{Order.Drivers, Standing.DxeCore, Turn.Printed, Turn.PrintedPart}
+use Rattle.dxe_core.specs.{Standing.DxeCore, Turn.Printed, Turn.PrintedPart}
 use Rattle.boot_laws.proofs.DriverGrowth.{driver_steps_grow}
-use Rattle.dxe_dispatch.specs.{declared.answer.Turn.Turn, declared.passes.Agenda.Agenda}
+use Rattle.dxe_dispatch.specs.{declared.answer.Turn.Turn}
 use Rattle.dxe_dispatch.specs.declared.answer.Turn.TheVariants as T
 use Rattle.dxe_dispatch.specs.Choices.{DriverChoice, KeepsPasses, LetsDrivers, NamesDriver, NamesDrivers, TurnsBy, aimed_at, root_of}
-use Rattle.dxe_dispatch.specs.{Aim.aimed, Aim.is_free, Aim.may_be_next, Queue.IsSeen, Queue.Queue, Queue.owed}
+use Rattle.dxe_dispatch.specs.{Aim.is_free, Aim.may_be_next, Queue.IsSeen, Queue.Queue, Queue.owed}
 use Rattle.dxe_dispatch.specs.PassList.{Follows, FollowsTurn, GetsVolumes, IsPassListOf, PassList, RefillsIdle, turn_kept}
 use Rattle.dxe_dispatch.specs.Passes.{first_in, in_types, or_pass, pass, pass_of, queued_behind, refilled, refilled_over, told_in, told_in_dxe}
 use Rattle.dxe_dispatch.specs.{Ends.IsNow, Turns.IsLeft, Turns.StartsNone}

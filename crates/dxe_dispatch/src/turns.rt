@@ -1,5 +1,5 @@
 //! A turn of the run: a step of the machine.
-ghost use Rattle.std.specs.Prelude.{◌≡◌, ◌≢◌, ◌≤◌, ◌<◌, ◌+◌, ◌^◌, ℕ, Bool, [], OnOk};
+ghost use Rattle.std.specs.Prelude.{◌≡◌, ◌≢◌, ◌≤◌, ◌+◌, ℕ, Bool, [], OnOk};
 ghost use Rattle.boot_io.specs.Halted.{HaltsAfter};
 ghost use Rattle.boot_model.specs.DxeMachine.{DxeMachine};
 ghost use Rattle.mod_catalog.specs.WellFormed.{IsWellFormed};
@@ -15,7 +15,9 @@ use crate::passes::Agenda;
 use crate::stop::put_stop;
 use crate::tell::tell;
 use boot_io::{Halt, Sink};
-use boot_laws::{Before, Choice, Reached, dxe_chooses_by_groups, dxe_goes_on, dxe_opens, groups_are_aimed};
+use boot_laws::{
+    Before, Choice, Reached, dxe_chooses_by_groups, dxe_goes_on, dxe_opens, groups_are_aimed,
+};
 use boot_model::DxeEnd;
 use depex_code::Steps;
 use dxe_core::{Dxe, Stepped};
