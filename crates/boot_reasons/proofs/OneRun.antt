@@ -25,7 +25,6 @@ use Rattle.boot_reasons.specs.{Boots.HasOneExplanation, Joining.together, PeiEnd
 use Rattle.boot_reasons.specs.DxeTelling as T
 use Rattle.boot_reasons.specs.Explained.{ExplainsTo, IsExplainedAfter, IsExplainedBy, IsExplainedInDxe, IsLeftBefore, left_in_dxe, left_in_pei}
 use Rattle.boot_reasons.proofs.{OneTelling.one_told, OneTelling.one_told_in_dxe}
-
 pub use Rattle.boot_core.proofs.OneRun.{RunLaws}
 
 -- What it comes to.
