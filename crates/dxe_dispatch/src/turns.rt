@@ -3,7 +3,8 @@ ghost use Rattle.std.specs.Prelude.{◌≡◌, ◌≢◌, ◌≤◌, ◌+◌, �
 ghost use Rattle.boot_io.specs.Halted.{HaltsAfter};
 ghost use Rattle.boot_model.specs.DxeMachine.{DxeMachine};
 ghost use Rattle.mod_catalog.specs.WellFormed.{IsWellFormed};
-ghost use Rattle.dxe_dispatch.specs.{Queue.IsQueueFor, Queue.owed, Choices.IsOnWay, Choices.TurnsByChoice, Choices.TurnsTold};
+ghost use Rattle.dxe_dispatch.specs.Queue.{IsQueueFor, owed};
+ghost use Rattle.dxe_dispatch.specs.Choices.{IsOnWay, TurnsByChoice, TurnsTold};
 ghost use Rattle.dxe_core.specs.{Standing.IsFor, Steps.IsIdle};
 ghost use Rattle.dxe_dispatch.specs.Turns.{AreKeptFor, IsAtTurn, OwesBehind, TurnsDxe, TurnsIdleDxe};
 

@@ -3,9 +3,9 @@ use Rattle.std.proofs.lemmas.Result.{err_from_is_err_and}
 use Rattle.boot_io.proofs.PutsLaws.{appends_none}
 use Rattle.boot_trace.specs.Printing.{Texts}
 use Rattle.dxe_core.specs.Order.{Drivers}
-use Rattle.dxe_dispatch.specs.{Queue.IsSeen, Queue.Queue, Queue.owed, Ends.IsNow, Turns.IsLeft}
-use Rattle.dxe_dispatch.specs.Choices.{IsOnWay, NamesDriver}
-use Rattle.dxe_dispatch.specs.{PassList.IsPassListOf, PassList.PassList, Passes.refilled, Passes.told_in}
+use Rattle.dxe_dispatch.specs.{Ends.IsNow, Turns.IsLeft, Choices.IsOnWay, Choices.NamesDriver, PassList.IsPassListOf, PassList.PassList}
+use Rattle.dxe_dispatch.specs.Queue.{IsSeen, Queue, owed}
+use Rattle.dxe_dispatch.specs.Passes.{refilled, told_in}
 use Rattle.dxe_dispatch.proofs.Chosen.{few_started}
 use Rattle.dxe_dispatch.proofs.Following.{choice_of, given_up, keeps_passes, other_halt, refilled_so, told_so, turn_from, turn_with}
 use Rattle.dxe_dispatch.proofs.turns.turn_by.Goals as goal
