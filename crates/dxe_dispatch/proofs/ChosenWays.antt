@@ -1,7 +1,6 @@
 -- The run by choices so far.
-use Rattle.std.specs.Bool.{⊤}
+use Rattle.std.specs.{Bool.⊤, Io.KnownBytes.Appends}
 use Rattle.std.proofs.Common.{◌≡◌, ◌⊎◌, ◌≤◌, ◌<◌, ℕ, ◌+◌, arith, Bool, false, inl, inr, List, [], ◌∷◌, ◌++◌, Option, Ok, Err, refl, sym, ap, ◌∙◌, subst, is_some, length, append-nil}
-use Rattle.std.specs.Io.KnownBytes.{Appends}
 use Rattle.boot_io.proofs.PutsLaws.{appends_then, part_then}
 use Rattle.boot_io.specs.{Sink.AppendsPart, declared.halt.Halt.Halt}
 use Rattle.mod_catalog.specs.{declared.catalogue.Catalog.Catalog, WellFormed.IsWellFormed}

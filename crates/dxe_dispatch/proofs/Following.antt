@@ -1,24 +1,23 @@
 -- EDK2's queue follows a run.
-use Rattle.std.proofs.Common.{◌≡◌, ◌≢◌, ℕ, ◌+◌, ◌-◌, Bool, true, false, cond, List, [], ◌∷◌, ◌++◌, length, drop, flat_map, Option, Some, None, Result, Ok, Err, ◌≤◌, refl, sym, ap, subst, ◌∙◌, append-nil, inl, inr, arith, ◌&&◌}
-use Rattle.std.proofs.Math.Seq.{drop-append_seam, drop-length}
-use Rattle.std.proofs.lemmas.Grind.{flat_map-append}
+use Rattle.std.proofs.Common.{◌≡◌, ℕ, ◌+◌, ◌-◌, Bool, true, false, cond, List, [], ◌∷◌, ◌++◌, length, drop, flat_map, Option, Some, None, Result, Ok, Err, ◌≤◌, refl, sym, ap, subst, ◌∙◌, append-nil, inl, inr, arith, ◌&&◌}
+use Rattle.std.proofs.{Math.Seq.drop-append_seam, Math.Seq.drop-length, lemmas.Grind.flat_map-append}
 use Rattle.mod_catalog.specs.declared.catalogue.Catalog.{Catalog}
 use Rattle.boot_io.specs.declared.halt.Halt.{Halt}
-use Rattle.boot_model.specs.{DriverLicence.numbers_of, DxeChoice.a_priori_drivers, DxeMachine.DriverFrame, DxeMachine.DxeMachine, DxeStep.dxe_step, Text.text_of}
+use Rattle.boot_model.specs.{DriverLicence.numbers_of, DxeChoice.a_priori_drivers, DxeMachine.DriverFrame, DxeMachine.DxeMachine}
+use Rattle.boot_model.specs.{DxeStep.dxe_step, Text.text_of}
 use Rattle.boot_laws.specs.{declared.choice.Before.Before, DxeAim.GroupsAreAimed, Naming.Chooser, Naming.Rules}
 use Rattle.boot_laws.specs.declared.choice.Reached.TheVariants as R
 use Rattle.boot_trace.specs.Printing.{Texts}
 use Rattle.boot_trace.proofs.Lines.{part_whole}
 use Rattle.store_model.specs.StoreState.{StoreState}
-use Rattle.dxe_core.specs.{Order.Drivers, Standing.DxeCore, Turn.Printed, Turn.PrintedPart}
+use Rattle.dxe_core.specs.{Standing.DxeCore, Turn.Printed, Turn.PrintedPart}
 use Rattle.boot_laws.proofs.DriverGrowth.{driver_steps_grow}
-use Rattle.dxe_dispatch.specs.{declared.answer.Turn.Turn, declared.passes.Agenda.Agenda}
+use Rattle.dxe_dispatch.specs.{declared.answer.Turn.Turn, Aim.is_free, Aim.may_be_next, Ends.IsNow, Turns.IsLeft, Turns.StartsNone}
 use Rattle.dxe_dispatch.specs.declared.answer.Turn.TheVariants as T
 use Rattle.dxe_dispatch.specs.Choices.{DriverChoice, KeepsPasses, LetsDrivers, NamesDriver, NamesDrivers, TurnsBy, aimed_at, root_of}
-use Rattle.dxe_dispatch.specs.{Aim.aimed, Aim.is_free, Aim.may_be_next, Queue.IsSeen, Queue.Queue, Queue.owed}
+use Rattle.dxe_dispatch.specs.Queue.{IsSeen, Queue, owed}
 use Rattle.dxe_dispatch.specs.PassList.{Follows, FollowsTurn, GetsVolumes, IsPassListOf, PassList, RefillsIdle, turn_kept}
 use Rattle.dxe_dispatch.specs.Passes.{first_in, in_types, or_pass, pass, pass_of, queued_behind, refilled, refilled_over, told_in, told_in_dxe}
-use Rattle.dxe_dispatch.specs.{Ends.IsNow, Turns.IsLeft, Turns.StartsNone}
 use Rattle.dxe_dispatch.proofs.{Chosen.within_less, Turning.on_ok}
 use Rattle.dxe_dispatch.proofs.Targets.{Aimed, First, IsTarget, Own}
 

@@ -1,10 +1,9 @@
 -- What is kept of EDK2's queue.
-use Rattle.std.proofs.Common.{◌≡◌, ◌≢◌, ℕ, ◌+◌, ◌-◌, ◌<◌, ◌≤◌, arith, Bool, true, false, cond, List, [], ◌∷◌, ◌++◌, length, drop, map, flat_map, refl, sym, ap, subst, ◌∙◌, ◌↔◌, IsTrue, eqb-true, nat_eq, append-nil, length-drop, Option, None, Result, Ok, Err, OnOk}
-use Rattle.std.proofs.Math.ListN.{drop_of_length-le}
-use Rattle.std.proofs.lemmas.{Bool.Decides.nat_tests, List.map-append, Grind.flat_map-append}
-use Rattle.pi_base.specs.{declared.phase.Phase.TheVariants.Dxe, Lists.Each}
+use Rattle.std.proofs.Common.{◌≡◌, ℕ, ◌-◌, ◌<◌, ◌≤◌, arith, List, [], ◌∷◌, ◌++◌, length, drop, map, flat_map, refl, sym, ap, ◌∙◌, ◌↔◌, IsTrue, eqb-true, nat_eq, append-nil, length-drop, Result, Ok, Err, OnOk}
+use Rattle.std.proofs.{Math.ListN.drop_of_length-le, lemmas.Bool.Decides.nat_tests}
+use Rattle.pi_base.specs.declared.phase.Phase.TheVariants.{Dxe}
 use Rattle.mod_catalog.specs.{declared.catalogue.Catalog.Catalog, Parts.part_of, Parts.parts_in}
-use Rattle.boot_model.specs.{declared.driver.Scheduled.Scheduled, DriverLicence.numbers_of, DxeChoice.a_priori_drivers, DxeMachine.DxeMachine}
+use Rattle.boot_model.specs.{DriverLicence.numbers_of, DxeChoice.a_priori_drivers}
 use Rattle.boot_model.proofs.{Distinct.all_differ, Distinct.few_below, ListFacts.each_more, ListFacts.within}
 use Rattle.boot_laws.proofs.PartLists.{IsPartOfVolume, drivers_are, ranked_in}
 use Rattle.dxe_dispatch.specs.Choosing.{as_apriori}

@@ -3,9 +3,8 @@ use Rattle.std.proofs.Common.{◌≡◌, ◌≤◌, ℕ, zero, suc, ◌+◌, Lis
 use Rattle.std.proofs.lemmas.Grind.{flat_map-append}
 use Rattle.pi_base.specs.declared.phase.Phase.TheVariants.{Dxe}
 use Rattle.mod_catalog.specs.{declared.catalogue.Catalog.Catalog, Parts.parts_in}
-use Rattle.boot_model.specs.{declared.line.Line.Line, declared.phase_end.DxeEnd.DxeEnd, DxeMachine.DxeMachine}
-use Rattle.boot_model.specs.{DxeChoice.drivers_of, DxeChoice.discovered_order, DxeStep.dxe_step, DxeRun.dxe_run}
-use Rattle.boot_laws.proofs.DriverGrowth.{driver_steps_grow}
+use Rattle.boot_model.specs.{declared.line.Line.Line, declared.phase_end.DxeEnd.DxeEnd, DxeMachine.DxeMachine, DxeChoice.drivers_of}
+use Rattle.boot_model.specs.{DxeStep.dxe_step, DxeRun.dxe_run}
 use Rattle.dxe_dispatch.proofs.Growing.{step_grew}
 
 -- the run of a machine by how it has ended

@@ -4,14 +4,15 @@ use Rattle.boot_io.specs.declared.halt.Halt.{Halt}
 use Rattle.mod_catalog.specs.declared.catalogue.Catalog.{Catalog}
 use Rattle.store_model.specs.{HandleState.HandleState, StoreState.StoreState}
 use Rattle.boot_model.specs.{declared.phase_end.DxeEnd.DxeEnd, DxeMachine.DxeMachine, DxeRun.dxe_opening, DxeStep.dxe_step}
-use Rattle.boot_laws.specs.{declared.choice.Before.Before, declared.choice.Reached.Reached, DxeAim.FirstEligibleMayStart, DxeAim.GroupsAreAimed}
+use Rattle.boot_laws.specs.{declared.choice.Before.Before, declared.choice.Reached.Reached}
+use Rattle.boot_laws.specs.DxeAim.{FirstEligibleMayStart, GroupsAreAimed}
 use Rattle.boot_laws.specs.declared.choice.Reached.TheVariants as R
 use Rattle.dxe_core.specs.Standing.{DxeCore, StandsFor}
 use Rattle.dxe_dispatch.specs.Queue.{Discovers, IsNewQueue, Queue}
-use Rattle.dxe_dispatch.specs.{declared.answer.Step.Step, Ends.IsNow, Turns.IsLeft, declared.boot.Left.Left}
+use Rattle.dxe_dispatch.specs.{declared.answer.Step.Step, Ends.IsNow, Turns.IsLeft, declared.boot.Left.Left, declared.passes.Agenda.Agenda}
 use Rattle.dxe_dispatch.specs.declared.answer.Turn.TheVariants as T
 use Rattle.dxe_dispatch.specs.Choices.{DriverChoice, DxeBoot, IsAimedBy, StopsShort, TurnsBy, came, leaves, told_last}
-use Rattle.dxe_dispatch.specs.{declared.passes.Agenda.Agenda, PassList.IsPassListOf, PassList.PassList, PassList.turn_kept}
+use Rattle.dxe_dispatch.specs.PassList.{IsPassListOf, PassList, turn_kept}
 use Rattle.dxe_dispatch.specs.Passes.{queued, refilled, told_in_dxe}
 use Rattle.dxe_dispatch.specs.Watched.{BootsKnown, DxeCourse, RunsKnown, StandsLeft, WasAimed, WasLast, WasStep}
 use Rattle.dxe_dispatch.proofs.{Chosen.Any, Chosen.target_at, Targets.left_before}

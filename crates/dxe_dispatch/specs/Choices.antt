@@ -9,15 +9,16 @@ use Rattle.boot_model.specs.{declared.phase_end.DxeEnd.DxeEnd, DxeChoice.discove
 use Rattle.boot_model.specs.{DxeStep.dxe_step, EvaluationBound.dxe_asked, EvaluationBound.dxe_guids, Text.text_of}
 use Rattle.boot_laws.specs.{UnrequestedDrivers.WaitForRequest, DxeAim.IsChoosing, DxeAim.follows, DxeUnderWay.IsUnderWay}
 use Rattle.boot_trace.specs.Printing.{Texts}
-use Rattle.boot_laws.specs.{declared.choice.Before.Before, declared.choice.Reached.Reached, Naming.Chooser, Naming.HasPut, Naming.MayName, Naming.Rules}
+use Rattle.boot_laws.specs.{declared.choice.Before.Before, declared.choice.Reached.Reached}
+use Rattle.boot_laws.specs.Naming.{Chooser, HasPut, MayName, Rules}
 use Rattle.boot_laws.specs.declared.choice.Reached.TheVariants as R
 use Rattle.dxe_dispatch.specs.{Aim.aimed, Queue.IsQueueOf, Queue.Queue, declared.answer.Turn.Turn, declared.boot.Barred.Barred}
 use Rattle.dxe_dispatch.specs.declared.answer.Turn.TheVariants as T
-use Rattle.dxe_dispatch.specs.{declared.passes.Agenda.Agenda, PassList.IsPassListOf, PassList.PassList}
+use Rattle.dxe_dispatch.specs.{declared.passes.Agenda.Agenda, PassList.IsPassListOf, PassList.PassList, declared.boot.Ended.Ended}
 use Rattle.dxe_dispatch.specs.Passes.{queued_behind, refilled, told_in, told_in_dxe}
 pub use Rattle.dxe_dispatch.specs.Passes.{DriverChoice, came}
 use Rattle.dxe_core.specs.Standing.{DxeCore, IsFor, StandsFor}
-use Rattle.dxe_dispatch.specs.{declared.boot.Ended.Ended, declared.boot.Left.Left}
+use Rattle.dxe_dispatch.specs.declared.boot.Left.{Left}
 use Rattle.dxe_dispatch.specs.declared.boot.Left.TheVariants as V
 use Rattle.dxe_dispatch.specs.Ends.{HasEnded, IsNow, StandsAtEnd}
 use Rattle.dxe_dispatch.specs.Turns.{AreKeptFor, IsLeft, IsStarting, EvaluatesWithin, PassesStart, TurnsDxeTo}

@@ -5,8 +5,7 @@ use Rattle.mod_catalog.specs.declared.catalogue.Catalog.{Catalog}
 use Rattle.boot_model.specs.{DriverLicence.numbers_of, DxeChoice.a_priori_drivers, DxeMachine.DxeMachine}
 use Rattle.dxe_core.specs.{Order.Drivers, Standing.DxeCore}
 use Rattle.dxe_dispatch.specs.Passes.{first_in, in_types, or_pass, pass_of}
-use Rattle.dxe_dispatch.specs.Queue.{IsSeen, Queue}
-use Rattle.dxe_dispatch.specs.declared.answer.Turn.{Turn}
+use Rattle.dxe_dispatch.specs.{Queue.IsSeen, Queue.Queue, declared.answer.Turn.Turn}
 use Rattle.dxe_dispatch.specs.declared.answer.Turn.TheVariants as T
 
 -- whether it is wanted; the drivers of the discovered volumes, as EDK2 goes over them; and what is left of the queue
@@ -47,12 +46,12 @@ pub record Leave (count : ℕ) (old new : PassList) : Type 0 where
 abbrev pub Follows : Catalog → ℕ → List ℕ → PassList → PassList → Type 0
 Follows catalog count volumes old new = (mid : PassList) × Leave count old mid × GetsVolumes catalog volumes mid new
 
--- where no script runs the next pass is taken, elsewhere nothing is
+-- the next pass is taken only if no script runs
 abbrev pub RefillsIdle : Catalog → DxeCore → Queue → PassList → PassList → Type 0
 RefillsIdle catalog core queue old new =
     (core.frames ≡ [] → Refills catalog queue core.services.order old new) × (core.frames ≢ [] → new ≡ old)
 
--- behind a step so many have left, and these volumes have come; else nothing changes
+-- after a step so many have left, and these volumes have come; else nothing changes
 abbrev pub FollowsTurn : Catalog → ℕ → List ℕ → Turn → PassList → PassList → Type 0
 FollowsTurn catalog count volumes (T.Took step) old new = Follows catalog count volumes old new
 FollowsTurn catalog count volumes (T.Reached reached) old new = new ≡ old

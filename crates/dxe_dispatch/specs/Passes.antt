@@ -4,8 +4,8 @@
 use Rattle.std.specs.Prelude.{ℕ, ◌+◌, ◌-◌, Bool, false, ◌==◌, if◌then◌else◌, List, [], ◌∷◌, ◌++◌, drop, length, filter, flat_map, Option, Some, None, option_map, slice_get, unwrap_or}
 use Rattle.pi_base.specs.declared.phase.Phase.TheVariants.{Dxe}
 use Rattle.mod_catalog.specs.{declared.catalogue.Catalog.Catalog, Parts.parts_in}
-use Rattle.boot_model.specs.DxeChoice.{a_priori_drivers, companion_group}
-use Rattle.boot_model.specs.{DriverLicence.numbers_of, DxeMachine.DriverFrame, DxeMachine.DxeMachine, DxeStep.dxe_step}
+use Rattle.boot_model.specs.{DxeChoice.a_priori_drivers, DxeChoice.companion_group, DriverLicence.numbers_of}
+use Rattle.boot_model.specs.{DxeMachine.DriverFrame, DxeMachine.DxeMachine, DxeStep.dxe_step}
 use Rattle.boot_laws.specs.{declared.choice.Before.Before, Naming.Chooser, Naming.told_before}
 use Rattle.dxe_dispatch.specs.Aim.{may_be_next}
 
@@ -34,7 +34,7 @@ abbrev pub or_pass : List ℕ → List ℕ → List ℕ
 or_pass [] next = next
 or_pass (first ∷ rest) next = first ∷ rest
 
--- a queue when the dispatcher goes on: only if no script runs is there a next pass
+-- the same by the scripts that run: there is a next pass only if none does
 abbrev pub refilled_over : List DriverFrame → List ℕ → List ℕ → List ℕ
 refilled_over [] queue next = or_pass queue next
 refilled_over (frame ∷ below) queue next = queue
@@ -52,31 +52,31 @@ first_in (first ∷ rest) = Some first
 abbrev pub turn_in : Catalog → DxeMachine → List ℕ → Option ℕ
 turn_in catalog m queue = first_in (refilled catalog m queue)
 
--- the queue after a step: as many have left it as have started, and the a priori drivers of the volumes that came are at the end
+-- the queue after a step: as many have left it as have started, and the a priori drivers of the volumes that came are at its end
 abbrev pub queued_behind : Catalog → DxeMachine → DxeMachine → List ℕ → List ℕ
 queued_behind catalog before later queue =
     drop (length later.started - length before.started) queue ++ numbers_of (a_priori_drivers catalog (drop (length before.discovered) later.discovered))
 
--- the machine behind steps from these ones, the last of them first
+-- the machine after steps from these ones, the last of them first
 abbrev pub came : Catalog → ℕ → DxeMachine → List DxeMachine → DxeMachine
 came catalog fuel opening [] = opening
 came catalog fuel opening (target ∷ earlier) = dxe_step catalog fuel target
 
--- the queue there; at the opening it has the a priori drivers that are scheduled
+-- the queue there; at the opening it has the a priori drivers, which are scheduled
 abbrev pub queued : Catalog → ℕ → DxeMachine → List DxeMachine → List ℕ
 queued catalog fuel opening [] = numbers_of opening.scheduled
 queued catalog fuel opening (target ∷ earlier) =
     queued_behind catalog target (dxe_step catalog fuel target) (refilled catalog (came catalog fuel opening earlier) (queued catalog fuel opening earlier))
 
--- a way to choose drivers behind PEI: who chooses, and how many starts there were in PEI
+-- a way to choose drivers: who chooses, and how many starts there were in PEI
 pub record DriverChoice (S : Type 0) : Type 1 where
   pub by : Chooser S
   pub in_pei : ℕ
 
--- what is told in a machine: how many starts there were, those in PEI with them, and whose turn it is by the queue
+-- what the choice is told in a machine: how many starts there were, those in PEI with them, and whose turn it is by the queue, if it wants to know
 abbrev pub told_in : {S : Type 0} → DriverChoice S → Catalog → DxeMachine → List ℕ → Before
 told_in choice catalog m queue = told_before choice.by.rules (choice.in_pei + length m.started) (turn_in catalog m queue)
 
--- what is told behind steps from these machines
+-- what it is told after steps from these machines
 abbrev pub told_in_dxe : {S : Type 0} → DriverChoice S → Catalog → ℕ → DxeMachine → List DxeMachine → Before
 told_in_dxe choice catalog fuel opening earlier = told_in choice catalog (came catalog fuel opening earlier) (queued catalog fuel opening earlier)

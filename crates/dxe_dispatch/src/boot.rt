@@ -5,8 +5,8 @@ ghost use Rattle.mod_catalog.specs.WellFormed.{IsWellFormed};
 ghost use Rattle.store_model.specs.{Service.Present, Service.OfEach, StoreCall.Anything};
 ghost use Rattle.dxe_core.specs.Standing.{IsFor};
 ghost use Rattle.boot_laws.specs.declared.choice.Reached.TheVariants as R;
-ghost use Rattle.dxe_dispatch.specs.{Watched.BootsWatched, Watched.LeavesWatched, Ends.IsAtOpening, Ends.IsOpened};
-ghost use Rattle.dxe_dispatch.specs.{Choices.handles_of, Choices.leaves, Choices.told_last, PassList.turn_kept};
+ghost use Rattle.dxe_dispatch.specs.{Watched.BootsWatched, Watched.LeavesWatched, Ends.IsAtOpening, Ends.IsOpened, PassList.turn_kept};
+ghost use Rattle.dxe_dispatch.specs.Choices.{handles_of, leaves, told_last};
 
 use crate::passes::Agenda;
 use crate::watch::DxeWatch;

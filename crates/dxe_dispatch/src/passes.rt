@@ -1,8 +1,7 @@
 //! Whose turn it is in the order of EDK2's dispatcher, and what the dispatcher keeps.
-ghost use Rattle.std.specs.Prelude.{◌≡◌, ◌≤◌, ◌<◌, ◌+◌, ◌-◌, ◌^◌, ◌++◌, [], ◌∷◌, ℕ, IsTrue, ◌↔◌, drop, filter, flat_map, length, IfOk, OnOk};
+ghost use Rattle.std.specs.Prelude.{◌≡◌, ◌≤◌, ◌<◌, ◌+◌, ◌-◌, ◌^◌, ◌++◌, [], ◌∷◌, IsTrue, ◌↔◌, drop, filter, flat_map, length, IfOk, OnOk};
 ghost use Rattle.mod_catalog.specs.{declared.limits.TheConstants.MOST_MODULES, WellFormed.IsWellFormed};
 ghost use Rattle.boot_model.specs.{DriverLicence.numbers_of, DxeChoice.a_priori_drivers, DxeMachine.DxeMachine};
-ghost use Rattle.dxe_core.specs.Order.{Drivers};
 ghost use Rattle.dxe_dispatch.specs.Passes.{has_type, in_types};
 ghost use Rattle.dxe_dispatch.specs.PassList.{Follows, FollowsTurn, GetsVolumes, Leave, Refills, RefillsIdle, turn_kept};
 ghost use Rattle.dxe_dispatch.specs.Queue.{IsNewQueue, IsQueueFor, IsQueueOf, IsSeen, owed};
@@ -11,7 +10,7 @@ use crate::DriverQueue;
 use crate::answer::Turn;
 use boot_laws::Before;
 use depex_code::Steps;
-use dxe_core::{Dxe, DriverOrder};
+use dxe_core::{DriverOrder, Dxe};
 use mod_catalog::Catalog;
 use phase_parts::Parts;
 use pi_base::{OutOfMemory, Phase, Seq};
@@ -54,11 +53,7 @@ fn push_type(
 }
 
 // Adds the drivers of a volume at the end, as EDK2 goes over them: type by type, each by place.
-fn push_volume(
-    drivers: &mut Seq<u32>,
-    catalog: &Catalog,
-    volume: u32,
-) -> Result<(), OutOfMemory>
+fn push_volume(drivers: &mut Seq<u32>, catalog: &Catalog, volume: u32) -> Result<(), OutOfMemory>
     requires { length catalog.now.modules ≤ MOST_MODULES }
     ensures { OnOk result (drivers.new ≡ drivers.old ++ in_types catalog.now volume) }
 {

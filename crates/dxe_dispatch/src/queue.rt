@@ -392,7 +392,6 @@ impl DriverQueue {
         Ok(pass)
     }
 
-
     // The head leaves the queue, if there is one.
     fn take(&mut self) -> Option<Scheduled>
         ensures { TakesHead self.old result self.new }

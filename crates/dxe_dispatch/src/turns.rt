@@ -1,9 +1,10 @@
 //! A turn of the run: a step of the machine.
-ghost use Rattle.std.specs.Prelude.{◌≡◌, ◌≢◌, ◌≤◌, ◌<◌, ◌+◌, ◌^◌, ℕ, Bool, [], OnOk};
+ghost use Rattle.std.specs.Prelude.{◌≡◌, ◌≢◌, ◌≤◌, ◌+◌, ℕ, Bool, [], OnOk};
 ghost use Rattle.boot_io.specs.Halted.{HaltsAfter};
 ghost use Rattle.boot_model.specs.DxeMachine.{DxeMachine};
 ghost use Rattle.mod_catalog.specs.WellFormed.{IsWellFormed};
-ghost use Rattle.dxe_dispatch.specs.{Queue.IsQueueFor, Queue.owed, Choices.IsOnWay, Choices.TurnsByChoice, Choices.TurnsTold};
+ghost use Rattle.dxe_dispatch.specs.Queue.{IsQueueFor, owed};
+ghost use Rattle.dxe_dispatch.specs.Choices.{IsOnWay, TurnsByChoice, TurnsTold};
 ghost use Rattle.dxe_core.specs.{Standing.IsFor, Steps.IsIdle};
 ghost use Rattle.dxe_dispatch.specs.Turns.{AreKeptFor, IsAtTurn, OwesBehind, TurnsDxe, TurnsIdleDxe};
 
@@ -15,7 +16,9 @@ use crate::passes::Agenda;
 use crate::stop::put_stop;
 use crate::tell::tell;
 use boot_io::{Halt, Sink};
-use boot_laws::{Before, Choice, Reached, dxe_chooses_by_groups, dxe_goes_on, dxe_opens, groups_are_aimed};
+use boot_laws::{
+    Before, Choice, Reached, dxe_chooses_by_groups, dxe_goes_on, dxe_opens, groups_are_aimed,
+};
 use boot_model::DxeEnd;
 use depex_code::Steps;
 use dxe_core::{Dxe, Stepped};

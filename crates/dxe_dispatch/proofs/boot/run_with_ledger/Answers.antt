@@ -1,7 +1,5 @@
-use Rattle.std.proofs.Common.{◌≡◌, ◌≤◌, ℕ, ap, ◌∙◌}
 use Rattle.std.proofs.lemmas.Result.{err_from_is_err_and}
 use Rattle.boot_model.specs.DxeRun.{dxe_opening}
-use Rattle.dxe_dispatch.specs.PassList.{PassList}
 use Rattle.dxe_dispatch.proofs.Following.{choice_of, lets_along, names_along}
 use Rattle.dxe_dispatch.proofs.Openings.{none_ran, some_left}
 use Rattle.dxe_dispatch.proofs.boot.run_with_ledger.Goals as goal

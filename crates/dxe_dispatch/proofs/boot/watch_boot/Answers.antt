@@ -3,8 +3,7 @@ use Rattle.std.proofs.lemmas.Result.{err_from_is_err_and}
 use Rattle.store_model.specs.HandleState.{HandleState}
 use Rattle.boot_model.specs.DxeRun.{dxe_opening}
 use Rattle.dxe_dispatch.proofs.Following.{choice_of, lets_along, names_along}
-use Rattle.dxe_dispatch.proofs.Openings.{handles_are, none_ran}
-use Rattle.dxe_dispatch.proofs.Watching.{boot_halts_watched, boots_watched}
+use Rattle.dxe_dispatch.proofs.{Openings.handles_are, Openings.none_ran, Watching.boot_halts_watched, Watching.boots_watched}
 use Rattle.dxe_dispatch.proofs.boot.watch_boot.Goals as goal
 
 pub run_with_ledger-run-requires-clause-opening : goal.run_with_ledger-run-requires-clause-opening

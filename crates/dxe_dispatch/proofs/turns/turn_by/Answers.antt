@@ -1,11 +1,11 @@
-use Rattle.std.proofs.Common.{◌≡◌, ◌+◌, ◌-◌, ℕ, List, inl, inr, sym, subst, arith, ◌∙◌, ap, length, drop}
+use Rattle.std.proofs.Common.{◌+◌, ◌-◌, inl, inr, sym, subst, arith, ◌∙◌, ap, length, drop}
 use Rattle.std.proofs.lemmas.Result.{err_from_is_err_and}
 use Rattle.boot_io.proofs.PutsLaws.{appends_none}
 use Rattle.boot_trace.specs.Printing.{Texts}
 use Rattle.dxe_core.specs.Order.{Drivers}
-use Rattle.dxe_dispatch.specs.{Queue.IsSeen, Queue.Queue, Queue.owed, Ends.IsNow, Turns.IsLeft}
-use Rattle.dxe_dispatch.specs.Choices.{IsOnWay, NamesDriver}
-use Rattle.dxe_dispatch.specs.{PassList.IsPassListOf, PassList.PassList, Passes.refilled, Passes.told_in}
+use Rattle.dxe_dispatch.specs.{Ends.IsNow, Turns.IsLeft, Choices.IsOnWay, Choices.NamesDriver, PassList.IsPassListOf, PassList.PassList}
+use Rattle.dxe_dispatch.specs.Queue.{IsSeen, Queue, owed}
+use Rattle.dxe_dispatch.specs.Passes.{refilled, told_in}
 use Rattle.dxe_dispatch.proofs.Chosen.{few_started}
 use Rattle.dxe_dispatch.proofs.Following.{choice_of, given_up, keeps_passes, other_halt, refilled_so, told_so, turn_from, turn_with}
 use Rattle.dxe_dispatch.proofs.turns.turn_by.Goals as goal
@@ -105,8 +105,7 @@ returns-clause-row g c m fuel first queue made on has is =
     let count = ap (λ (q : Queue). q.left - c.left_count-left.result) (sym c.follow.ensures.queue) ∙ ap (λ n. c.follow.new.self.queue.left - n) (c.left_count-left.ensures ∙ mid.now.queue.left) in
     let volumes = ap (λ (o : Drivers). drop (length c.volumes-known.result.now) o.volumes) c.order-2.ensures
     ∙ ap (λ xs. drop (length xs) c.turn_told.new.dxe.services.order.volumes) (c.volumes-known.ensures ∙ ap (λ (o : Drivers). o.volumes) c.order.ensures ∙ on.now.machine.core.services.order.volumes_are) in
-    let P : PassList → Type 0 = λ k. IsPassListOf catalog rules.wants_turn m (refilled catalog m queue) k in
-    (
+    let P : PassList → Type 0 = λ k. IsPassListOf catalog rules.wants_turn m (refilled catalog m queue) k in (
       by,
       keeps_passes Names (λ m number. rules.lets_in_dxe so number) stands store (IsLeft stands store catalog c.turn_told.new.dxe c.follow.new.self.queue) catalog fuel m t (c.args.steps.now + owed c.args.agenda.now.queue) (c.turn_told.new.steps + owed c.follow.new.self.queue) c.in_ok-turn.turn
           rules.wants_turn queue c.turn_told.new.dxe c.follow.new.self.queue now.passes c.follow.new.self.passes _ _ count volumes (subst P (sym c.turn_told.ensures.passes) kept) c.in_ok-follow.ensures.row by,

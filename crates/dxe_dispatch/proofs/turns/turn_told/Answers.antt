@@ -1,9 +1,7 @@
 use Rattle.std.proofs.Common.{◌+◌, ℕ, Bool, Option}
 use Rattle.std.proofs.lemmas.Result.{err_from_is_err_and}
 use Rattle.boot_model.specs.DxeMachine.{DxeMachine}
-use Rattle.dxe_dispatch.specs.{Queue.owed, Ends.IsNow}
-use Rattle.dxe_dispatch.specs.Choices.{NamesDriver, aimed_at}
-use Rattle.dxe_dispatch.specs.Turns.{AreKeptFor, IsLeft}
+use Rattle.dxe_dispatch.specs.{Queue.owed, Ends.IsNow, Choices.NamesDriver, Choices.aimed_at, Turns.AreKeptFor, Turns.IsLeft}
 use Rattle.dxe_dispatch.proofs.Chosen.{StepLaws, aim_by, has_aimed, not_aimed, turned_by, within_less}
 use Rattle.dxe_dispatch.proofs.Turning.{on_ok}
 use Rattle.dxe_dispatch.proofs.turns.turn_told.Goals as goal

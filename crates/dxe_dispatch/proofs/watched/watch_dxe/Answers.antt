@@ -2,8 +2,7 @@ use Rattle.std.proofs.Common.{arith, ◌≡◌, ◌<◌, ◌+◌, ◌^◌, sym, 
 use Rattle.std.proofs.lemmas.Result.{err_from_is_err_and}
 use Rattle.boot_model.specs.{DxeChoice.a_priori_drivers, DxeRun.dxe_opening, DxeRun.dxe_bound, DxeStep.dxe_step}
 use Rattle.dxe_core.specs.Order.{Drivers, IsOrderOf}
-use Rattle.dxe_dispatch.specs.Queue.{owed}
-use Rattle.dxe_dispatch.specs.{Choices.came, Passes.queued, Passes.told_in_dxe}
+use Rattle.dxe_dispatch.specs.{Queue.owed, Choices.came, Passes.queued, Passes.told_in_dxe}
 use Rattle.dxe_dispatch.proofs.Chosen.{StepLaws}
 use Rattle.dxe_dispatch.proofs.ChosenWays.{coming_few, coming_on, coming_stops, few_left, few_over, none_evaluated, opening_comes, opening_drivers, opening_halts, opening_part, turn_to_come}
 use Rattle.dxe_dispatch.proofs.Following.{choice_of, lets_along, names_along, opening_passes}

@@ -3,7 +3,8 @@ use Rattle.store_model.specs.StoreState.{StoreState}
 use Rattle.boot_model.specs.DxeRun.{dxe_opening}
 use Rattle.dxe_dispatch.specs.{Choices.came, Passes.queued, PassList.IsPassListOf, Queue.IsQueueFor, Queue.owed}
 use Rattle.dxe_core.specs.Standing.{IsFor, StandsFor}
-use Rattle.dxe_dispatch.proofs.{ChosenWays.IsComing, Following.choice_of, Following.lets_along, Following.names_along}
+use Rattle.dxe_dispatch.proofs.ChosenWays.{IsComing}
+use Rattle.dxe_dispatch.proofs.Following.{choice_of, lets_along, names_along}
 use Rattle.dxe_dispatch.proofs.watched.watch_dxe.Given as goal
 
 -- the core and the queue stand for a machine of a run by these choices, and what is kept of EDK2's queue is what it is there
