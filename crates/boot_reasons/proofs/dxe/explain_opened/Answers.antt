@@ -28,8 +28,8 @@ run_to_end-requires-clause-opening g c =
           (record { queue = c.discover.new.self; passes = c.discover-2.new.self }) c.new-told.result c.requires.catalog o.3 o.4 c.requires.new c.requires.passes discovers gets c.new-told.ensures.begun c.new-told.ensures.givers,
     )
 
-pub returns-in-Ok-explain_end : goal.returns-in-Ok-explain_end
-returns-in-Ok-explain_end g c = record {
+pub returns-in-Ok : goal.returns-in-Ok
+returns-in-Ok g c = record {
   row = λ s actions fuel made is.
       let catalog = c.args.catalog.now in
       let shown = c.volumes-volumes.ensures ∙ ap (λ (order : Drivers). order.volumes) c.order.ensures in
@@ -42,7 +42,7 @@ returns-in-Ok-explain_end g c = record {
       record {
         earlier = row.0;
         run = run.run;
-        explained = c.in-Ok-explain_end.ensures row.0 (came catalog fuel (dxe_opening catalog s actions) row.0) run.ended run.stands_at_end run.is_told;
+        explained = c.in-Ok.ensures row.0 (came catalog fuel (dxe_opening catalog s actions) row.0) run.ended run.stands_at_end run.is_told;
       };
 }
 
