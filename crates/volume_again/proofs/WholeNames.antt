@@ -184,7 +184,7 @@ bytes_name bytes last next true e = ap (λ (f : NewFile). f.name) (sym (same_fil
 bytes_name bytes last next false e = absurd cc
 
 -- the name and the files that lines say
-pub files_whole : (header_len : ℕ) (lines : List (List ℕ)) (called : Option VolumeName) (files : List NewFile) → SayFiles header_len lines called files → IsWhole called × All HasWholeName files
+pub files_whole : {deep : ℕ} (header_len : ℕ) (lines : List (List ℕ)) (called : Option VolumeName) (files : List NewFile) → SayFiles deep header_len lines called files → IsWhole called × All HasWholeName files
 files_whole header_len _ _ _ no_file = (tt, All-nil HasWholeName)
 files_whole header_len _ _ _ (named lines files line name say says placed) = (line_whole line (said.Name name) says, (files_whole header_len lines None files say).1)
 files_whole header_len _ _ _ (padded lines called files line size say says) = let more = files_whole header_len lines called files say in (more.0, All-push HasWholeName files _ more.1 refl)
