@@ -17,7 +17,7 @@ use pi_base::{Phase, Seq};
 use std::alloc::Global;
 
 /// How many volumes may be open one in the other inside of the outermost: no reader of an image looks deeper (own).
-const MOST_INSIDE: usize = 3;
+pub const MOST_INSIDE: usize = 3;
 
 /// What is open behind some lines of a text.
 #[derive(Drop)]
