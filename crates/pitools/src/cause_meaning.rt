@@ -4,7 +4,7 @@
 static SOURCE_WORDS: [(&str, &str); 41] = [
     (
         "UnknownLine",
-        "begins no line of a volume; volume, name, file, pad, depex, script, guids, raw, section, body, end do",
+        "begins no line of a volume; volume, name, file, pad, depex, script, guids, raw, section, ui, body, end do",
     ),
     ("Missing", "lacks a word"),
     ("Extra", "has a word too many"),

@@ -15,12 +15,12 @@ use Rattle.fv_volume.specs.{declared.build.volume_name.VolumeName.VolumeName, At
 use Rattle.volume_text.specs.{declared.volume.OpenVolume.OpenVolume, Words.is_header, Words.is_length, Step.section_of}
 use Rattle.volume_text.specs.Open.{new_file, depex_type}
 use Rattle.volume_text.specs.Volume.{SayFiles, no_file, named, padded, file, bodied, section, depex, script, volume, SaysOpen, SaysVolume}
-use Rattle.volume_text.specs.Text.{numbered, Leads}
-use Rattle.volume_print.specs.Spelling.{phase_word, guid_word as told_guid, is_a_priori, volume_line, name_line, IsSectionText, as_volume, as_expression, as_guids, as_script, as_bytes, AreSectionTexts, whole, body_line, head_line, are_erased, pad_line, pad_text, with_pads, IsBodyText, host_of, IsFileText, IsVolumeText}
+use Rattle.volume_text.specs.{Text.numbered, Text.Leads, UserInterface.ui_bytes}
+use Rattle.volume_print.specs.Spelling.{phase_word, guid_word as told_guid, is_a_priori, volume_line, name_line, IsSectionText, as_volume, as_expression, as_guids, as_script, as_name, as_bytes, AreSectionTexts, whole, body_line, head_line, are_erased, pad_line, pad_text, with_pads, IsBodyText, host_of, IsFileText, IsVolumeText}
 use Rattle.volume_print.specs.Places.{pad_of}
 use Rattle.volume_again.specs.Again.{IsNameOfBytes, IsOfBytes, IsBodyOfBytes, IsFileOfBytes, IsSectionAgain, IsFileAgain, among}
 use Rattle.volume_again.proofs.TextLines.{IsLine, Has, has_none, has_line, has_both, has_all, has_own}
-use Rattle.volume_again.proofs.SaidLines.{volume_text, volume_says, name_text, name_says, least_size, file_text, file_says, section_text, section_says, body_says, pad_says, guids_say, depex_says, script_says as script_begins, end_says}
+use Rattle.volume_again.proofs.SaidLines.{volume_text, volume_says, name_text, name_says, least_size, file_text, file_says, section_text, section_says, ui_says, body_says, pad_says, guids_say, depex_says, script_says as script_begins, end_says}
 use Rattle.volume_again.proofs.FileLines.{block_texts, script_says, script_has, same_scripts, same_depexes}
 use Rattle.volume_again.proofs.{Trees.expression_is, GuidRuns.run_is, GuidRuns.guids_are, GoodScripts.good_script}
 use Rattle.volume_again.proofs.ByteRuns.{left_bytes, guid_there}
@@ -121,7 +121,16 @@ section_told Inner deep laws size host attributes before done one lines called f
       say = script lines called files (file_of host attributes done) (file_of host attributes (done ++ again ∷ [])) head s.phase inner s.blocks (codes "end") one.body say begins.says x.part
           (same_scripts Inner host s.phase before done each ∙ x.first) (script_says s.phase s.blocks good) end_says.says x.bytes refl;
     }
-section_told Inner deep laws size host attributes before done one lines called files text fits each (as_bytes v n l m is) say =
+section_told Inner deep laws size host attributes before done one lines called files text fits each (as_name name x is) say =
+    let l = ui_says name x.1.some x.1.shown in
+    let again = section_of 21 (ui_bytes name) in
+    record {
+      told = one_line text (codes "ui " ++ name) is l.is;
+      again = again;
+      is = (sym x.0, ap length (sym x.1.bytes), inl (sym x.1.bytes));
+      say = section lines called files (file_of host attributes done) (file_of host attributes (done ++ again ∷ [])) (codes "ui " ++ name) 21 (ui_bytes name) say l.says refl;
+    }
+section_told Inner deep laws size host attributes before done one lines called files text fits each (as_bytes v n l m u is) say =
     let told = section_says one.kind one.body fits.0 fits.1 in
     let again = section_of one.kind one.body in
     record {

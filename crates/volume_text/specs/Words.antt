@@ -12,7 +12,7 @@ use Rattle.volume_text.specs.{declared.word.TheConstants.MOST_PAD, declared.faul
 use Rattle.volume_text.specs.declared.fault.Cause.TheVariants as cause
 use Rattle.fv_volume.specs.{declared.build.file_system.FileSystem.FileSystem, declared.build.file_system.FileSystem.TheVariants.Ffs2}
 use Rattle.volume_text.specs.Keywords.{phase_of, system_of, file_type_of, byte_of}
-use Rattle.volume_text.specs.Reading.{◌>>=◌, only_if, there}
+use Rattle.volume_text.specs.{Reading.◌>>=◌, Reading.only_if, Reading.there, UserInterface.is_ui_name}
 
 -- the first word, and the others
 abbrev pub word_at : List (List ℕ) → Result (List ℕ × List (List ℕ)) Cause
@@ -140,3 +140,9 @@ section_type_at words = do
   w ← word_at words
   kind ← there cause.SectionType (byte_of w.0)
   Ok (kind, w.1)
+
+-- a name in a user interface section
+unfoldable pub ui_name_at : List (List ℕ) → Result (List ℕ × List (List ℕ)) Cause
+ui_name_at words = do
+  w ← word_at words
+  only_if (is_ui_name w.0) cause.Word w

@@ -257,7 +257,7 @@ const AUDIT_MAIN_FRONT: [u8; 1254] = [
 ];
 
 /// Texts with a mistake, its line and its cause.
-static MISTAKES: [(&str, u64, Cause); 87] = [
+static MISTAKES: [(&str, u64, Cause); 91] = [
     ("", 1, Cause::NoVolume), // no line
     ("\n# nothing\n", 3, Cause::NoVolume), // comments alone
     (
@@ -292,6 +292,26 @@ static MISTAKES: [(&str, u64, Cause); 87] = [
         3,
         Cause::SectionType,
     ), // no type of a section
+    (
+        "volume 4096\nfile peim 00000001-0000-4000-8000-000000000001\nui\n",
+        3,
+        Cause::Missing,
+    ), // no name for a person
+    (
+        "volume 4096\nfile peim 00000001-0000-4000-8000-000000000001\nui Boot Shell\n",
+        3,
+        Cause::Extra,
+    ), // one of two words
+    (
+        "volume 4096\nfile peim 00000001-0000-4000-8000-000000000001\nui (Shell)\n",
+        3,
+        Cause::Word,
+    ), // one with brackets
+    (
+        "volume 4096\nfile peim 00000001-0000-4000-8000-000000000001\nui Sh\u{e9}ll\n",
+        3,
+        Cause::Word,
+    ), // one beyond ASCII
     (
         "volume 4096\nfile peim 00000001-0000-4000-8000-000000000001\nraw 0\n",
         3,
