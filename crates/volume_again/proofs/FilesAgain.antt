@@ -13,9 +13,8 @@ use Rattle.fv_volume.specs.declared.build.new_file.Body.TheVariants.{Sections, B
 use Rattle.fv_volume.specs.{declared.build.attributes.FileAttributes.FileAttributes, declared.build.volume_header.VolumeForm.VolumeForm}
 use Rattle.fv_volume.specs.{declared.build.volume_name.VolumeName.VolumeName, Attributes.plain_attributes, Front.is_placed, Reading.AreEach}
 use Rattle.volume_text.specs.{declared.volume.OpenVolume.OpenVolume, Words.is_header, Words.is_length, Step.section_of}
-use Rattle.volume_text.specs.Open.{new_file, depex_type}
+use Rattle.volume_text.specs.{Open.new_file, Open.depex_type, Text.numbered, Text.Leads, UserInterface.ui_bytes}
 use Rattle.volume_text.specs.Volume.{SayFiles, no_file, named, padded, file, bodied, section, depex, script, volume, SaysOpen, SaysVolume}
-use Rattle.volume_text.specs.{Text.numbered, Text.Leads, UserInterface.ui_bytes}
 use Rattle.volume_print.specs.Spelling.{phase_word, guid_word as told_guid, is_a_priori, volume_line, name_line, IsSectionText, as_volume, as_expression, as_guids, as_script, as_name, as_bytes, AreSectionTexts, whole, body_line, head_line, are_erased, pad_line, pad_text, with_pads, IsBodyText, host_of, IsFileText, IsVolumeText}
 use Rattle.volume_print.specs.Places.{pad_of}
 use Rattle.volume_again.specs.Again.{IsNameOfBytes, IsOfBytes, IsBodyOfBytes, IsFileOfBytes, IsSectionAgain, IsFileAgain, among}

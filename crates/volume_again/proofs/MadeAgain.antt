@@ -13,10 +13,10 @@ use Rattle.fv_volume.specs.Front.{ext_at, name_part, front_len, first_place, is_
 use Rattle.fv_volume.specs.Building.{need, filled_from, volume_bytes}
 use Rattle.fv_volume.proofs.VolumesRead.{length-header, length-front, sound, fits_header}
 use Rattle.volume_text.specs.{declared.fault.Cause.Cause, declared.fault.Fault.Fault, declared.fault.TextFault.TheVariants.Bad}
-use Rattle.volume_text.specs.{declared.volume.OpenVolume.OpenVolume, Open.built_of, Words.is_length}
+use Rattle.volume_text.specs.{declared.volume.OpenVolume.OpenVolume, Open.built_of, Words.is_length, declared.step.TheConstants.MOST_INSIDE}
 use Rattle.volume_again.proofs.BuiltTexts.{Made, made, made_again as read_again, ranges}
 use Rattle.volume_text.specs.Text.{numbered, Describes, Says, Leads, IsRefused}
-use Rattle.volume_text.specs.{declared.step.TheConstants.MOST_INSIDE, Volume.SaysVolume}
+use Rattle.volume_text.specs.Volume.{SaysVolume}
 use Rattle.fv_volume.specs.{declared.volume.Volume.Volume, Volume.IsVolume}
 use Rattle.volume_print.specs.Spelling.{volume_line, name_line, with_pads}
 use Rattle.volume_print.specs.Description.{IsFileIn, form_in, name_in, pads_of, IsInner, IsTextBy, IsTextOf}
@@ -24,11 +24,10 @@ use Rattle.volume_print.specs.Places.{rooms, pads_before, places}
 use Rattle.volume_again.specs.Again.{IsNameOfBytes, IsFileAgain, among}
 use Rattle.volume_again.specs.Made.{StandIn, IsMadeAgain, SaysItself, CannotBeBuilt}
 use Rattle.volume_again.proofs.FilesAgain.{InnerLaws, TellsVolume, volume_told, ends_so}
-use Rattle.volume_again.proofs.{Deeper.open_deeper, GoodHeaders.head_good, ListedFiles.volume_good}
+use Rattle.volume_again.proofs.{Deeper.open_deeper, GoodHeaders.head_good, ListedFiles.volume_good, WholeNames.files_whole}
 use Rattle.volume_again.proofs.FormAgain.{is_told, form_again, name_again}
 use Rattle.volume_again.proofs.PadsStand.{laid_stand, stand_up, pads_stand}
-use Rattle.volume_again.proofs.{WholeNames.files_whole, OfBytes.files_of_bytes, OfBytes.attributes_fit}
-use Rattle.volume_again.proofs.PadPieces.{IsGoodPad, pad_whole}
+use Rattle.volume_again.proofs.{OfBytes.files_of_bytes, OfBytes.attributes_fit, PadPieces.IsGoodPad, PadPieces.pad_whole}
 use Rattle.volume_again.proofs.StandAgain.{IsListedFile, stand_again, none_left_out, kept, rooms_at, pads_fit, length-all}
 
 -- the first place is a multiple of 8

@@ -1,7 +1,8 @@
 -- What the lines of a printed text say.
 use Rattle.std.proofs.Common.{◌≡◌, ℕ, zero, suc, ◌^◌, ◌<◌, ◌≤◌, ◌%◌, Bool, true, false, List, [], ◌∷◌, ◌++◌, length, map, flat_map, Some, Result, Ok, refl, sym, ap, ◌∙◌, arith, decimal, subst, append_assoc, nat_le, nat_lt, codes, bytes_eq, ◌==◌, ◌&&◌, ◌||◌, not, if◌then◌else◌, eqb-true, append-nil}
 use Rattle.std.specs.List.{AllByRecursion, list_all}
-use Rattle.std.proofs.{lemmas.Bool.and_parts, lemmas.Bool.and_from, lemmas.Bool.false≢true, lemmas.Bool.Decides.nat_tests}
+use Rattle.std.proofs.lemmas.Bool.{and_parts, and_from, false≢true}
+use Rattle.std.proofs.lemmas.Bool.Decides.{nat_tests}
 use Rattle.hex.specs.Hex.{IsBytes, encode_with, encode_lower, decode_of}
 use Rattle.hex.proofs.HexLemmas.{decode_of-encode_lower}
 use Rattle.pi_base.specs.{declared.guid.Guid.Guid, declared.phase.Phase.Phase}

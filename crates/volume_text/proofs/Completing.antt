@@ -12,9 +12,8 @@ use Rattle.volume_text.specs.declared.step.State.TheVariants.{Begin, Filling, Wr
 use Rattle.volume_text.specs.declared.fault.Cause.TheVariants as cause
 use Rattle.volume_text.specs.Reading.{at, only_if, ◌>>=◌}
 use Rattle.volume_text.specs.Open.{holding, new_file, pad_file, depex_type, bytes_held}
-use Rattle.volume_text.specs.Script.{script_of}
-use Rattle.std.proofs.{lemmas.Bool.Decides.nat_tests}
-use Rattle.volume_text.specs.declared.step.TheConstants.{MOST_INSIDE}
+use Rattle.volume_text.specs.{Script.script_of, declared.step.TheConstants.MOST_INSIDE}
+use Rattle.std.proofs.lemmas.Bool.Decides.{nat_tests}
 use Rattle.volume_text.specs.Step.{Steps, Takes, section_of, nested_in}
 use Rattle.volume_text.specs.Volume.{SaysLine, SayBlocks, no_block, block, action, SayFiles, no_file, named, padded, file, bodied, section, depex, script, volume}
 use Rattle.volume_text.specs.Text.{numbered, Goes, Says, Leads}

@@ -1,6 +1,6 @@
 -- What is open behind lines is what they say so far.
 use Rattle.std.proofs.Common.{◌≡◌, ℕ, zero, suc, ◌+◌, ◌<◌, Bool, true, false, List, [], ◌∷◌, ◌++◌, length, map, Option, Some, None, Result, Ok, Err, refl, sym, ap, subst, ◌∙◌, append_assoc, length-append, not, append-nil, nat_lt, arith}
-use Rattle.std.proofs.{lemmas.Bool.Decides.nat_tests}
+use Rattle.std.proofs.lemmas.Bool.Decides.{nat_tests}
 use Rattle.fv_volume.specs.{declared.build.volume_name.VolumeName.VolumeName, Front.is_placed}
 use Rattle.pi_base.specs.declared.phase.Phase.{Phase}
 use Rattle.fv_volume.specs.declared.sections.section_type.TheConstants.{RAW, VOLUME_IMAGE}

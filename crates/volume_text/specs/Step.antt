@@ -14,7 +14,8 @@ use Rattle.fv_volume.specs.declared.build.volume_header.VolumeForm.{VolumeForm}
 use Rattle.volume_text.specs.declared.statement.Statement.TheVariants as statement
 use Rattle.volume_text.specs.{declared.volume.OpenVolume.OpenVolume, declared.step.State.State, Line.Reads}
 use Rattle.volume_text.specs.declared.step.State.TheVariants.{Begin, Filling, Writing, Done}
-use Rattle.volume_text.specs.{declared.step.TheConstants.MOST_INSIDE, Reading.◌>>=◌, Reading.only_if, Reading.at, Reading.onward}
+use Rattle.volume_text.specs.declared.step.TheConstants.{MOST_INSIDE}
+use Rattle.volume_text.specs.Reading.{◌>>=◌, only_if, at, onward}
 use Rattle.volume_text.specs.Open.{last_of, with_section, with_last_body, with_file, with_pad, with_name, depex_type, depex_checked, script_checked, built_of}
 use Rattle.volume_text.specs.Script.{script_of, with_block, with_action, IsScriptBody}
 

@@ -6,7 +6,8 @@ use Rattle.volume_text.specs.{declared.fault.Cause.Cause, declared.fault.Cause.T
 use Rattle.volume_text.specs.{declared.fault.Fault.Fault, declared.fault.TextFault.TextFault, declared.step.State.State}
 use Rattle.volume_text.specs.declared.fault.TextFault.TheVariants as text_fault
 use Rattle.volume_text.specs.{declared.step.State.TheVariants.Begin, declared.step.State.TheVariants.Done, Step.Steps}
-use Rattle.volume_text.specs.{declared.step.TheConstants.MOST_INSIDE, declared.volume.OpenVolume.OpenVolume, Volume.SaysOpen, Volume.SaysVolume}
+use Rattle.volume_text.specs.{declared.step.TheConstants.MOST_INSIDE, declared.volume.OpenVolume.OpenVolume}
+use Rattle.volume_text.specs.Volume.{SaysOpen, SaysVolume}
 
 abbrev pub passes_over : List (List ℕ) → Bool
 passes_over [] = true

@@ -8,11 +8,11 @@ use Rattle.fv_volume.specs.declared.build.volume_name.TheConstants.{EXT_AT, EXT_
 use Rattle.fv_volume.specs.{declared.build.volume.TheConstants.MOST_LEN, Header.is_header_length}
 use Rattle.line_words.specs.Number.{number_of}
 use Rattle.source_words.specs.GuidWord.{guid_of}
-use Rattle.volume_text.specs.{declared.word.TheConstants.MOST_PAD, declared.fault.Cause.Cause}
+use Rattle.volume_text.specs.{declared.word.TheConstants.MOST_PAD, declared.fault.Cause.Cause, UserInterface.is_ui_name}
 use Rattle.volume_text.specs.declared.fault.Cause.TheVariants as cause
 use Rattle.fv_volume.specs.{declared.build.file_system.FileSystem.FileSystem, declared.build.file_system.FileSystem.TheVariants.Ffs2}
 use Rattle.volume_text.specs.Keywords.{phase_of, system_of, file_type_of, byte_of}
-use Rattle.volume_text.specs.{Reading.◌>>=◌, Reading.only_if, Reading.there, UserInterface.is_ui_name}
+use Rattle.volume_text.specs.Reading.{◌>>=◌, only_if, there}
 
 -- the first word, and the others
 abbrev pub word_at : List (List ℕ) → Result (List ℕ × List (List ℕ)) Cause
