@@ -19,7 +19,8 @@ use Rattle.dxe_dispatch.specs.Choices as D
 use Rattle.dxe_dispatch.proofs.Chosen.{Any, same_started, target_at}
 use Rattle.boot_laws.proofs.DxeWays as Ways
 use Rattle.boot_core.specs.declared.whole.boot.Ran.{Ran}
-use Rattle.recorded_boot.specs.{declared.follow.followed.Followed.Followed, Answer.FollowsTo, ByOrder.NamesAsked, ByOrder.lets_by, InOrder.order_choices}
+use Rattle.recorded_boot.specs.{declared.follow.followed.Followed.Followed, Answer.FollowsTo, ByOrder.NamesAsked, ByOrder.lets_by}
+use Rattle.recorded_boot.specs.InOrder.{order_choices}
 use Rattle.recorded_boot.specs.Leaving.{ComesTo, LeavesBoot, store_of}
 use Rattle.recorded_boot.proofs.PeiOrder.{IsRun, OrderBoot, PeiBar, along, comes, lets_peim, peims}
 use Rattle.recorded_boot.proofs.PeiOrder as P

@@ -1,7 +1,7 @@
 use Rattle.std.proofs.Common.{subst}
 use Rattle.mod_catalog.specs.{Catalogue.IsCatalogue, ImageFault.IsImageFault}
 use Rattle.boot_core.proofs.SomeVolume.{some_volume}
-use Rattle.recorded_boot.proofs.Faults.{fault_passes}
+use Rattle.recorded_boot.proofs.Faults.{fault_passes, over_passes}
 use Rattle.recorded_boot.proofs.passes.passes.Goals as goal
 
 pub returns-in-Err-clause-row : goal.returns-in-Err-clause-row
@@ -13,3 +13,8 @@ pub pass_over-passed-requires-clause-some : goal.pass_over-passed-requires-claus
 pass_over-passed-requires-clause-some g c =
     let found = subst (λ images. IsCatalogue c.args.plan.now images c.in-Ok.catalog) c.as_slice.ensures c.in-Ok.ensures.found in
     some_volume c.args.plan.now c.args.images c.in-Ok.catalog found c.requires.in_range.some_volume
+
+pub returns-clause-row : goal.returns-clause-row
+returns-clause-row g c =
+    let found = subst (λ images. IsCatalogue c.args.plan.now images c.in-Ok.catalog) c.as_slice.ensures c.in-Ok.ensures.found in
+    over_passes c.args.plan.now c.args.images c.in-Ok.catalog _ c.pass_over-passed.result found c.pass_over-passed.ensures.row

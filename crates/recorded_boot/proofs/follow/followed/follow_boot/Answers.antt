@@ -1,5 +1,4 @@
-use Rattle.std.proofs.Common.{refl}
-use Rattle.std.proofs.lemmas.Result.{err_from_is_err_and}
+use Rattle.std.proofs.{Common.refl, lemmas.Result.err_from_is_err_and}
 use Rattle.boot_laws.specs.Naming.{Chooser}
 use Rattle.boot_core.specs.Choices.{choices_of}
 use Rattle.recorded_boot.specs.ByOrder.{order_rules}
