@@ -101,10 +101,12 @@ def read_volumes(text: str, nested: Callable[[bytes], list[list[File]]]) -> list
 
 
 def sections_told(line: str) -> list[tuple[str, bytes]]:
-    """The types and bytes of the sections that a line tells as bytes: one, or all of a file whose sections do not lie as `volume` lays them."""
+    """The types and bytes of the sections that a line tells as bytes or as a name: one, or all of a file whose sections do not lie as `volume` lays them."""
     word, *words = line.split(" ")
     if word == "body":
         return [(f"{kind:02x}", section[front:]) for kind, section, front in sections_of(bytes.fromhex(words[0]))]
+    if word == "ui":
+        return [(NAME, (words[0] + "\0").encode("utf-16-le"))]
     return [(words[0], bytes.fromhex(words[1]))] if word == "section" else []
 
 

@@ -39,6 +39,11 @@ USER_INTERFACE, VOLUME = ["section", "15"], ["section", "17"]
 EXPRESSIONS = [["section", "13"], ["section", "1b"]]  # those that have no text: malformed ones, and with bytes behind their end
 
 
+def title_of(words: list[str]) -> str:
+    """The name in a line of a user interface section: as a word, or as bytes."""
+    return words[1] if words[0] == "ui" else bytes.fromhex("".join(words[2:])).decode("utf-16-le", "replace").rstrip("\0")
+
+
 class File:
     """A file of a volume: its line, and those of its body that say what it is, and not what it does."""
 
@@ -52,7 +57,7 @@ class File:
         self.fault = ""
 
     def __str__(self) -> str:
-        shown = bytes.fromhex("".join(self.titles[0][2:])).decode("utf-16-le", "replace").rstrip("\0") if self.titles else ""
+        shown = title_of(self.titles[0]) if self.titles else ""
         return f"{self.name} {shown if shown.isprintable() else ''}".rstrip()
 
     def is_list(self) -> bool:
@@ -67,7 +72,7 @@ class File:
         """Reads a line of its body."""
         if self.counts(words):
             self.body.append(" ".join(words))
-        elif words[:2] == USER_INTERFACE:
+        elif words[0] == "ui" or words[:2] == USER_INTERFACE:
             self.titles.append(words)
         if words[0] == "body" and (self.kind in PHASES or self.kind == VOLUME_IMAGE or self.is_list()):
             self.fault = "is packed, or has no sections: `scripts/cut-volumes` unpacks volumes"

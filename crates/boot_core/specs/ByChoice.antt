@@ -16,9 +16,8 @@ use Rattle.pei_dispatch.specs.{declared.boot.Ended.Ended, Ends.IsLeft, Ends.pei_
 use Rattle.pei_dispatch.specs.Choices.{ComesTo, IsHeldBack, StopsForMemory, StopsShort}
 use Rattle.dxe_dispatch.specs.declared.boot.Barred.{Barred}
 use Rattle.dxe_dispatch.specs.Choices as D
-use Rattle.boot_core.specs.{declared.whole.boot.Booted.Booted, declared.whole.boot.Ran.Ran, Closing.closing}
+use Rattle.boot_core.specs.{declared.whole.boot.Booted.Booted, declared.whole.boot.Ran.Ran, Closing.closing, Choices.Choices}
 use Rattle.boot_core.specs.declared.whole.boot.Booted.TheVariants as B
-use Rattle.boot_core.specs.Choices.{Choices}
 
 -- behind this machine of PEI, DXE by choices has come to that one
 pub record ComesInDxe (by : Choices) (catalog : Catalog) (fuel : ℕ) (pei : PeiMachine) (m : DxeMachine) : Type 0 where

@@ -1,8 +1,10 @@
 -- What is told of a run of DXE by choices, a turn further.
 use Rattle.std.proofs.Common.{◌≡◌, ◌≤◌, ℕ, ◌+◌, arith, Bool, false, List, [], ◌∷◌, ◌++◌, Option, Some, None, Ok, option_map, is_some, refl, sym, ap, ◌∙◌, subst, flat_map, option_to_list, append-nil}
 use Rattle.pi_base.specs.{declared.guid.Guid.Guid, declared.phase.Phase.TheVariants.Dxe}
-use Rattle.boot_laws.specs.{UnrequestedDrivers.UnrequestedDriversWait, declared.choice.Before.Before, declared.choice.Reached.Reached, DxeAim.FirstEligibleMayStart, Naming.Rules}
-use Rattle.boot_model.specs.{declared.licence.Licence.Licence, declared.phase_end.DxeEnd.DxeEnd, DriverLicence.numbers_of, DriverLicence.target_of, DxeChoice.a_priori_drivers}
+use Rattle.boot_laws.specs.{UnrequestedDrivers.UnrequestedDriversWait, declared.choice.Before.Before, declared.choice.Reached.Reached}
+use Rattle.boot_laws.specs.{DxeAim.FirstEligibleMayStart, Naming.Rules}
+use Rattle.boot_model.specs.{declared.licence.Licence.Licence, declared.phase_end.DxeEnd.DxeEnd}
+use Rattle.boot_model.specs.{DriverLicence.numbers_of, DriverLicence.target_of, DxeChoice.a_priori_drivers}
 use Rattle.boot_model.specs.declared.licence.Licence.TheVariants as G
 use Rattle.boot_model.specs.{declared.driver.Scheduled.Scheduled, DxeMachine.DxeMachine, DxeRun.dxe_bound, DxeRun.dxe_opening}
 use Rattle.boot_model.specs.DxeStep.{DxeActs, DxeCase, DxeFires, DxeStarts, DxeStops, driver_started, dxe_case_of, dxe_step, in_dxe_case}
@@ -13,8 +15,8 @@ use Rattle.dxe_core.specs.Standing.{DxeCore, IsCoreOf, IsFor, StandsFor}
 use Rattle.dxe_dispatch.specs.{declared.answer.Step.Step, declared.answer.Step.TheVariants.Acted, declared.answer.Step.TheVariants.Started}
 use Rattle.dxe_dispatch.specs.declared.answer.Turn.TheVariants as T
 use Rattle.dxe_dispatch.specs.Choices.{IsAimedBy, IsOnWay, IsRunBy, KeepsPasses, NamesDrivers, TurnsBy, came}
-use Rattle.dxe_dispatch.specs.{declared.passes.Agenda.Agenda, PassList.GetsVolumes, PassList.IsPassListOf, PassList.PassList, Passes.in_types, Passes.queued}
-use Rattle.dxe_dispatch.specs.Ends.{IsNow}
+use Rattle.dxe_dispatch.specs.{declared.passes.Agenda.Agenda, Passes.in_types, Passes.queued, Ends.IsNow}
+use Rattle.dxe_dispatch.specs.PassList.{GetsVolumes, IsPassListOf, PassList}
 use Rattle.dxe_dispatch.specs.Turns.{IsLeft, IsStep, StartsNone}
 use Rattle.dxe_dispatch.proofs.Chosen.{Any, StepLaws, nearer_by, target_at, waits_behind}
 use Rattle.dxe_dispatch.proofs.ChosenWays.{opening_queue}
@@ -27,7 +29,8 @@ use Rattle.boot_reasons.specs.{declared.nowhere.Nowhere.Nowhere, declared.told.D
 use Rattle.explain_text.specs.{declared.reasons.Giver.Giver, declared.reasons.Giver.TheVariants.Absent}
 use Rattle.boot_reasons.specs.DxeReasons.{beside_by, dxe_begun, dxe_begun_at, dxe_begun_by, dxe_begun_in, dxe_giver}
 use Rattle.boot_reasons.specs.DxeTelling.{EndsTo, IsAtOpening, IsTold, Tells}
-use Rattle.boot_reasons.specs.{Noting.AreNoted, Noting.giver_in, Unseen.NamesUnseenDrivers, Unseen.nowhere, Unseen.unseen_by}
+use Rattle.boot_reasons.specs.Noting.{AreNoted, giver_in}
+use Rattle.boot_reasons.specs.Unseen.{NamesUnseenDrivers, nowhere, unseen_by}
 use Rattle.boot_reasons.proofs.GiverSteps.{actor_present, first_of, giver_on, giver_same, giver_still}
 
 -- what a machine has installed, and who runs in it

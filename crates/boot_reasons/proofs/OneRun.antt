@@ -1,31 +1,20 @@
 -- Choices that name one module at most lead to one explanation.
-use Rattle.std.proofs.Common.{◌≡◌, ℕ, zero, suc, ◌<◌, ◌≤◌, Bool, true, false, true≢false, ◌||◌, List, [], ◌∷◌, length, Option, Some, None, refl, sym, ap, ◌∙◌, subst, inl, inr, arith, ◌==◌, slice_get}
-use Rattle.std.proofs.{lemmas.Bool.cases_lt, lemmas.Bool.Decides.eqb_tells}
-use Rattle.boot_laws.specs.{PeiOrder.OrderIsOfModules, declared.choice.Reached.Reached, PeiAim.CursorAims, PeiAim.with_cursor}
-use Rattle.mod_catalog.specs.{declared.catalogue.Catalog.Catalog, Parts.has_number, WellFormed.IsWellFormed}
-use Rattle.store_model.specs.StoreState.{Board}
-use Rattle.boot_model.specs.{declared.phase_end.DxeEnd.DxeEnd, declared.phase_end.PeiEnd.PeiEnd, declared.driver.Scheduled.Scheduled}
+use Rattle.std.proofs.Common.{◌≡◌, ℕ, List, Some, None, refl, sym, ap, ◌∙◌, subst}
+use Rattle.boot_laws.specs.declared.choice.Reached.{Reached}
+use Rattle.mod_catalog.specs.declared.catalogue.Catalog.{Catalog}
+use Rattle.boot_model.specs.{declared.phase_end.PeiEnd.PeiEnd, declared.driver.Scheduled.Scheduled, DxeMachine.DxeMachine}
 use Rattle.boot_model.specs.declared.phase_end.PeiEnd.TheVariants.{Handoff, NoMemory, NoIpl, Spent, Deep}
-use Rattle.boot_model.specs.{DxeMachine.DxeMachine, DxeRun.dxe_opening, DxeStep.DxeStarts, DxeStep.dxe_case_of, Licence.AllDiffer}
-use Rattle.boot_model.specs.{PeiChoice.next_peim, PeiChoice.pei_order, PeiMachine.PeiMachine, PeiRun.pei_opening}
-use Rattle.boot_model.specs.PeiStep.{Starts, case_of, started}
-use Rattle.boot_model.proofs.Distinct.{Distinct, all_differ}
+use Rattle.boot_model.specs.{DxeRun.dxe_opening, DxeStep.DxeStarts, DxeStep.dxe_case_of, PeiMachine.PeiMachine}
 use Rattle.boot_laws.specs.declared.choice.Reached.TheVariants as R
-use Rattle.boot_laws.specs.PeiFree.{IsOwnCase}
-use Rattle.pei_dispatch.specs.Choices as P
-use Rattle.pei_dispatch.proofs.Chosen.{idle_starts, some_first}
 use Rattle.dxe_dispatch.specs.Choices as D
-use Rattle.dxe_dispatch.specs.Turns.{PassesStart}
-use Rattle.dxe_dispatch.proofs.Targets.{Doing, HasScheduled, MayChoose, RunsScript, doing, none_aimed, none_named}
 use Rattle.boot_core.specs.Choices.{Choices}
 use Rattle.boot_core.proofs.OneRun.{Boot, DxeStands, IsDue, Stands, barred, came, differ, dxe_barred, dxe_over, one_due, one_dxe_run, one_run, one_target, over}
-use Rattle.boot_reasons.specs.{declared.dxe.DxeExplained.DxeExplained, declared.pei.PeiExplained.PeiExplained}
+use Rattle.boot_reasons.specs.{declared.dxe.DxeExplained.DxeExplained, declared.pei.PeiExplained.PeiExplained, Boots.HasOneExplanation}
 use Rattle.explain_text.specs.declared.reasons.Explained.{Explained}
-use Rattle.boot_reasons.specs.{Boots.HasOneExplanation, Joining.together, PeiEnding.IsPeiExplained}
+use Rattle.boot_reasons.specs.{Joining.together, PeiEnding.IsPeiExplained}
 use Rattle.boot_reasons.specs.DxeTelling as T
 use Rattle.boot_reasons.specs.Explained.{ExplainsTo, IsExplainedAfter, IsExplainedBy, IsExplainedInDxe, IsLeftBefore, left_in_dxe, left_in_pei}
-use Rattle.boot_reasons.proofs.{OneTelling.one_told, OneTelling.one_told_in_dxe}
-
+use Rattle.boot_reasons.proofs.OneTelling.{one_told, one_told_in_dxe}
 pub use Rattle.boot_core.proofs.OneRun.{RunLaws}
 
 -- What it comes to.

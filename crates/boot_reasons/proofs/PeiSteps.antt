@@ -8,8 +8,8 @@ use Rattle.boot_model.specs.{PeiMachine.PeiMachine, PeiRun.pei_opening}
 use Rattle.boot_model.specs.PeiStep.{Stops, case_of, pei_step, started, started_part, stopped, with_start}
 use Rattle.boot_trace.specs.Printing.{Texts}
 use Rattle.mod_catalog.specs.{declared.catalogue.Catalog.Catalog, declared.catalogue.Part.Part, Parts.has_number, Parts.part_at}
-use Rattle.boot_laws.specs.{declared.choice.Before.Before, Naming.Rules, PeiAim.CursorAims, PeiAim.with_cursor, PeiFree.IsOwnCase, PeiFree.OwnPeiStepsAreFree}
-use Rattle.boot_laws.specs.PeiUnderWay.{IsUnderWay, PeiStepsRunOut}
+use Rattle.boot_laws.specs.{declared.choice.Before.Before, Naming.Rules, PeiAim.CursorAims, PeiAim.with_cursor}
+use Rattle.boot_laws.specs.{PeiFree.IsOwnCase, PeiFree.OwnPeiStepsAreFree, PeiUnderWay.IsUnderWay, PeiUnderWay.PeiStepsRunOut}
 use Rattle.pei_dispatch.specs.{declared.queue.PeiQueue.PeiQueue, Queue.IsQueueOf, Queue.parts_in, View.event_guids, InTurn.told_in_pei}
 use Rattle.pei_core.specs.{declared.event.Event.Event, declared.pei.Pei.Pei, Standing.StandsFor, Steps.IsEvent, Steps.IsIdle}
 use Rattle.pei_dispatch.specs.Choices.{IsDue, IsPlaceFor, IsRunBy, IsStepBy}

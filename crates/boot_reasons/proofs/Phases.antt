@@ -1,5 +1,5 @@
 -- What is told of both phases explains the boot.
-use Rattle.std.proofs.Common.{◌≡◌, ℕ, Bool, IfOk, Option, Some, None, Result, Ok, Err, true≢false, refl, sym, ap, ◌∙◌, subst}
+use Rattle.std.proofs.Common.{◌≡◌, ℕ, IfOk, Some, None, Result, Ok, Err, true≢false, refl, sym, ap, ◌∙◌, subst}
 use Rattle.mod_catalog.specs.declared.catalogue.Catalog.{Catalog}
 use Rattle.store_model.specs.{Service.OfEach, StoreCall.Anything, StoreState.Board, StoreState.StoreState}
 use Rattle.boot_model.specs.{declared.phase_end.PeiEnd.TheVariants.Handoff, PeiMachine.PeiMachine}

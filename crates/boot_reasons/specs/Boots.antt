@@ -1,10 +1,9 @@
 -- Of which boot an explanation is.
 -- Own; PI 1.8, volumes 1 and 2, leave the order of the modules that may start to the dispatchers.
-use Rattle.std.specs.Prelude.{◌≡◌, ℕ, Option, Some}
+use Rattle.std.specs.Prelude.{◌≡◌, ℕ, Some}
 use Rattle.mod_catalog.specs.{declared.catalogue.Catalog.Catalog, WellFormed.IsWellFormed}
 use Rattle.store_model.specs.StoreState.{Board}
-use Rattle.boot_model.specs.{DxeMachine.DxeMachine, PeiMachine.PeiMachine, PeiRun.pei_end, declared.phase_end.PeiEnd.TheVariants.Handoff}
-use Rattle.boot_model.specs.DxeRun.{dxe_end}
+use Rattle.boot_model.specs.{DxeMachine.DxeMachine, PeiRun.pei_end, declared.phase_end.PeiEnd.TheVariants.Handoff, DxeRun.dxe_end}
 use Rattle.boot_laws.specs.declared.choice.Reached.{Reached}
 use Rattle.boot_core.specs.{WholeEnd.end_of, ByChoice.BootBy, Choices.Choices, Choices.NameOne}
 use Rattle.explain_text.specs.declared.reasons.Explained.{Explained}

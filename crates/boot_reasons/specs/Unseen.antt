@@ -5,8 +5,7 @@ use Rattle.mod_catalog.specs.declared.catalogue.Catalog.{Catalog}
 use Rattle.boot_model.specs.{DxeMachine.DxeMachine, PeiMachine.PeiMachine}
 use Rattle.boot_laws.specs.{declared.choice.Before.Before, Naming.Chooser, Naming.Rules}
 use Rattle.pei_dispatch.specs.{Choices.LetsPeims, InTurn.told_in_pei}
-use Rattle.dxe_dispatch.specs.Choices.{LetsDrivers}
-use Rattle.dxe_dispatch.specs.Passes.{DriverChoice, told_in_dxe}
+use Rattle.dxe_dispatch.specs.{Choices.LetsDrivers, Passes.DriverChoice, Passes.told_in_dxe}
 use Rattle.boot_core.specs.Choices.{Choices, told_behind}
 use Rattle.boot_reasons.specs.declared.nowhere.Nowhere.{Nowhere}
 

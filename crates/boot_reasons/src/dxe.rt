@@ -130,8 +130,7 @@ fn explain_opened<M: PeiStore, C: Choice<Nowhere>, L: Ledger>(
     requires passes { agenda.old.passes ≡ record { wanted = (C.rules choice.now).wants_turn; drivers = []; left = [] } }
     requires opening { (s : StoreState) × (actions : ℕ) × (fuel : ℕ) × IsFor catalog.now fuel dxe.old
         × StandsFor M.stands_for store.now catalog.now dxe.old (dxe_opening catalog.now s actions) }
-    ensures row { IfOk result (Explains (C.rules choice.now) in_pei
-        M.stands_for store.now catalog.now dxe.old) }
+    ensures row { IfOk result (Explains (C.rules choice.now) in_pei M.stands_for store.now catalog.now dxe.old) }
 {
     dxe_opens();
     unrequested_drivers_wait();
@@ -140,7 +139,9 @@ fn explain_opened<M: PeiStore, C: Choice<Nowhere>, L: Ledger>(
     agenda.queue.discover(catalog, dxe.order(), volumes)?;
     agenda.passes.discover(catalog, volumes)?;
     let mut told = DxeTold::new(alloc);
-    match run_to_end(dxe, store, agenda, choice, in_pei, catalog, &mut told, steps) {
+    match run_to_end(
+        dxe, store, agenda, choice, in_pei, catalog, &mut told, steps,
+    ) {
         Ok(Reached::End(end)) => {
             match explain_end(alloc, dxe, store, &agenda.queue, catalog, told, end) {
                 Ok(explained) => Ok(Reached::End(explained)),
@@ -174,13 +175,19 @@ fn explain_with_ledger<M: PeiStore, C: Choice<Nowhere>, L: Ledger>(
     requires name { blank.name ≡ L.name }
     requires parts { blank.parts ≡ L.parts }
     requires counts { 0 < L.parts }
-    ensures row { IfOk result (Explains (C.rules choice.now) in_pei
-        M.stands_for store.now catalog.now dxe.old) }
+    ensures row { IfOk result (Explains (C.rules choice.now) in_pei M.stands_for store.now catalog.now dxe.old) }
 {
     let mut agenda = Agenda::new(alloc, catalog, choice.wants_turn())?;
     let mut steps = Steps::<L>::new(blank);
     let reached = explain_opened(
-        alloc, dxe, store, &mut agenda, choice, in_pei, catalog, &mut steps,
+        alloc,
+        dxe,
+        store,
+        &mut agenda,
+        choice,
+        in_pei,
+        catalog,
+        &mut steps,
     );
     drop(agenda);
     reached

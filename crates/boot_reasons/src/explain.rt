@@ -87,7 +87,8 @@ fn explain_drivers<M: PeiStore + Drop, C: Choice<Nowhere>>(
     requires catalog { IsWellFormed catalog.now }
     requires state { (m : PeiMachine) × StandsFor M.stands_for pei.now m }
     requires handed { explained.end ≡ Handoff }
-    ensures { IfOk result (ExplainsBehind (choices_of (C.rules choice.now) catalog.now fuel) M.stands_for catalog.now fuel pei.now explained) }
+    ensures { IfOk result (ExplainsBehind (choices_of (C.rules choice.now) catalog.now fuel)
+        M.stands_for catalog.now fuel pei.now explained) }
 {
     match explain_dxe(
         alloc,
@@ -124,7 +125,8 @@ fn explain_behind<M: PeiStore + Drop, C: Choice<Nowhere>>(
 ) -> Result<Reached<Explained>, OutOfMemory>
     requires catalog { IsWellFormed catalog.now }
     requires state { (m : PeiMachine) × StandsFor M.stands_for pei.now m }
-    ensures { IfOk result (ExplainsBehind (choices_of (C.rules choice.now) catalog.now fuel) M.stands_for catalog.now fuel pei.now explained) }
+    ensures { IfOk result (ExplainsBehind (choices_of (C.rules choice.now) catalog.now fuel)
+        M.stands_for catalog.now fuel pei.now explained) }
 {
     let actions = pei.actions();
     let end = match explained.end {
@@ -170,7 +172,8 @@ pub fn explain_by<M: PeiStore + Drop, C: Choice<Nowhere>>(
     requires catalog { IsWellFormed catalog.now }
     requires some { 1 ≤ length catalog.now.volumes }
     requires opening { (board : Board) × M.stands_for store (empty_store board) }
-    ensures { (board : Board) → M.stands_for store (empty_store board) → IfOk result (ExplainsTo (choices_of (C.rules choice.now) catalog.now fuel) board catalog.now fuel) }
+    ensures { (board : Board) → M.stands_for store (empty_store board)
+        → IfOk result (ExplainsTo (choices_of (C.rules choice.now) catalog.now fuel) board catalog.now fuel) }
 {
     let mut pei = Pei::begin(alloc, store, catalog, fuel)?;
     let reached = explain_opened(alloc, &mut pei, catalog, fuel, choice);

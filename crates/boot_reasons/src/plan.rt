@@ -48,7 +48,8 @@ pub fn explain_plan_by<C: Choice<Nowhere>>(
     requires board { IsBoard (board_of plan.now catalog.now images) }
     requires catalog { IsWellFormed catalog.now }
     requires some { 1 ≤ length catalog.now.volumes }
-    ensures { IfOk result (ExplainsTo (choices_of (C.rules choice.now) catalog.now plan.now.fuel) (board_of plan.now catalog.now images) catalog.now plan.now.fuel) }
+    ensures { IfOk result (ExplainsTo (choices_of (C.rules choice.now) catalog.now plan.now.fuel)
+        (board_of plan.now catalog.now images) catalog.now plan.now.fuel) }
 {
     let roms = roms(alloc, catalog.volumes.as_slice(), images)?;
     explain_over(alloc, plan, catalog, roms, choice)

@@ -6,7 +6,8 @@ use Rattle.mod_catalog.specs.{declared.catalogue.Catalog.Catalog, Parts.has_numb
 use Rattle.boot_model.specs.{DxeChoice.is_that, Eligible.is_eligible, FreeRun.MayStart, PeiMachine.PeiMachine}
 use Rattle.boot_model.specs.PeiChoice.{next_peim, pei_order}
 use Rattle.boot_laws.specs.PeiAim.{CursorAims, with_cursor}
-use Rattle.pei_dispatch.specs.{Choices.IsDue, Choices.IsPlaceFor, InTurn.in_turn, InTurn.next_again, InTurn.walked}
+use Rattle.pei_dispatch.specs.Choices.{IsDue, IsPlaceFor}
+use Rattle.pei_dispatch.specs.InTurn.{in_turn, next_again, walked}
 use Rattle.pei_dispatch.proofs.Choosing.{found_passes}
 
 both_hold : (a b : Bool) → (a && b) ≡ true → b ≡ true

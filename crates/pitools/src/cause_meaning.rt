@@ -1,10 +1,10 @@
 // What the cause of a volume's text means.
 
 // The causes, and what each means for the line at fault.
-static SOURCE_WORDS: [(&str, &str); 40] = [
+static SOURCE_WORDS: [(&str, &str); 41] = [
     (
         "UnknownLine",
-        "begins no line of a volume; volume, name, file, pad, depex, script, guids, raw, section, body, end do",
+        "begins no line of a volume; volume, name, file, pad, depex, script, guids, raw, section, ui, body, end do",
     ),
     ("Missing", "lacks a word"),
     ("Extra", "has a word too many"),
@@ -112,6 +112,10 @@ static SOURCE_WORDS: [(&str, &str); 40] = [
         "gives a file a body that has one, or sections beside a body",
     ),
     ("TwoNames", "names a volume that has a name"),
+    (
+        "Nesting",
+        "nests a volume deeper than 4, where the outermost has depth 1",
+    ),
     ("BehindEnd", "stands behind the end of the volume"),
     (
         "NoEnd",

@@ -15,7 +15,7 @@ use Rattle.boot_laws.specs.Naming.{HasPut}
 use Rattle.recorded_boot.specs.{declared.trace.spelled.Spelled.Spelled, Fronts.Tracks, Named.AreGuids, Named.AreNames, Starting.NamesNext}
 use Rattle.recorded_boot.specs.Putting.{HasParted, IsOffHere, PutsGoOn, PutsPart}
 use Rattle.recorded_boot.specs.Spelled.{IsHeld, IsRight, faults_of, left, met, spoken, told, whole}
-use Rattle.recorded_boot.proofs.TextFronts.{prefix_then, shorter_front}
+use Rattle.recorded_boot.proofs.{TextFronts.prefix_then, TextFronts.shorter_front, TextRuns.by_text, TextRuns.told_by}
 use Rattle.recorded_boot.proofs.Telling.{held_on, met_begins, off, tracks_on}
 use Rattle.pei_dispatch.specs.Ends.{pei_starts}
 use Rattle.dxe_dispatch.specs.Choices.{IsAimedBy, IsRunBy, came}
@@ -23,7 +23,6 @@ use Rattle.dxe_dispatch.proofs.Chosen.{Any, StepLaws, nearer_by, same_lines, tar
 use Rattle.dxe_dispatch.proofs.Growing.{step_grew}
 use Rattle.dxe_dispatch.proofs.Targets.{Aimed, Doing, First, HasScheduled, IsTarget, MayChoose, Own, RunsScript, busy_owns, doing, first_step, none_aimed, none_named, scheduled_owns, target_is}
 use Rattle.boot_core.specs.Choices.{NamesBehind, told_behind}
-use Rattle.recorded_boot.proofs.TextRuns.{by_text, told_by}
 use Rattle.recorded_boot.specs.{DxeAim.LeadsTo, DxeFollowed.printed_by}
 use Rattle.recorded_boot.proofs.FreeSteps.{IsByText, all_print, begins_printed, by_aimed_step, by_own_step, printed_more, tracks_by}
 use Rattle.recorded_boot.proofs.Leading.{LeadLaws, leading_by, starts_readable}

@@ -5,9 +5,9 @@ use Rattle.mod_catalog.specs.{declared.catalogue.Catalog.Catalog, WellFormed.IsW
 use Rattle.store_model.specs.{HandleState.HandleState, HandleState.no_handles, StoreState.Board, StoreState.StoreState}
 use Rattle.boot_model.specs.{declared.line.Line.Line, declared.line.RunEnd.RunEnd, declared.phase_end.DxeEnd.DxeEnd}
 use Rattle.boot_model.specs.declared.line.RunEnd.TheVariants as E
-use Rattle.boot_model.specs.declared.phase_end.PeiEnd.{PeiEnd}
+use Rattle.boot_model.specs.{declared.phase_end.PeiEnd.PeiEnd, BootRun.dxe_result, DxeMachine.DxeMachine, PeiMachine.PeiMachine}
 use Rattle.boot_model.specs.declared.phase_end.PeiEnd.TheVariants.{Handoff, NoMemory, NoIpl, Spent, Deep}
-use Rattle.boot_model.specs.{BootRun.dxe_result, DxeMachine.DxeMachine, PeiMachine.PeiMachine, Text.text_of}
+use Rattle.boot_model.specs.Text.{text_of}
 use Rattle.boot_core.specs.{Choices.NameOne, Closing.closing}
 use Rattle.boot_core.specs.ByChoice.{BootBy, EndsAfter, EndsInDxe, all_lines, before_by}
 use Rattle.boot_core.proofs.OneRun.{Boot, DxeStands, RunLaws, Runs, barred, came, dxe_barred, dxe_over, one_dxe_run, one_run, over}

@@ -8,7 +8,8 @@ use Rattle.boot_model.specs.{DxeStep.dxe_step, PeiChoice.next_peim, PeiChoice.pe
 use Rattle.boot_model.specs.PeiStep.{Starts, case_of, started}
 use Rattle.boot_laws.specs.{PeiAim.with_cursor, PeiFree.IsOwnCase}
 use Rattle.boot_laws.proofs.Cursors as Cursors
-use Rattle.recorded_boot.specs.{declared.order.line.AskedStart.AskedStart, ByOrder.NamesAsked, ByOrder.is_start_of, ByOrder.lets_asked, ByOrder.lets_by}
+use Rattle.recorded_boot.specs.declared.order.line.AskedStart.{AskedStart}
+use Rattle.recorded_boot.specs.ByOrder.{NamesAsked, is_start_of, lets_asked, lets_by}
 use Rattle.pei_dispatch.specs.Choices as P
 use Rattle.pei_dispatch.specs.Ends.{pei_starts}
 use Rattle.dxe_dispatch.specs.Choices as D

@@ -8,17 +8,17 @@ use Rattle.pi_base.specs.{declared.guid.Guid.Guid, declared.phase.Phase.TheVaria
 use Rattle.mod_catalog.specs.{declared.catalogue.Catalog.Catalog, declared.catalogue.Part.Part, Catalogue.IsCatalogue, Parts.part_at}
 use Rattle.mod_catalog.specs.ImageFault.{IsImageFault}
 use Rattle.store_model.specs.{HandleState.HandleState, StoreState.Board, StoreState.StoreState}
-use Rattle.boot_model.specs.{declared.line.RunEnd.RunEnd, declared.phase_end.PeiEnd.TheVariants.Handoff, DxeChoice.is_that, DxeMachine.DxeMachine}
-use Rattle.boot_model.specs.{DxeRun.dxe_opening, FreeRun.AreFreeLines, PeiMachine.PeiMachine, PeiRun.pei_opening, PlanBoard.board_of, Text.text_of}
+use Rattle.boot_model.specs.{declared.line.RunEnd.RunEnd, declared.phase_end.PeiEnd.TheVariants.Handoff, DxeChoice.is_that}
+use Rattle.boot_model.specs.{DxeMachine.DxeMachine, DxeRun.dxe_opening, FreeRun.AreFreeLines, PeiMachine.PeiMachine, PeiRun.pei_opening}
+use Rattle.boot_model.specs.{PlanBoard.board_of, Text.text_of}
 use Rattle.boot_laws.specs.Naming.{Rules}
 use Rattle.pei_dispatch.specs.{Choices.ComesTo, InTurn.in_turn}
 use Rattle.dxe_dispatch.specs.{Choices.IsDue, Choices.came, Passes.queued, Passes.turn_in}
-use Rattle.boot_core.specs.declared.whole.boot.Booted.{Booted}
+use Rattle.boot_core.specs.{declared.whole.boot.Booted.Booted, Choices.Choices, Choices.starts_of}
 use Rattle.boot_core.specs.declared.whole.boot.Booted.TheVariants as B
 use Rattle.boot_core.specs.ByChoice.{BootBy, ComesInDxe, all_lines, before_by, ending_of}
-use Rattle.boot_core.specs.Choices.{Choices, starts_of}
-use Rattle.recorded_boot.specs.{declared.order.line.Start.Start, declared.passes.Passed.Passed, declared.passes.Turn.Turn, Starts.module_start}
-use Rattle.recorded_boot.specs.declared.passes.Passed.TheVariants.{Ended, No}
+use Rattle.recorded_boot.specs.{declared.order.line.Start.Start, declared.passes.Passed.Passed, declared.passes.Turn.Turn}
+use Rattle.recorded_boot.specs.{Starts.module_start, declared.passes.Passed.TheVariants.Ended, declared.passes.Passed.TheVariants.No}
 use Rattle.recorded_boot.specs.declared.follow.images.FollowFault.{FollowFault}
 use Rattle.recorded_boot.specs.declared.follow.images.FollowFault.TheVariants.{Image, Twins, Sink, Memory}
 use Rattle.recorded_boot.specs.Against.{is_installed, lacking, pushed_in}

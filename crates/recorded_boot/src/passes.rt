@@ -2,12 +2,12 @@
 //! `turn_in` for DXE.
 ghost use Rattle.std.specs.Prelude.{◌≡◌, ◌≤◌, IfOk, length};
 ghost use Rattle.boot_io.specs.Halted.{HaltsAfter};
-ghost use Rattle.boot_model.specs.PlanBoard.{board_of};
+ghost use Rattle.boot_model.specs.{PlanBoard.board_of, DxeChoice.is_that};
 ghost use Rattle.boot_plan.specs.Range.{IsPlanInRange};
 ghost use Rattle.mod_catalog.specs.WellFormed.{IsWellFormed};
 ghost use Rattle.pi_base.specs.declared.phase.Phase.TheVariants.{Dxe};
-ghost use Rattle.store_model.specs.{Service.Present, Service.OfEach, StateFacts.IsBoard, StoreCall.Anything, StoreState.Board, StoreState.empty_store};
-ghost use Rattle.boot_model.specs.DxeChoice.{is_that};
+ghost use Rattle.store_model.specs.{Service.Present, Service.OfEach, StateFacts.IsBoard, StoreCall.Anything};
+ghost use Rattle.store_model.specs.StoreState.{Board, empty_store};
 ghost use Rattle.recorded_boot.specs.{Follow.FaultsAfter, Leaving.store_of, OnePass.OnePass, Starts.module_start};
 ghost use Rattle.recorded_boot.specs.Passes.{IsNotLeftInPei, IsTurnOf, LeavesBoot, Passes, PassesTo, lacks_in};
 

@@ -8,8 +8,8 @@ use Rattle.boot_model.specs.PlanBoard.{board_of}
 use Rattle.store_model.specs.StoreState.{Board}
 use Rattle.explain_text.specs.{declared.reasons.Explained.Explained, Lines.IsCatalogText, Text.explained_text}
 use Rattle.boot_laws.specs.declared.choice.Reached.TheVariants as R
-use Rattle.boot_core.specs.{Choices.Choices, Job.IsNamedIn}
-use Rattle.boot_reasons.specs.{Boots.HasOneExplanation, Boots.NameOne, Explained.IsExplainedBy, Explained.own_choices}
+use Rattle.boot_core.specs.{Choices.Choices, Choices.NameOne, Job.IsNamedIn}
+use Rattle.boot_reasons.specs.{Boots.HasOneExplanation, Explained.IsExplainedBy, Explained.own_choices}
 use Rattle.tools_core.specs.ExplainReport.{ExplainReport, IsExplanation, RunsItself, explained_so, faulty_image}
 use Rattle.tools_core.specs.{JobOutcome.JobOutcome, OneOutcome.AreAllTold, OneOutcome.IsOne, Refusals.image_line}
 use Rattle.tools_core.proofs.OneCheck as C
@@ -20,16 +20,16 @@ pub record Laws : Type 1 where
   pub plans : C.Laws
   pub well : (plan : Plan) (images : List (List ℕ)) (catalog : Catalog) → IsCatalogue plan images catalog → IsWellFormed catalog
   pub texts : (volumes : List VolumeEntry) (images : List (List ℕ)) (modules : List Module) (a b : List ℕ) → IsCatalogText volumes images modules a → IsCatalogText volumes images modules b → a ≡ b
-  pub boots : (by : Choices) → HasOneExplanation by
+  pub boots : (by : Catalog → ℕ → Choices) → HasOneExplanation by
 
 end_is : (e f : Explained) → R.End e ≡ R.End f → e ≡ f
 end_is e f same = cc
 
-pub one_run : Laws → (by : Choices) (board : Board) (catalog : Catalog) (fuel : ℕ) → IsWellFormed catalog → NameOne by → (e f : Explained) → IsExplainedBy by board catalog fuel e → IsExplainedBy by board catalog fuel f → e ≡ f
-one_run laws by board catalog fuel well one e f p q = end_is e f (laws.boots by one board catalog fuel well (R.End e) (R.End f) p q)
+pub one_run : Laws → (by : Catalog → ℕ → Choices) (board : Board) (catalog : Catalog) (fuel : ℕ) → IsWellFormed catalog → NameOne (by catalog fuel) → (e f : Explained) → IsExplainedBy (by catalog fuel) board catalog fuel e → IsExplainedBy (by catalog fuel) board catalog fuel f → e ≡ f
+one_run laws by board catalog fuel well one e f p q = end_is e f (laws.boots by board catalog fuel one well (R.End e) (R.End f) p q)
 
-own_name_one : NameOne own_choices
-own_name_one = record { peims = λ m one other f g. f ∙ sym g; drivers = λ pei m one other f g. f ∙ sym g }
+own_name_one : (catalog : Catalog) (fuel : ℕ) → NameOne (own_choices catalog fuel)
+own_name_one catalog fuel = record { peims = λ m one other f g. f ∙ sym g; drivers = λ pei earlier m one other f g. f ∙ sym g }
 
 pub one_text : (Run : Explained → Type 0) → ((volumes : List VolumeEntry) (images : List (List ℕ)) (modules : List Module) (a b : List ℕ) → IsCatalogText volumes images modules a → IsCatalogText volumes images modules b → a ≡ b)
     → ((e f : Explained) → Run e → Run f → e ≡ f) → (images : List (List ℕ)) (catalog : Catalog) (a b : List ℕ) → IsExplanation Run images catalog a → IsExplanation Run images catalog b → a ≡ b
@@ -43,7 +43,7 @@ one_report laws plan images are a b s t (faulty_image f p e u) (explained_so c s
 one_report laws plan images are a b s t (explained_so c sound o e) (faulty_image g q h v) = absurd (laws.plans.catalogue_or_fault plan images c g are sound q)
 one_report laws plan images are a b s t (explained_so c sound o e) (explained_so d also u h) =
     let P : Catalog → Type 0 = λ x. IsExplanation (RunsItself plan images x) images x t in
-    (e ∙ sym h, one_text (RunsItself plan images c) laws.texts (one_run laws own_choices (board_of plan c images) c plan.fuel (laws.well plan images c sound) own_name_one) images c s t o (subst P (laws.plans.catalogues plan images d c also sound) u))
+    (e ∙ sym h, one_text (RunsItself plan images c) laws.texts (one_run laws own_choices (board_of plan c images) c plan.fuel (laws.well plan images c sound) (own_name_one c plan.fuel)) images c s t o (subst P (laws.plans.catalogues plan images d c also sound) u))
 
 pub one_explain : Laws → (told : List ℕ → Option (List ℕ)) (content : List ℕ) → AreAllTold told (IsNamedIn told content) → IsOne (JobOutcome ExplainReport told content)
 one_explain laws told content all = one_of_job laws.plans ExplainReport (one_report laws) told content all

@@ -27,7 +27,7 @@ one_told : Laws → (plan : Plan) (images : List (List ℕ)) (catalog : Catalog)
 one_told laws plan images catalog text sound apart a b s t (runs_so p lines r o e) (runs_so q others z u f) =
     let P : List Line → Type 0 = λ x. IsExplanation (RunsInOrder plan images catalog (order_of x)) images catalog t in
     let Run : Explained → Type 0 = RunsInOrder plan images catalog (order_of lines) in
-    let runs = one_run laws.explains (start_choices catalog (order_of lines)) (board_of plan catalog images) catalog plan.fuel (laws.explains.well plan images catalog sound) (name_one catalog (order_of lines) apart) in
+    let runs = one_run laws.explains (λ catalog fuel. start_choices catalog fuel (order_of lines)) (board_of plan catalog images) catalog plan.fuel (laws.explains.well plan images catalog sound) (name_one catalog plan.fuel (order_of lines) apart) in
     (e ∙ sym f, one_text Run laws.explains.texts runs images catalog s t o (subst P (laws.traces text others lines z r) u))
 one_told laws plan images catalog text sound apart a b s t (runs_so p lines r o e) (goes_wrong n y f v) = absurd (y.no_boot p)
 one_told laws plan images catalog text sound apart a b s t (runs_so p lines r o e) (not_read q n y f v) = absurd (laws.read_or_bad text lines n r y)

@@ -2,7 +2,7 @@
 use Rattle.std.proofs.Common.{◌≡◌, ℕ, Bool, true, false, true≢false, Option, Some, None, refl, sym, ap, ◌∙◌, slice_get}
 use Rattle.pi_base.specs.{declared.phase.Phase.Phase, declared.phase.Phase.TheVariants.Pei, declared.phase.Phase.TheVariants.Dxe}
 use Rattle.mod_catalog.specs.declared.catalogue.Catalog.{Catalog}
-use Rattle.boot_reasons.specs.Boots.{NameOne}
+use Rattle.boot_core.specs.Choices.{NameOne}
 use Rattle.boot_reasons.specs.Explained.{IsLeftBefore, left_in_dxe, left_in_pei}
 use Rattle.recorded_boot.proofs.Modules.{one_module}
 use Rattle.recorded_boot.specs.{Named.HasNoTwins, declared.order.line.AskedStart.AskedStart, declared.order.line.Start.Start}
@@ -28,13 +28,13 @@ one_next catalog phase (Some asked) a b apart f g = one_start catalog asked.star
 one_asked : (catalog : Catalog) (phase : Phase) (order : StartOrder) (starts : ℕ) (a b : Option ℕ) → HasNoTwins catalog → NamesAsked catalog phase order starts a → NamesAsked catalog phase order starts b → a ≡ b
 one_asked catalog phase order starts a b apart f g = one_next catalog phase (slice_get order.starts starts) a b apart f g
 
-pub name_one : (catalog : Catalog) (order : StartOrder) → HasNoTwins catalog → NameOne (start_choices catalog order)
-name_one catalog order apart = record {
+pub name_one : (catalog : Catalog) (fuel : ℕ) (order : StartOrder) → HasNoTwins catalog → NameOne (start_choices catalog fuel order)
+name_one catalog fuel order apart = record {
   peims = λ m a b f g. one_asked catalog Pei order _ a b apart f g;
-  drivers = λ pei m a b f g. one_asked catalog Dxe order _ a b apart f g;
+  drivers = λ pei earlier m a b f g. one_asked catalog Dxe order _ a b apart f g;
 }
 
 -- each start is let
-pub never_left : (catalog : Catalog) (order : StartOrder) (board : Board) (fuel number : ℕ) → IsLeftBefore (start_choices catalog order) board catalog fuel number → ⊥
+pub never_left : (catalog : Catalog) (order : StartOrder) (board : Board) (fuel number : ℕ) → IsLeftBefore (start_choices catalog fuel order) board catalog fuel number → ⊥
 never_left catalog order board fuel number (left_in_pei earlier m is) = true≢false is.barred
 never_left catalog order board fuel number (left_in_dxe earlier pei run handed over is) = true≢false is.barred

@@ -7,8 +7,8 @@ use Rattle.boot_plan.specs.declared.plan.Plan.{Plan}
 use Rattle.mod_catalog.specs.declared.catalogue.Catalog.{Catalog}
 use Rattle.boot_model.specs.{declared.line.Line.Line, FreeRun.AreFreeLines, PlanBoard.board_of}
 use Rattle.explain_text.specs.declared.reasons.Explained.{Explained}
-use Rattle.boot_reasons.specs.Explained.{IsExplainedBy}
-use Rattle.recorded_boot.specs.{Order.order_of, ByOrder.NamesAsked, Verdict.IsBoot, Verdict.IsFirstOff, InOrder.order_choices}
+use Rattle.boot_reasons.specs.{Explained.IsExplainedBy, Unseen.choices_of}
+use Rattle.recorded_boot.specs.{Order.order_of, ByOrder.NamesAsked, Verdict.IsBoot, Verdict.IsFirstOff}
 use Rattle.recorded_boot.specs.declared.order.lines.StartOrder.{StartOrder}
 use Rattle.trace_reader.specs.Trace.{IsBadLine, IsTrace}
 use Rattle.boot_core.specs.Choices.{Choices}
@@ -28,7 +28,7 @@ start_rules catalog order = record {
 
 -- its choices in a boot with this fuel
 abbrev pub start_choices : Catalog → ℕ → StartOrder → Choices
-start_choices catalog fuel order = record (order_choices catalog fuel order) { lets_peim = λ m number. true; lets_driver = λ pei earlier m number. true }
+start_choices catalog fuel order = choices_of (start_rules catalog order) catalog fuel
 
 -- a boot of the images in an order of starts, explained
 abbrev pub RunsInOrder : Plan → List (List ℕ) → Catalog → StartOrder → Explained → Type 0

@@ -91,6 +91,7 @@ fn source_word(cause: Cause) -> &'static [u8]
         Cause::TwoScripts => b"TwoScripts",
         Cause::TwoBodies => b"TwoBodies",
         Cause::TwoNames => b"TwoNames",
+        Cause::Nesting => b"Nesting",
         Cause::BehindEnd => b"BehindEnd",
         Cause::NoEnd => b"NoEnd",
         Cause::TooMany => b"TooMany",

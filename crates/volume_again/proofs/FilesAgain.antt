@@ -13,25 +13,31 @@ use Rattle.fv_volume.specs.declared.build.new_file.Body.TheVariants.{Sections, B
 use Rattle.fv_volume.specs.{declared.build.attributes.FileAttributes.FileAttributes, declared.build.volume_header.VolumeForm.VolumeForm}
 use Rattle.fv_volume.specs.{declared.build.volume_name.VolumeName.VolumeName, Attributes.plain_attributes, Front.is_placed, Reading.AreEach}
 use Rattle.volume_text.specs.{declared.volume.OpenVolume.OpenVolume, Words.is_header, Words.is_length, Step.section_of}
-use Rattle.volume_text.specs.Open.{new_file, depex_type, built_of}
-use Rattle.volume_text.specs.Volume.{SayFiles, no_file, named, padded, file, bodied, section, depex, script, volume}
-use Rattle.volume_text.specs.Text.{numbered, Describes, Says as TextSays, Leads}
-use Rattle.volume_print.specs.Spelling.{phase_word, guid_word as told_guid, is_a_priori, volume_line, name_line, IsSectionText, as_volume, as_expression, as_guids, as_script, as_bytes, AreSectionTexts, whole, body_line, head_line, are_erased, pad_line, pad_text, with_pads, IsBodyText, host_of, IsFileText, IsVolumeText}
+use Rattle.volume_text.specs.{Open.new_file, Open.depex_type, Text.numbered, Text.Leads, UserInterface.ui_bytes}
+use Rattle.volume_text.specs.Volume.{SayFiles, no_file, named, padded, file, bodied, section, depex, script, volume, SaysOpen, SaysVolume}
+use Rattle.volume_print.specs.Spelling.{phase_word, guid_word as told_guid, is_a_priori, volume_line, name_line, IsSectionText, as_volume, as_expression, as_guids, as_script, as_name, as_bytes, AreSectionTexts, whole, body_line, head_line, are_erased, pad_line, pad_text, with_pads, IsBodyText, host_of, IsFileText, IsVolumeText}
 use Rattle.volume_print.specs.Places.{pad_of}
-use Rattle.volume_print.specs.Description.{form_in, name_in, pads_of, IsInner}
-use Rattle.volume_again.specs.Again.{IsNameOfBytes, IsOfBytes, IsBodyOfBytes, IsFileOfBytes, IsSectionAgain, IsFileAgain, among, SaysAgain}
+use Rattle.volume_again.specs.Again.{IsNameOfBytes, IsOfBytes, IsBodyOfBytes, IsFileOfBytes, IsSectionAgain, IsFileAgain, among}
 use Rattle.volume_again.proofs.TextLines.{IsLine, Has, has_none, has_line, has_both, has_all, has_own}
-use Rattle.volume_again.proofs.SaidLines.{volume_text, volume_says, name_text, name_says, least_size, file_text, file_says, section_text, section_says, body_says, pad_says, guids_say, depex_says, script_says as script_begins, end_says}
+use Rattle.volume_again.proofs.SaidLines.{volume_text, volume_says, name_text, name_says, least_size, file_text, file_says, section_text, section_says, ui_says, body_says, pad_says, guids_say, depex_says, script_says as script_begins, end_says}
 use Rattle.volume_again.proofs.FileLines.{block_texts, script_says, script_has, same_scripts, same_depexes}
 use Rattle.volume_again.proofs.{Trees.expression_is, GuidRuns.run_is, GuidRuns.guids_are, GoodScripts.good_script}
 use Rattle.volume_again.proofs.ByteRuns.{left_bytes, guid_there}
 use Rattle.volume_again.proofs.PadPieces.{IsGoodPiece, IsGoodPad, erased_pad}
 
+-- a text inside says a volume of as many bytes, in which volumes are at most so many levels deep as are left
+pub record SaysInside (deep : ℕ) (stream text : List ℕ) : Type 0 where
+  pub left : ℕ
+  pub one_less : deep ≡ suc left
+  pub again : List ℕ
+  pub leads : Leads text again
+  pub long : length again ≡ length stream
+  pub says : SaysVolume left (map (λ l. l.1) (numbered text)) again
+
 -- what holds of volumes inside
-pub record InnerLaws (Inner : List ℕ → List ℕ → Type 0) : Type 0 where
+pub record InnerLaws (Inner : List ℕ → List ℕ → Type 0) (deep : ℕ) : Type 0 where
   pub ends : (stream text : List ℕ) → Inner stream text → (front : List ℕ) × (text ≡ front ++ 10 ∷ [])
-  pub made : (stream text : List ℕ) → Inner stream text → (again : List ℕ) × Leads text again × (length again ≡ length stream)
-  pub says : (text bytes : List ℕ) → Leads text bytes → TextSays text bytes
+  pub says : (stream text : List ℕ) → IsBytes stream → Inner stream text → SaysInside deep stream text
 
 -- the text has lines
 record AreLines (text : List ℕ) : Type 0 where
@@ -43,34 +49,37 @@ abbrev file_of : NewFile → FileAttributes → List NewSection → NewFile
 file_of host attributes sections = record { name = host.name; kind = host.kind; attributes = attributes; body = Sections sections }
 
 -- lines say one section more
-record TellsOne (Inner : List ℕ → List ℕ → Type 0) (size : ℕ) (host : NewFile) (attributes : FileAttributes) (done : List NewSection) (one : NewSection) (lines : List (List ℕ)) (called : Option VolumeName) (files : List NewFile) (text : List ℕ)
+record TellsOne (Inner : List ℕ → List ℕ → Type 0) (deep size : ℕ) (host : NewFile) (attributes : FileAttributes) (done : List NewSection) (one : NewSection) (lines : List (List ℕ)) (called : Option VolumeName) (files : List NewFile) (text : List ℕ)
     : Type 0 where
   told : AreLines text
   again : NewSection
   is : IsSectionAgain Inner host one again
-  say : SayFiles size (lines ++ told.lines) called (files ++ file_of host attributes (done ++ again ∷ []) ∷ [])
+  say : SayFiles deep size (lines ++ told.lines) called (files ++ file_of host attributes (done ++ again ∷ []) ∷ [])
 
 abbrev one_line : (text l : List ℕ) → text ≡ line l → IsLine l → AreLines text
 one_line text l here is = record { lines = l ∷ []; has = subst (λ (t : List ℕ). Has t (l ∷ [])) (sym here) (has_line l is) }
 
-section_told : (Inner : List ℕ → List ℕ → Type 0) → InnerLaws Inner → (size : ℕ) → (host : NewFile) (attributes : FileAttributes) (before done : List NewSection) (one : NewSection) (lines : List (List ℕ)) (called : Option VolumeName)
+section_told : (Inner : List ℕ → List ℕ → Type 0) → (deep : ℕ) → InnerLaws Inner deep → (size : ℕ) → (host : NewFile) (attributes : FileAttributes) (before done : List NewSection) (one : NewSection) (lines : List (List ℕ)) (called : Option VolumeName)
     (files : List NewFile) (text : List ℕ) → IsOfBytes one → AreEach (IsSectionAgain Inner host) before done → IsSectionText Inner (host_of host) before one text
-    → SayFiles size lines called (files ++ file_of host attributes done ∷ []) → TellsOne Inner size host attributes done one lines called files text
-section_told Inner laws size host attributes before done one lines called files text fits each (as_volume inside) say =
-    let made = laws.made one.body text inside.1 in
+    → SayFiles deep size lines called (files ++ file_of host attributes done ∷ []) → TellsOne Inner deep size host attributes done one lines called files text
+section_told Inner deep laws size host attributes before done one lines called files text fits each (as_volume inside) say =
+    let made = laws.says one.body text fits.1 inside.1 in
     let ended = laws.ends one.body text inside.1 in
     let told : AreLines text = record { lines = map (λ l. l.1) (numbered text); has = has_own text ended.0 ended.1 } in
-    let says : TextSays text made.0 = laws.says text made.0 made.1 in
-    let next = file_of host attributes (done ++ section_of 23 made.0 ∷ []) in
+    let says = made.says in
+    let next = file_of host attributes (done ++ section_of 23 made.again ∷ []) in
     let holds = and_parts (host.kind == 11) (one.kind == 23) inside.0 in
+    let room = subst (λ (n : ℕ). SayFiles n size lines called (files ++ file_of host attributes done ∷ [])) made.one_less say in
+    let more : SayFiles (suc made.left) size (lines ++ says.line ∷ (says.inner ++ says.end ∷ [])) called (files ++ next ∷ []) =
+    volume lines called files (file_of host attributes done) next says.line says.inner says.volume says.end made.again room says.begins says.files says.ends says.built refl in
     record {
       told = told;
-      again = section_of 23 made.0;
-      is = (sym (eqb-true one.kind 23 holds.1), made.2, inr (inside.0, (text, inside.1, made.1)));
-      say = subst (λ (ls : List (List ℕ)). SayFiles size (lines ++ ls) called (files ++ next ∷ [])) (sym says.here)
-          (volume lines called files (file_of host attributes done) next says.line says.inner says.volume says.end made.0 say says.begins says.files says.ends says.built refl);
+      again = section_of 23 made.again;
+      is = (sym (eqb-true one.kind 23 holds.1), made.long, inr (inside.0, (text, inside.1, made.leads)));
+      say = subst (λ (ls : List (List ℕ)). SayFiles deep size (lines ++ ls) called (files ++ next ∷ [])) (sym says.here)
+          (subst (λ (n : ℕ). SayFiles n size (lines ++ says.line ∷ (says.inner ++ says.end ∷ [])) called (files ++ next ∷ [])) (sym made.one_less) more);
     }
-section_told Inner laws size host attributes before done one lines called files text fits each (as_expression phase e x is) say =
+section_told Inner deep laws size host attributes before done one lines called files text fits each (as_expression phase e x is) say =
     let reads = x.bytes.0 in
     let bytes : IsBytes (bytes_of (instructions e)) = subst IsBytes x.bytes.1 fits.1 in
     let l = depex_says phase e reads.suits (expression_is e reads.guids bytes) reads.few in
@@ -81,7 +90,7 @@ section_told Inner laws size host attributes before done one lines called files 
       is = (sym x.kind_is, ap length (sym x.bytes.1), inl (sym x.bytes.1));
       say = depex lines called files (file_of host attributes done) (file_of host attributes (done ++ again ∷ [])) (codes "depex " ++ (phase_word phase ++ (32 ∷ expression_text e))) phase (bytes_of (instructions e)) say l.says x.part (same_depexes Inner host phase before done each ∙ x.first) refl;
     }
-section_told Inner laws size host attributes before done one lines called files text fits each (as_guids list is) say =
+section_told Inner deep laws size host attributes before done one lines called files text fits each (as_guids list is) say =
     let raw = and_parts (is_a_priori (host_of host)) ((one.kind == 25) && (length one.body % 16 == 0)) list in
     let tests = and_parts (one.kind == 25) (length one.body % 16 == 0) raw.1 in
     let whole_guids = eqb-true (length one.body % 16) 0 tests.1 in
@@ -93,7 +102,7 @@ section_told Inner laws size host attributes before done one lines called files 
       is = (sym (eqb-true one.kind 25 tests.0), ap length (run_is one.body whole_guids), inl (run_is one.body whole_guids));
       say = section lines called files (file_of host attributes done) (file_of host attributes (done ++ again ∷ [])) (codes "guids" ++ flat_map told_guid (guids_in one.body)) 25 (flat_map (λ g. g.0) (guids_in one.body)) say l.says refl;
     }
-section_told Inner laws size host attributes before done one lines called files text fits each (as_script s x is) say =
+section_told Inner deep laws size host attributes before done one lines called files text fits each (as_script s x is) say =
     let good = good_script one.body s fits.1 x.bytes in
     let begins = script_begins s.phase in
     let inner = flat_map block_texts s.blocks in
@@ -111,7 +120,16 @@ section_told Inner laws size host attributes before done one lines called files 
       say = script lines called files (file_of host attributes done) (file_of host attributes (done ++ again ∷ [])) head s.phase inner s.blocks (codes "end") one.body say begins.says x.part
           (same_scripts Inner host s.phase before done each ∙ x.first) (script_says s.phase s.blocks good) end_says.says x.bytes refl;
     }
-section_told Inner laws size host attributes before done one lines called files text fits each (as_bytes v n l m is) say =
+section_told Inner deep laws size host attributes before done one lines called files text fits each (as_name name x is) say =
+    let l = ui_says name x.1.some x.1.shown in
+    let again = section_of 21 (ui_bytes name) in
+    record {
+      told = one_line text (codes "ui " ++ name) is l.is;
+      again = again;
+      is = (sym x.0, ap length (sym x.1.bytes), inl (sym x.1.bytes));
+      say = section lines called files (file_of host attributes done) (file_of host attributes (done ++ again ∷ [])) (codes "ui " ++ name) 21 (ui_bytes name) say l.says refl;
+    }
+section_told Inner deep laws size host attributes before done one lines called files text fits each (as_bytes v n l m u is) say =
     let told = section_says one.kind one.body fits.0 fits.1 in
     let again = section_of one.kind one.body in
     record {
@@ -128,28 +146,28 @@ each_more Is (a ∷ xs) [] x y all is = absurd all
 each_more Is (a ∷ xs) (b ∷ ys) x y all is = (all.0, each_more Is xs ys x y all.1 is)
 
 -- lines say sections more
-record TellsMore (Inner : List ℕ → List ℕ → Type 0) (size : ℕ) (host : NewFile) (attributes : FileAttributes) (before done more : List NewSection) (lines : List (List ℕ)) (called : Option VolumeName) (files : List NewFile) (text : List ℕ)
+record TellsMore (Inner : List ℕ → List ℕ → Type 0) (deep size : ℕ) (host : NewFile) (attributes : FileAttributes) (before done more : List NewSection) (lines : List (List ℕ)) (called : Option VolumeName) (files : List NewFile) (text : List ℕ)
     : Type 0 where
   told : AreLines text
   again : List NewSection
   each : AreEach (IsSectionAgain Inner host) (before ++ more) again
-  say : SayFiles size (lines ++ told.lines) called (files ++ file_of host attributes again ∷ [])
+  say : SayFiles deep size (lines ++ told.lines) called (files ++ file_of host attributes again ∷ [])
 
-sections_told : (Inner : List ℕ → List ℕ → Type 0) → InnerLaws Inner → (size : ℕ) → (host : NewFile) (attributes : FileAttributes) (before done more : List NewSection) (texts : List (List ℕ)) (lines : List (List ℕ)) (called : Option VolumeName)
+sections_told : (Inner : List ℕ → List ℕ → Type 0) → (deep : ℕ) → InnerLaws Inner deep → (size : ℕ) → (host : NewFile) (attributes : FileAttributes) (before done more : List NewSection) (texts : List (List ℕ)) (lines : List (List ℕ)) (called : Option VolumeName)
     (files : List NewFile) → All IsOfBytes more → AreEach (IsSectionAgain Inner host) before done → AreSectionTexts Inner (host_of host) before more texts
-    → SayFiles size lines called (files ++ file_of host attributes done ∷ []) → TellsMore Inner size host attributes before done more lines called files (whole texts)
-sections_told Inner laws size host attributes before done [] [] lines called files fits each are say = record {
+    → SayFiles deep size lines called (files ++ file_of host attributes done ∷ []) → TellsMore Inner deep size host attributes before done more lines called files (whole texts)
+sections_told Inner deep laws size host attributes before done [] [] lines called files fits each are say = record {
   told = record { lines = []; has = has_none };
   again = done;
   each = subst (λ (xs : List NewSection). AreEach (IsSectionAgain Inner host) xs done) (sym (append-nil before)) each;
-  say = subst (λ (ls : List (List ℕ)). SayFiles size ls called (files ++ file_of host attributes done ∷ [])) (sym (append-nil lines)) say;
+  say = subst (λ (ls : List (List ℕ)). SayFiles deep size ls called (files ++ file_of host attributes done ∷ [])) (sym (append-nil lines)) say;
 }
-sections_told Inner laws size host attributes before done [] (t ∷ texts) lines called files fits each are say = absurd are
-sections_told Inner laws size host attributes before done (one ∷ more) [] lines called files fits each are say = absurd are
-sections_told Inner laws size host attributes before done (one ∷ more) (text ∷ texts) lines called files fits each are say =
-    let first = section_told Inner laws size host attributes before done one lines called files text (All-head IsOfBytes one more fits) each are.0 say in
+sections_told Inner deep laws size host attributes before done [] (t ∷ texts) lines called files fits each are say = absurd are
+sections_told Inner deep laws size host attributes before done (one ∷ more) [] lines called files fits each are say = absurd are
+sections_told Inner deep laws size host attributes before done (one ∷ more) (text ∷ texts) lines called files fits each are say =
+    let first = section_told Inner deep laws size host attributes before done one lines called files text (All-head IsOfBytes one more fits) each are.0 say in
     let grown = each_more (IsSectionAgain Inner host) before done one first.again each first.is in
-    let rest = sections_told Inner laws size host attributes (before ++ one ∷ []) (done ++ first.again ∷ []) more texts (lines ++ first.told.lines) called files (All-tail IsOfBytes one more fits) grown are.1 first.say in
+    let rest = sections_told Inner deep laws size host attributes (before ++ one ∷ []) (done ++ first.again ∷ []) more texts (lines ++ first.told.lines) called files (All-tail IsOfBytes one more fits) grown are.1 first.say in
     record {
       told = record {
         lines = first.told.lines ++ rest.told.lines;
@@ -157,28 +175,28 @@ sections_told Inner laws size host attributes before done (one ∷ more) (text �
       };
       again = rest.again;
       each = subst (λ (xs : List NewSection). AreEach (IsSectionAgain Inner host) xs rest.again) (append_assoc before (one ∷ []) more) rest.each;
-      say = subst (λ (ls : List (List ℕ)). SayFiles size ls called (files ++ file_of host attributes rest.again ∷ [])) (append_assoc lines first.told.lines rest.told.lines) rest.say;
+      say = subst (λ (ls : List (List ℕ)). SayFiles deep size ls called (files ++ file_of host attributes rest.again ∷ [])) (append_assoc lines first.told.lines rest.told.lines) rest.say;
     }
 
 -- lines say one file more
-record TellsFile (Inner : List ℕ → List ℕ → Type 0) (size : ℕ) (one : NewFile) (lines : List (List ℕ)) (called : Option VolumeName) (files : List NewFile) (text : List ℕ) : Type 0 where
+record TellsFile (Inner : List ℕ → List ℕ → Type 0) (deep size : ℕ) (one : NewFile) (lines : List (List ℕ)) (called : Option VolumeName) (files : List NewFile) (text : List ℕ) : Type 0 where
   told : AreLines text
   again : NewFile
   is : IsFileAgain Inner one again
-  say : SayFiles size (lines ++ told.lines) called (files ++ again ∷ [])
+  say : SayFiles deep size (lines ++ told.lines) called (files ++ again ∷ [])
 
-body_told : (Inner : List ℕ → List ℕ → Type 0) → InnerLaws Inner → (size : ℕ) → (host : NewFile) (attributes : FileAttributes) (body : Body) (lines : List (List ℕ)) (called : Option VolumeName) (files : List NewFile) (text : List ℕ)
-    → IsBodyOfBytes body → IsBodyText Inner (host_of host) body text → SayFiles size lines called (files ++ new_file host.kind host.name attributes ∷ [])
-    → TellsFile Inner size (record { name = host.name; kind = host.kind; attributes = attributes; body = body }) lines called files text
-body_told Inner laws size host attributes (Sections sections) lines called files text fits is say =
-    let more = sections_told Inner laws size host attributes [] [] sections is.0 lines called files fits tt is.1 say in
+body_told : (Inner : List ℕ → List ℕ → Type 0) → (deep : ℕ) → InnerLaws Inner deep → (size : ℕ) → (host : NewFile) (attributes : FileAttributes) (body : Body) (lines : List (List ℕ)) (called : Option VolumeName) (files : List NewFile) (text : List ℕ)
+    → IsBodyOfBytes body → IsBodyText Inner (host_of host) body text → SayFiles deep size lines called (files ++ new_file host.kind host.name attributes ∷ [])
+    → TellsFile Inner deep size (record { name = host.name; kind = host.kind; attributes = attributes; body = body }) lines called files text
+body_told Inner deep laws size host attributes (Sections sections) lines called files text fits is say =
+    let more = sections_told Inner deep laws size host attributes [] [] sections is.0 lines called files fits tt is.1 say in
     record {
       told = record { lines = more.told.lines; has = subst (λ (t : List ℕ). Has t more.told.lines) (sym is.2) more.told.has };
       again = file_of host attributes more.again;
       is = record { kind = refl; name = refl; attributes = refl; body = more.each };
       say = more.say;
     }
-body_told Inner laws size host attributes (Bytes bytes) lines called files text fits is say =
+body_told Inner deep laws size host attributes (Bytes bytes) lines called files text fits is say =
     let l = body_says bytes fits in
     let again : NewFile = record { name = host.name; kind = host.kind; attributes = attributes; body = Bytes bytes } in
     record {
@@ -188,13 +206,13 @@ body_told Inner laws size host attributes (Bytes bytes) lines called files text 
       say = bodied lines called files (new_file host.kind host.name attributes) again (codes "body " ++ encode_lower bytes) bytes say l.says refl;
     }
 
-file_told : (Inner : List ℕ → List ℕ → Type 0) → InnerLaws Inner → (size : ℕ) → (one : NewFile) (lines : List (List ℕ)) (called : Option VolumeName) (files : List NewFile) (text : List ℕ)
-    → IsFileOfBytes one → IsFileText Inner one text → SayFiles size lines called files → TellsFile Inner size one lines called files text
-file_told Inner laws size one lines called files text fits is say =
+file_told : (Inner : List ℕ → List ℕ → Type 0) → (deep : ℕ) → InnerLaws Inner deep → (size : ℕ) → (one : NewFile) (lines : List (List ℕ)) (called : Option VolumeName) (files : List NewFile) (text : List ℕ)
+    → IsFileOfBytes one → IsFileText Inner one text → SayFiles deep size lines called files → TellsFile Inner deep size one lines called files text
+file_told Inner deep laws size one lines called files text fits is say =
     let l = file_says one.kind one.name one.attributes fits.kind fits.name in
     let head = file_text one.kind one.name one.attributes in
     let begun = file lines called files head one.kind one.name one.attributes say l.says in
-    let more = body_told Inner laws size one one.attributes one.body (lines ++ head ∷ []) called files is.0 fits.body is.1 begun in
+    let more = body_told Inner deep laws size one one.attributes one.body (lines ++ head ∷ []) called files is.0 fits.body is.1 begun in
     record {
       told = record {
         lines = head ∷ more.told.lines;
@@ -202,27 +220,27 @@ file_told Inner laws size one lines called files text fits is say =
       };
       again = more.again;
       is = more.is;
-      say = subst (λ (ls : List (List ℕ)). SayFiles size ls called (files ++ more.again ∷ [])) (append_assoc lines (head ∷ []) more.told.lines) more.say;
+      say = subst (λ (ls : List (List ℕ)). SayFiles deep size ls called (files ++ more.again ∷ [])) (append_assoc lines (head ∷ []) more.told.lines) more.say;
     }
 
 -- lines say a pad, whose text this is
-record TellsPad (size : ℕ) (pad : NewFile) (text : List ℕ) (lines : List (List ℕ)) (called : Option VolumeName) (done : List NewFile) : Type 0 where
+record TellsPad (deep size : ℕ) (pad : NewFile) (text : List ℕ) (lines : List (List ℕ)) (called : Option VolumeName) (done : List NewFile) : Type 0 where
   told : AreLines text
-  say : SayFiles size (lines ++ told.lines) called (done ++ pad ∷ [])
+  say : SayFiles deep size (lines ++ told.lines) called (done ++ pad ∷ [])
 
-pad_by : (test : Bool) (size : ℕ) (piece : List ℕ) (lines : List (List ℕ)) (called : Option VolumeName) (done : List NewFile) → IsGoodPiece piece
-    → (are_erased (take 16 piece) && are_erased (drop 24 piece)) ≡ test → SayFiles size lines called done
-    → TellsPad size (pad_of piece) (cond test (pad_line (length (drop 24 piece))) (head_line 240 (guid_at piece 0) plain_attributes ++ body_line (drop 24 piece))) lines called done
-pad_by true size piece lines called done good is say =
+pad_by : (test : Bool) (deep size : ℕ) (piece : List ℕ) (lines : List (List ℕ)) (called : Option VolumeName) (done : List NewFile) → IsGoodPiece piece
+    → (are_erased (take 16 piece) && are_erased (drop 24 piece)) ≡ test → SayFiles deep size lines called done
+    → TellsPad deep size (pad_of piece) (cond test (pad_line (length (drop 24 piece))) (head_line 240 (guid_at piece 0) plain_attributes ++ body_line (drop 24 piece))) lines called done
+pad_by true deep size piece lines called done good is say =
     let len = length (drop 24 piece) in
     let text = codes "pad " ++ decimal len in
     let fits : nat_le len 16777190 ≡ true = let few : len ≤ 16777190 = omega (arith, good.most, length-drop 24 piece) in grind (arith, nat_tests) in
     let l = pad_says len fits in
     record {
       told = record { lines = text ∷ []; has = has_line text l.is };
-      say = subst (λ (f : NewFile). SayFiles size (lines ++ text ∷ []) called (done ++ f ∷ [])) (erased_pad piece good is) (padded lines called done text len say l.says);
+      say = subst (λ (f : NewFile). SayFiles deep size (lines ++ text ∷ []) called (done ++ f ∷ [])) (erased_pad piece good is) (padded lines called done text len say l.says);
     }
-pad_by false size piece lines called done good is say =
+pad_by false deep size piece lines called done good is say =
     let name = guid_at piece 0 in
     let bytes = drop 24 piece in
     let head = file_text 240 name plain_attributes in
@@ -233,33 +251,33 @@ pad_by false size piece lines called done good is say =
     let full = bodied (lines ++ head ∷ []) called done (new_file 240 name plain_attributes) (pad_of piece) body bytes begun b.says refl in
     record {
       told = record { lines = head ∷ (body ∷ []); has = has_both (line head) (line body) (head ∷ []) (body ∷ []) (has_line head h.is) (has_line body b.is) };
-      say = subst (λ (ls : List (List ℕ)). SayFiles size ls called (done ++ pad_of piece ∷ [])) (append_assoc lines (head ∷ []) (body ∷ [])) full;
+      say = subst (λ (ls : List (List ℕ)). SayFiles deep size ls called (done ++ pad_of piece ∷ [])) (append_assoc lines (head ∷ []) (body ∷ [])) full;
     }
 
-pad_told : (size : ℕ) (pad : NewFile) (lines : List (List ℕ)) (called : Option VolumeName) (done : List NewFile) → IsGoodPad pad → SayFiles size lines called done
-    → TellsPad size pad (pad_text pad) lines called done
-pad_told size pad lines called done good say =
+pad_told : (deep size : ℕ) (pad : NewFile) (lines : List (List ℕ)) (called : Option VolumeName) (done : List NewFile) → IsGoodPad pad → SayFiles deep size lines called done
+    → TellsPad deep size pad (pad_text pad) lines called done
+pad_told deep size pad lines called done good say =
     let piece = good.0 in
-    subst (λ (f : NewFile). TellsPad size f (pad_text f) lines called done) (sym good.1)
-    (pad_by (are_erased (take 16 piece) && are_erased (drop 24 piece)) size piece lines called done good.2 refl say)
+    subst (λ (f : NewFile). TellsPad deep size f (pad_text f) lines called done) (sym good.1)
+    (pad_by (are_erased (take 16 piece) && are_erased (drop 24 piece)) deep size piece lines called done good.2 refl say)
 
 -- lines say pads
-record TellsPads (size : ℕ) (pads : List NewFile) (lines : List (List ℕ)) (called : Option VolumeName) (done : List NewFile) : Type 0 where
+record TellsPads (deep size : ℕ) (pads : List NewFile) (lines : List (List ℕ)) (called : Option VolumeName) (done : List NewFile) : Type 0 where
   told : AreLines (flat_map pad_text pads)
-  say : SayFiles size (lines ++ told.lines) called (done ++ pads)
+  say : SayFiles deep size (lines ++ told.lines) called (done ++ pads)
 
-pads_told : (size : ℕ) (lines : List (List ℕ)) (called : Option VolumeName) (done pads : List NewFile) → AllByRecursion IsGoodPad pads → SayFiles size lines called done → TellsPads size pads lines called done
-pads_told size lines called done [] fits say = record {
+pads_told : (deep size : ℕ) (lines : List (List ℕ)) (called : Option VolumeName) (done pads : List NewFile) → AllByRecursion IsGoodPad pads → SayFiles deep size lines called done → TellsPads deep size pads lines called done
+pads_told deep size lines called done [] fits say = record {
   told = record { lines = []; has = has_none };
-  say = subst (λ (ls : List (List ℕ)). SayFiles size ls called (done ++ [])) (sym (append-nil lines)) (subst (λ (fs : List NewFile). SayFiles size lines called fs) (sym (append-nil done)) say);
+  say = subst (λ (ls : List (List ℕ)). SayFiles deep size ls called (done ++ [])) (sym (append-nil lines)) (subst (λ (fs : List NewFile). SayFiles deep size lines called fs) (sym (append-nil done)) say);
 }
-pads_told size lines called done (pad ∷ pads) fits say =
-    let one = pad_told size pad lines called done fits.0 say in
-    let rest = pads_told size (lines ++ one.told.lines) called (done ++ pad ∷ []) pads fits.1 one.say in
+pads_told deep size lines called done (pad ∷ pads) fits say =
+    let one = pad_told deep size pad lines called done fits.0 say in
+    let rest = pads_told deep size (lines ++ one.told.lines) called (done ++ pad ∷ []) pads fits.1 one.say in
     record {
       told = record { lines = one.told.lines ++ rest.told.lines; has = has_both (pad_text pad) (flat_map pad_text pads) one.told.lines rest.told.lines one.told.has rest.told.has };
-      say = subst (λ (ls : List (List ℕ)). SayFiles size ls called (done ++ (pad ∷ pads))) (append_assoc lines one.told.lines rest.told.lines)
-          (subst (λ (fs : List NewFile). SayFiles size ((lines ++ one.told.lines) ++ rest.told.lines) called fs) (append_assoc done (pad ∷ []) pads) rest.say);
+      say = subst (λ (ls : List (List ℕ)). SayFiles deep size ls called (done ++ (pad ∷ pads))) (append_assoc lines one.told.lines rest.told.lines)
+          (subst (λ (fs : List NewFile). SayFiles deep size ((lines ++ one.told.lines) ++ rest.told.lines) called fs) (append_assoc done (pad ∷ []) pads) rest.say);
     }
 
 -- four lists one behind the other
@@ -267,29 +285,29 @@ four : {A : Type 0} (a b c d : List A) → ((a ++ b) ++ c) ++ d ≡ a ++ (b ++ (
 four a b c d = append_assoc (a ++ b) c d ∙ append_assoc a b (c ++ d)
 
 -- lines say files, each behind its pads
-record TellsFiles (Inner : List ℕ → List ℕ → Type 0) (size : ℕ) (done : List NewFile) (pads : List (List NewFile)) (files : List NewFile) (lines : List (List ℕ)) (called : Option VolumeName) (text : List ℕ) : Type 0 where
+record TellsFiles (Inner : List ℕ → List ℕ → Type 0) (deep size : ℕ) (done : List NewFile) (pads : List (List NewFile)) (files : List NewFile) (lines : List (List ℕ)) (called : Option VolumeName) (text : List ℕ) : Type 0 where
   told : AreLines text
   again : List NewFile
   each : AreEach (IsFileAgain Inner) files again
-  say : SayFiles size (lines ++ told.lines) called (done ++ among pads again)
+  say : SayFiles deep size (lines ++ told.lines) called (done ++ among pads again)
 
-files_told : (Inner : List ℕ → List ℕ → Type 0) → InnerLaws Inner → (size : ℕ) → (done : List NewFile) (pads : List (List NewFile)) (files : List NewFile) (texts : List (List ℕ)) (lines : List (List ℕ)) (called : Option VolumeName)
-    → length pads ≡ length files → AllByRecursion (AllByRecursion IsGoodPad) pads → All IsFileOfBytes files → AreEach (IsFileText Inner) files texts → SayFiles size lines called done
-    → TellsFiles Inner size done pads files lines called (with_pads pads texts)
-files_told Inner laws size done [] [] [] lines called long pads_fit fits are say = record {
+files_told : (Inner : List ℕ → List ℕ → Type 0) → (deep : ℕ) → InnerLaws Inner deep → (size : ℕ) → (done : List NewFile) (pads : List (List NewFile)) (files : List NewFile) (texts : List (List ℕ)) (lines : List (List ℕ)) (called : Option VolumeName)
+    → length pads ≡ length files → AllByRecursion (AllByRecursion IsGoodPad) pads → All IsFileOfBytes files → AreEach (IsFileText Inner) files texts → SayFiles deep size lines called done
+    → TellsFiles Inner deep size done pads files lines called (with_pads pads texts)
+files_told Inner deep laws size done [] [] [] lines called long pads_fit fits are say = record {
   told = record { lines = []; has = has_none };
   again = [];
   each = tt;
-  say = subst (λ (ls : List (List ℕ)). SayFiles size ls called (done ++ [])) (sym (append-nil lines)) (subst (λ (fs : List NewFile). SayFiles size lines called fs) (sym (append-nil done)) say);
+  say = subst (λ (ls : List (List ℕ)). SayFiles deep size ls called (done ++ [])) (sym (append-nil lines)) (subst (λ (fs : List NewFile). SayFiles deep size lines called fs) (sym (append-nil done)) say);
 }
-files_told Inner laws size done [] [] (t ∷ texts) lines called long pads_fit fits are say = absurd are
-files_told Inner laws size done [] (one ∷ files) texts lines called long pads_fit fits are say = absurd (omega (arith, long))
-files_told Inner laws size done (p ∷ pads) [] texts lines called long pads_fit fits are say = absurd (omega (arith, long))
-files_told Inner laws size done (p ∷ pads) (one ∷ files) [] lines called long pads_fit fits are say = absurd are
-files_told Inner laws size done (p ∷ pads) (one ∷ files) (text ∷ texts) lines called long pads_fit fits are say =
-    let front = pads_told size lines called done p pads_fit.0 say in
-    let first = file_told Inner laws size one (lines ++ front.told.lines) called (done ++ p) text (All-head IsFileOfBytes one files fits) are.0 front.say in
-    let rest = files_told Inner laws size ((done ++ p) ++ first.again ∷ []) pads files texts ((lines ++ front.told.lines) ++ first.told.lines) called (omega (arith, long)) pads_fit.1
+files_told Inner deep laws size done [] [] (t ∷ texts) lines called long pads_fit fits are say = absurd are
+files_told Inner deep laws size done [] (one ∷ files) texts lines called long pads_fit fits are say = absurd (omega (arith, long))
+files_told Inner deep laws size done (p ∷ pads) [] texts lines called long pads_fit fits are say = absurd (omega (arith, long))
+files_told Inner deep laws size done (p ∷ pads) (one ∷ files) [] lines called long pads_fit fits are say = absurd are
+files_told Inner deep laws size done (p ∷ pads) (one ∷ files) (text ∷ texts) lines called long pads_fit fits are say =
+    let front = pads_told deep size lines called done p pads_fit.0 say in
+    let first = file_told Inner deep laws size one (lines ++ front.told.lines) called (done ++ p) text (All-head IsFileOfBytes one files fits) are.0 front.say in
+    let rest = files_told Inner deep laws size ((done ++ p) ++ first.again ∷ []) pads files texts ((lines ++ front.told.lines) ++ first.told.lines) called (omega (arith, long)) pads_fit.1
     (All-tail IsFileOfBytes one files fits) are.1 first.say in
     let behind = has_both text (with_pads pads texts) first.told.lines rest.told.lines first.told.has rest.told.has in
     record {
@@ -299,31 +317,39 @@ files_told Inner laws size done (p ∷ pads) (one ∷ files) (text ∷ texts) li
       };
       again = first.again ∷ rest.again;
       each = (first.is, rest.each);
-      say = subst (λ (ls : List (List ℕ)). SayFiles size ls called (done ++ (p ++ (first.again ∷ among pads rest.again)))) (four lines front.told.lines first.told.lines rest.told.lines)
-          (subst (λ (fs : List NewFile). SayFiles size (((lines ++ front.told.lines) ++ first.told.lines) ++ rest.told.lines) called fs) (four done p (first.again ∷ []) (among pads rest.again)) rest.say);
+      say = subst (λ (ls : List (List ℕ)). SayFiles deep size ls called (done ++ (p ++ (first.again ∷ among pads rest.again)))) (four lines front.told.lines first.told.lines rest.told.lines)
+          (subst (λ (fs : List NewFile). SayFiles deep size (((lines ++ front.told.lines) ++ first.told.lines) ++ rest.told.lines) called fs) (four done p (first.again ∷ []) (among pads rest.again)) rest.say);
     }
 
 -- the line of a name, if there is one
-record TellsName (size : ℕ) (called : Option VolumeName) : Type 0 where
+record TellsName (deep size : ℕ) (called : Option VolumeName) : Type 0 where
   lines : List (List ℕ)
   has : Has (name_line called) lines
-  say : SayFiles size lines called []
+  say : SayFiles deep size lines called []
 
-name_told : (size : ℕ) (called : Option VolumeName) → IsNameOfBytes called → is_placed size called ≡ true → TellsName size called
-name_told size None fits placed = record { lines = []; has = has_none; say = no_file }
-name_told size (Some name) fits placed =
+name_told : (deep size : ℕ) (called : Option VolumeName) → IsNameOfBytes called → is_placed size called ≡ true → TellsName deep size called
+name_told deep size None fits placed = record { lines = []; has = has_none; say = no_file }
+name_told deep size (Some name) fits placed =
     let l = name_says name fits.0 fits.1 fits.2 (least_size size name placed) in
     record { lines = name_text name ∷ []; has = has_line (name_text name) l.is; say = named [] [] (name_text name) name no_file l.says placed }
 
+-- lines say a volume of this form, length and name with these files again, each behind these pads, and with volumes in it at most so many levels deep
+pub record TellsVolume (Inner : List ℕ → List ℕ → Type 0) (deep : ℕ) (form : VolumeForm) (len : ℕ) (called : Option VolumeName) (pads : List (List NewFile)) (files : List NewFile) (text : List ℕ) : Type 0 where
+  pub again : List NewFile
+  pub files_are : AreEach (IsFileAgain Inner) files again
+  pub volume : OpenVolume
+  pub volume_is : volume ≡ record { form = form; len = len; name = called; files = among pads again }
+  pub describes : SaysOpen deep (map (λ l. l.1) (numbered text)) volume
+
 -- a volume's text
-pub volume_told : (Inner : List ℕ → List ℕ → Type 0) → InnerLaws Inner → ((text bytes : List ℕ) → TextSays text bytes → Leads text bytes) → (form : VolumeForm) (len : ℕ) (called : Option VolumeName) (pads : List (List NewFile)) (files : List NewFile) (text : List ℕ) → is_length len ≡ true → form.attributes < 2 ^ 32
+pub volume_told : (Inner : List ℕ → List ℕ → Type 0) → (deep : ℕ) → InnerLaws Inner deep → (form : VolumeForm) (len : ℕ) (called : Option VolumeName) (pads : List (List NewFile)) (files : List NewFile) (text : List ℕ) → is_length len ≡ true → form.attributes < 2 ^ 32
     → is_header len form.header_len ≡ true → is_placed form.header_len called ≡ true → IsNameOfBytes called → length pads ≡ length files → AllByRecursion (AllByRecursion IsGoodPad) pads → All IsFileOfBytes files → IsVolumeText Inner form len called pads files text
-    → SaysAgain Inner form len called pads files text
-volume_told Inner laws complete form len called pads files text long fits header_fits placed name_fits as_many pads_fit files_fit is =
+    → TellsVolume Inner deep form len called pads files text
+volume_told Inner deep laws form len called pads files text long fits header_fits placed name_fits as_many pads_fit files_fit is =
     let head = volume_text form len in
     let l = volume_says form len long fits header_fits in
-    let n = name_told form.header_len called name_fits placed in
-    let more = files_told Inner laws form.header_len [] pads files is.0 n.lines called as_many pads_fit files_fit is.1 n.say in
+    let n = name_told deep form.header_len called name_fits placed in
+    let more = files_told Inner deep laws form.header_len [] pads files is.0 n.lines called as_many pads_fit files_fit is.1 n.say in
     let body = with_pads pads is.0 in
     let inner = n.lines ++ more.told.lines in
     let all = head ∷ (inner ++ codes "end" ∷ []) in
@@ -335,42 +361,17 @@ volume_told Inner laws complete form len called pads files text long fits header
     subst (λ (t : List ℕ). Has t all) (sym is.2) (has_both (line head) (name_line called ++ (body ++ line (codes "end"))) (head ∷ []) (inner ++ codes "end" ∷ []) (has_line head l.is) behind) in
     let one : OpenVolume = record { form = form; len = len; name = called; files = among pads more.again } in
     let here : map (λ (l : ℕ × List ℕ). l.1) (numbered text) ≡ all = has_all text all has in
-    let describes : Describes text one = record { line = head; inner = inner; end = codes "end"; here = here; begins = l.says; files = more.say; ends = end_says.says } in
-    let says : (bytes : List ℕ) → built_of one ≡ Ok bytes → TextSays text bytes = λ bytes built. record {
-      line = head;
-      inner = inner;
-      end = codes "end";
-      volume = one;
-      here = here;
-      begins = l.says;
-      files = more.say;
-      ends = end_says.says;
-      built = built;
-    } in
     record {
-      volume = one;
       again = more.again;
-      form_is = refl;
-      len_is = refl;
-      name_is = refl;
       files_are = more.each;
-      padded = refl;
-      describes = describes;
-      says = says;
-      leads = λ bytes built. complete text bytes (says bytes built);
+      volume = one;
+      volume_is = refl;
+      describes = record { line = head; inner = inner; end = codes "end"; here = here; begins = l.says; files = more.say; ends = end_says.says };
     }
 
--- texts of volumes inside
-ends_so : (head name body : List ℕ) (text : List ℕ) → text ≡ head ++ (name ++ (body ++ line (codes "end"))) → (front : List ℕ) × (text ≡ front ++ 10 ∷ [])
+-- a volume's text ends with a line feed
+pub ends_so : (head name body : List ℕ) (text : List ℕ) → text ≡ head ++ (name ++ (body ++ line (codes "end"))) → (front : List ℕ) × (text ≡ front ++ 10 ∷ [])
 ends_so head name body text is = (
   head ++ (name ++ (body ++ codes "end")),
   is ∙ sym (append_assoc head (name ++ (body ++ codes "end")) (10 ∷ []) ∙ ap (λ t. head ++ t) (append_assoc name (body ++ codes "end") (10 ∷ []) ∙ ap (λ t. name ++ t) (append_assoc body (codes "end") (10 ∷ [])))),
 )
-
-pub inner_laws : ((text bytes : List ℕ) → Leads text bytes → TextSays text bytes) → (deep : ℕ) → InnerLaws (IsInner deep)
-inner_laws says zero = record { ends = λ stream text is. absurd is; made = λ stream text is. absurd is; says = says }
-inner_laws says (suc deep) = record {
-  ends = λ stream text is. ends_so (volume_line (form_in stream) is.volume.len) (name_line (name_in stream is.volume.name)) (with_pads (pads_of stream is.volume is.told.files) is.told.spelled.0) text is.told.spelled.2;
-  made = λ stream text is. (is.again, is.leads, is.long);
-  says = says;
-}

@@ -17,4 +17,5 @@ mod BuiltTexts
 mod GoodHeaders
 mod FormAgain
 mod WholeNames
+mod Deeper
 mod MadeAgain

@@ -1,5 +1,5 @@
 -- A volume's text says it again, and what is made of the text is read as the same volume.
-use Rattle.std.proofs.Common.{◌≡◌, ℕ, ◌+◌, ◌-◌, ◌%◌, ◌≤◌, true, List, [], ◌∷◌, ◌++◌, length, map, Option, Some, None, Result, Ok, Err, replicate, sym, ap, ◌∙◌, subst, append_assoc, length-append, arith, All, nat_le, ◌&&◌}
+use Rattle.std.proofs.Common.{◌≡◌, ℕ, zero, suc, refl, ◌+◌, ◌-◌, ◌%◌, ◌≤◌, true, List, [], ◌∷◌, ◌++◌, length, map, Option, Some, None, Result, Ok, Err, replicate, sym, ap, ◌∙◌, subst, append_assoc, length-append, arith, All, nat_le, ◌&&◌}
 use Rattle.std.specs.List.{AllByRecursion}
 use Rattle.std.proofs.{lemmas.Bool.Decides.nat_tests, lemmas.List.Elements.All-nil, lemmas.List.Elements.All-cons}
 use Rattle.hex.specs.Hex.{IsBytes}
@@ -13,18 +13,21 @@ use Rattle.fv_volume.specs.Front.{ext_at, name_part, front_len, first_place, is_
 use Rattle.fv_volume.specs.Building.{need, filled_from, volume_bytes}
 use Rattle.fv_volume.proofs.VolumesRead.{length-header, length-front, sound, fits_header}
 use Rattle.volume_text.specs.{declared.fault.Cause.Cause, declared.fault.Fault.Fault, declared.fault.TextFault.TheVariants.Bad}
-use Rattle.volume_text.specs.{declared.volume.OpenVolume.OpenVolume, Open.built_of, Words.is_length}
+use Rattle.volume_text.specs.{declared.volume.OpenVolume.OpenVolume, Open.built_of, Words.is_length, declared.step.TheConstants.MOST_INSIDE}
 use Rattle.volume_again.proofs.BuiltTexts.{Made, made, made_again as read_again, ranges}
-use Rattle.volume_text.specs.Text.{Says, Leads, IsRefused}
-use Rattle.volume_print.specs.Description.{IsFileIn, form_in, name_in, IsInner, IsTextOf}
+use Rattle.volume_text.specs.Text.{numbered, Describes, Says, Leads, IsRefused}
+use Rattle.volume_text.specs.Volume.{SaysVolume}
+use Rattle.fv_volume.specs.{declared.volume.Volume.Volume, Volume.IsVolume}
+use Rattle.volume_print.specs.Spelling.{volume_line, name_line, with_pads}
+use Rattle.volume_print.specs.Description.{IsFileIn, form_in, name_in, pads_of, IsInner, IsTextBy, IsTextOf}
 use Rattle.volume_print.specs.Places.{rooms, pads_before, places}
 use Rattle.volume_again.specs.Again.{IsNameOfBytes, IsFileAgain, among}
 use Rattle.volume_again.specs.Made.{StandIn, IsMadeAgain, SaysItself, CannotBeBuilt}
-use Rattle.volume_again.proofs.{FilesAgain.volume_told, FilesAgain.inner_laws, GoodHeaders.head_good, ListedFiles.volume_good}
+use Rattle.volume_again.proofs.FilesAgain.{InnerLaws, TellsVolume, volume_told, ends_so}
+use Rattle.volume_again.proofs.{Deeper.open_deeper, GoodHeaders.head_good, ListedFiles.volume_good, WholeNames.files_whole}
 use Rattle.volume_again.proofs.FormAgain.{is_told, form_again, name_again}
 use Rattle.volume_again.proofs.PadsStand.{laid_stand, stand_up, pads_stand}
-use Rattle.volume_again.proofs.{WholeNames.files_whole, OfBytes.files_of_bytes, OfBytes.attributes_fit}
-use Rattle.volume_again.proofs.PadPieces.{IsGoodPad, pad_whole}
+use Rattle.volume_again.proofs.{OfBytes.files_of_bytes, OfBytes.attributes_fit, PadPieces.IsGoodPad, PadPieces.pad_whole}
 use Rattle.volume_again.proofs.StandAgain.{IsListedFile, stand_again, none_left_out, kept, rooms_at, pads_fit, length-all}
 
 -- the first place is a multiple of 8
@@ -38,23 +41,92 @@ long_enough len least most =
     let b : nat_le len 0x4000000 ≡ true = grind (arith, nat_tests) in
     ap (λ t. t && nat_le len 0x4000000) a ∙ b
 
--- the text of a volume says it
-pub says_itself : ((text bytes : List ℕ) → Leads text bytes → Says text bytes) → ((text bytes : List ℕ) → Says text bytes → Leads text bytes)
-    → (image text : List ℕ) (told : IsTextOf image text) → IsBytes image → told.volume.len ≤ 0x4000000 → SaysItself image text told
-says_itself says leads image text told bytes most =
-    let volume = told.volume in
+-- the volume that a text describes
+pub text_again : (text bytes : List ℕ) (said : Says text bytes) → IsReadAs said.volume.form said.volume.name said.volume.files said.volume.len bytes
+text_again text bytes said =
+    let whole = files_whole said.volume.form.header_len said.inner said.volume.name said.volume.files said.files in read_again said.volume bytes whole.0 whole.1 said.built
+
+-- the laws of texts
+pub record TextLaws : Type 0 where
+  pub says : (text bytes : List ℕ) → Leads text bytes → Says text bytes
+  pub leads : (text bytes : List ℕ) → Says text bytes → Leads text bytes
+  pub built : (text : List ℕ) (volume : OpenVolume) (bytes : List ℕ) → Describes text volume → Leads text bytes → built_of volume ≡ Ok bytes
+
+-- what is made of a text has at most 64 MiB
+made_short : (text bytes : List ℕ) → Says text bytes → length bytes ≤ 0x4000000
+made_short text bytes said =
+    let most = (ranges said.volume (made said.volume bytes said.built).range).most in
+    let r = text_again text bytes said in
+    omega (arith, most, r.long)
+
+-- the text of a volume says it, by what volumes inside have as their texts
+told_by : (Inner : List ℕ → List ℕ → Type 0) (deep : ℕ) → InnerLaws Inner deep → (image text : List ℕ) (volume : Volume) → IsVolume image volume → (told : IsTextBy Inner image volume text) → IsBytes image
+    → volume.len ≤ 0x4000000 → TellsVolume Inner deep (form_in image) volume.len (name_in image volume.name) (pads_of image volume told.files) told.files text
+told_by Inner deep laws image text volume is told bytes most =
     let form = form_in image in
     let name = name_in image volume.name in
     let from = first_place form name in
-    let good = volume_good image volume bytes told.is in
-    let head = head_good image volume bytes told.is in
-    let all = rooms form.file_system volume.files told.told.files in
+    let good = volume_good image volume bytes is in
+    let head = head_good image volume bytes is in
+    let all = rooms form.file_system volume.files told.files in
     let long = long_enough volume.len head.least most in
-    let inside = volume_inside image volume told.is in
-    volume_told (IsInner 3) (inner_laws says 3) leads form volume.len name (pads_before image from all) told.told.files text long (attributes_fit image bytes) head.header head.name.placed
-    head.name.fits (length-all (IsFileIn form.file_system image) form.file_system image from volume.files told.told.files told.told.are)
-    (pads_fit image form.file_system from volume.files told.told.files bytes (first_even form name) good inside told.told.are)
-    (files_of_bytes form.file_system image volume.files told.told.files bytes good told.told.are) told.told.spelled
+    let inside = volume_inside image volume is in
+    volume_told Inner deep laws form volume.len name (pads_before image from all) told.files text long (attributes_fit image bytes) head.header head.name.placed
+    head.name.fits (length-all (IsFileIn form.file_system image) form.file_system image from volume.files told.files told.are)
+    (pads_fit image form.file_system from volume.files told.files bytes (first_even form name) good inside told.are)
+    (files_of_bytes form.file_system image volume.files told.files bytes good told.are) told.spelled
+
+inner_laws : TextLaws → (deep left : ℕ) → deep + left ≡ MOST_INSIDE → InnerLaws (IsInner deep) deep
+inner_laws laws zero left all = record { ends = λ stream text is. absurd is; says = λ stream text bytes is. absurd is }
+inner_laws laws (suc deep) left all = record {
+  ends = λ stream text is. ends_so (volume_line (form_in stream) is.volume.len) (name_line (name_in stream is.volume.name)) (with_pads (pads_of stream is.volume is.told.files) is.told.spelled.0) text is.told.spelled.2;
+  says = λ stream text bytes is.
+      let lines = map (λ (l : ℕ × List ℕ). l.1) (numbered text) in
+      let short = made_short text is.again (laws.says text is.again is.leads) in
+      let few : is.volume.len ≤ 0x4000000 = omega (arith, short, is.all, is.long) in
+      let t = told_by (IsInner deep) deep (inner_laws laws deep (suc left) (omega (arith, all))) stream text is.volume is.is is.told bytes few in
+      let described : Describes text t.volume = open_deeper deep (suc left) (omega (arith, all)) lines t.volume t.describes in
+      let says : SaysVolume deep lines is.again = record {
+        line = t.describes.line;
+        inner = t.describes.inner;
+        end = t.describes.end;
+        volume = t.volume;
+        here = t.describes.here;
+        begins = t.describes.begins;
+        files = t.describes.files;
+        ends = t.describes.ends;
+        built = laws.built text t.volume is.again described is.leads;
+      } in
+      record { left = deep; one_less = refl; again = is.again; leads = is.leads; long = is.long; says = says };
+}
+
+-- the text of a volume says it
+pub says_itself : TextLaws → (image text : List ℕ) (told : IsTextOf image text) → IsBytes image → told.volume.len ≤ 0x4000000 → SaysItself image text told
+says_itself laws image text told bytes most =
+    let t = told_by (IsInner 3) 3 (inner_laws laws 3 0 (omega arith)) image text told.volume told.is told.told bytes most in
+    let says : (again : List ℕ) → built_of t.volume ≡ Ok again → Says text again = λ again built. record {
+      line = t.describes.line;
+      inner = t.describes.inner;
+      end = t.describes.end;
+      volume = t.volume;
+      here = t.describes.here;
+      begins = t.describes.begins;
+      files = t.describes.files;
+      ends = t.describes.ends;
+      built = built;
+    } in
+    record {
+      volume = t.volume;
+      again = t.again;
+      form_is = ap (λ (v : OpenVolume). v.form) t.volume_is;
+      len_is = ap (λ (v : OpenVolume). v.len) t.volume_is;
+      name_is = ap (λ (v : OpenVolume). v.name) t.volume_is;
+      files_are = t.files_are;
+      padded = ap (λ (v : OpenVolume). v.files) t.volume_is;
+      describes = t.describes;
+      says = says;
+      leads = λ again built. laws.leads text again (says again built);
+    }
 
 -- names that are whole
 pads_whole : (pads files : List NewFile) → AllByRecursion IsGoodPad pads → All HasWholeName files → All HasWholeName (pads ++ files)
@@ -151,8 +223,3 @@ pub refused_so : ((text bytes : List ℕ) (fault : Fault) → Leads text bytes �
     → (s : SaysItself image text told) → IsRefused text (Bad fault) → (r : Result (List ℕ) Cause) → built_of s.volume ≡ r → CannotBeBuilt image text told
 refused_so apart image text fault told s refused (Ok bytes) is = absurd (apart text bytes fault (s.leads bytes is) refused)
 refused_so apart image text fault told s refused (Err c) is = (s, (c, is))
-
--- the volume that a text describes
-pub text_again : (text bytes : List ℕ) (said : Says text bytes) → IsReadAs said.volume.form said.volume.name said.volume.files said.volume.len bytes
-text_again text bytes said =
-    let whole = files_whole said.volume.form.header_len said.inner said.volume.name said.volume.files said.files in read_again said.volume bytes whole.0 whole.1 said.built

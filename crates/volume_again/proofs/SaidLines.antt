@@ -1,7 +1,8 @@
 -- What the lines of a printed text say.
-use Rattle.std.proofs.Common.{◌≡◌, ℕ, zero, suc, ◌^◌, ◌<◌, ◌≤◌, ◌%◌, Bool, true, false, List, [], ◌∷◌, ◌++◌, length, map, flat_map, Some, Result, Ok, refl, sym, ap, ◌∙◌, arith, decimal, subst, append_assoc, nat_le, nat_lt, codes, bytes_eq, ◌==◌, ◌&&◌, if◌then◌else◌, eqb-true, append-nil}
-use Rattle.std.specs.List.{AllByRecursion}
-use Rattle.std.proofs.{lemmas.Bool.and_parts, lemmas.Bool.false≢true, lemmas.Bool.Decides.nat_tests}
+use Rattle.std.proofs.Common.{◌≡◌, ℕ, zero, suc, ◌^◌, ◌<◌, ◌≤◌, ◌%◌, Bool, true, false, List, [], ◌∷◌, ◌++◌, length, map, flat_map, Some, Result, Ok, refl, sym, ap, ◌∙◌, arith, decimal, subst, append_assoc, nat_le, nat_lt, codes, bytes_eq, ◌==◌, ◌&&◌, ◌||◌, not, if◌then◌else◌, eqb-true, append-nil}
+use Rattle.std.specs.List.{AllByRecursion, list_all}
+use Rattle.std.proofs.lemmas.Bool.{and_parts, and_from, false≢true}
+use Rattle.std.proofs.lemmas.Bool.Decides.{nat_tests}
 use Rattle.hex.specs.Hex.{IsBytes, encode_with, encode_lower, decode_of}
 use Rattle.hex.proofs.HexLemmas.{decode_of-encode_lower}
 use Rattle.pi_base.specs.{declared.guid.Guid.Guid, declared.phase.Phase.Phase}
@@ -24,13 +25,14 @@ use Rattle.volume_text.specs.{declared.fault.Cause.Cause, Reading.◌>>=◌, Rea
 use Rattle.volume_text.specs.declared.fault.Cause.TheVariants as cause
 use Rattle.volume_text.specs.declared.statement.Statement.TheVariants as said
 use Rattle.volume_text.specs.Keywords.{keyword_of, phase_of, system_of}
-use Rattle.volume_text.specs.Words.{is_length, length_at, number_at, told_at, is_header, header_at, place_at, is_size, size_at, is_pad_length, pad_length_at, system_at, attributes_at, last_number, guid_at, file_type_at, section_type_at, phase_at, fixed_at, last_alignment, alignment_at, chosen_at}
+use Rattle.volume_text.specs.Words.{is_length, length_at, number_at, told_at, is_header, header_at, place_at, is_size, size_at, is_pad_length, pad_length_at, system_at, attributes_at, last_number, guid_at, file_type_at, section_type_at, ui_name_at, phase_at, fixed_at, last_alignment, alignment_at, chosen_at}
 use Rattle.volume_text.specs.Bytes.{hex_answer, bytes_of as bytes_of_words, guids_of}
-use Rattle.volume_text.specs.Line.{volume_at, name_at, pad_at, file_at, script_at, guids_at, section_at, body_at, ReadsBy, ReadsDepex}
+use Rattle.volume_text.specs.Line.{volume_at, name_at, pad_at, file_at, script_at, guids_at, section_at, ui_at, body_at, ReadsBy, ReadsDepex}
+use Rattle.volume_text.specs.UserInterface.{is_name_byte, is_ui_name, ui_bytes}
 use Rattle.volume_text.specs.{Volume.SaysLine, Text.is_passed_over}
 use Rattle.volume_print.specs.Spelling.{phase_word, system_word, core_type_word, type_word, fixed_words, alignment_words, attribute_words, number_words, guid_word as told_guid}
-use Rattle.fv_volume.specs.declared.sections.section_type.TheConstants.{RAW}
-use Rattle.source_words.proofs.LineWords.{IsWord, IsClear, clear_of, both_clear, spaced_clear, word_then, words_spaced, stands_spaced}
+use Rattle.fv_volume.specs.declared.sections.section_type.TheConstants.{RAW, USER_INTERFACE}
+use Rattle.source_words.proofs.LineWords.{is_clean, IsClean, IsWord, IsClear, clear_of, both_clear, spaced_clear, word_then, words_spaced, stands_spaced}
 use Rattle.source_words.proofs.Characters.{decimal_word, hexadecimal_word, encoded_inner, encoded_word, guid_word}
 use Rattle.source_words.proofs.ValueWords.{decimal_read, hexadecimal_read, guid_read}
 use Rattle.source_words.proofs.PrintedWords.{expression_is, expression_clear}
@@ -450,6 +452,46 @@ section_says kind body fits bytes =
       is = record {
         clear = both_clear (codes "section ") (type ++ (32 ∷ encode_lower body)) refl (both_clear type (32 ∷ encode_lower body) (clear_of type type_is.1) (shown_clear body bytes));
         counts = counts_first text (codes "section") others split;
+      };
+    }
+
+-- a name in a user interface section
+ui_key : (l : List ℕ) (others : List (List ℕ)) (what : Statement) → Ok what ≡ ui_at others → ReadsBy (keyword_of (codes "ui")) l others (Ok what)
+unfolding keyword_of
+ui_key l others what is = is
+
+name_byte_clean : (byte : ℕ) → is_name_byte byte ≡ true → is_clean byte ≡ true
+name_byte_clean byte is =
+    let no_comment = not ((byte == 35) || ((byte == 40) || (byte == 41))) in
+    let first = and_parts (nat_lt 32 byte) (nat_le byte 126 && no_comment) is in
+    let above : nat_lt 32 byte ≡ true = first.0 in
+    let space : (byte == 32) ≡ false = grind (arith, nat_tests) in
+    let tab : (byte == 9) ≡ false = grind (arith, nat_tests) in
+    rw (above, space, tab) (and_parts (nat_le byte 126) no_comment first.1).1
+
+name_clean : (name : List ℕ) → is_ui_name name ≡ true → IsClean name
+name_clean [] shown = refl
+name_clean (byte ∷ name) shown =
+    let parts = and_parts (is_name_byte byte) (list_all is_name_byte name) shown in
+    and_from (is_clean byte) (list_all is_clean name) (name_byte_clean byte parts.0) (name_clean name parts.1)
+
+ui_read : (name : List ℕ) → is_ui_name name ≡ true → ui_at (name ∷ []) ≡ Ok (said.Section USER_INTERFACE (ui_bytes name))
+unfolding ui_at ui_name_at
+ui_read name shown = rw shown refl
+
+pub ui_says : (name : List ℕ) → 0 < length name → is_ui_name name ≡ true → Says (codes "ui " ++ name) (said.Section USER_INTERFACE (ui_bytes name))
+ui_says name some shown =
+    let others = name ∷ [] in
+    let text = codes "ui " ++ name in
+    let same : text ≡ line_of (codes "ui") others = ap (λ t. codes "ui " ++ t) (sym (append-nil name)) in
+    let all : AllByRecursion IsWord others = ((some, name_clean name shown), tt) in
+    let split : words text ≡ codes "ui" ∷ others = ap words same ∙ line_words (codes "ui") others (omega arith, refl) all in
+    record {
+      says = says_by text (codes "ui") others (said.Section USER_INTERFACE (ui_bytes name)) split
+          (ui_key text others (said.Section USER_INTERFACE (ui_bytes name)) (sym (ui_read name shown)));
+      is = record {
+        clear = subst IsClear (sym same) (line_clear (codes "ui") others (omega arith, refl) all);
+        counts = counts_first text (codes "ui") others split;
       };
     }
 

@@ -15,9 +15,9 @@ use Rattle.volume_text.specs.{declared.fault.Cause.Cause, declared.statement.Sta
 use Rattle.volume_text.specs.declared.fault.Cause.TheVariants as cause
 use Rattle.volume_text.specs.declared.statement.Statement.TheVariants as said
 use Rattle.volume_text.specs.Reading.{◌>>=◌, only_if, there}
-use Rattle.volume_text.specs.Words.{none_left, guid_at, phase_at, length_at, pad_length_at, system_at, told_at, header_at, attributes_at, place_at, size_at, chosen_at, file_type_at, section_type_at}
+use Rattle.volume_text.specs.Words.{none_left, guid_at, phase_at, length_at, pad_length_at, system_at, told_at, header_at, attributes_at, place_at, size_at, chosen_at, file_type_at, section_type_at, ui_name_at}
 use Rattle.volume_text.specs.Bytes.{bytes_of, guids_of}
-use Rattle.volume_text.specs.Line.{volume_at, name_at, pad_at, file_at, script_at, guids_at, raw_at, section_at, body_at, alone, ReadsBy, ReadsFirst, ReadsExpression}
+use Rattle.volume_text.specs.Line.{volume_at, name_at, pad_at, file_at, script_at, guids_at, raw_at, section_at, ui_at, body_at, alone, ReadsBy, ReadsFirst, ReadsExpression}
 use Rattle.volume_text.specs.Open.{with_body, held_in, is_empty}
 use Rattle.volume_text.specs.Volume.{SaysLine, SayFiles, no_file, named, padded, file, bodied, section, depex, script, volume}
 use Rattle.fv_volume.specs.{Reading.IsWhole, declared.build.volume_name.VolumeName.VolumeName}
@@ -116,6 +116,10 @@ section_whole : (others : List (List ℕ)) → IfOk (section_at others) NamesWho
 unfolding section_at
 section_whole others = behind (section_type_at others) _ NamesWhole (λ kind _. behind (bytes_of kind.1) _ NamesWhole (λ body _. tt))
 
+ui_whole : (others : List (List ℕ)) → IfOk (ui_at others) NamesWhole
+unfolding ui_at
+ui_whole others = behind (ui_name_at others) _ NamesWhole (λ name _. behind (none_left name.1) _ NamesWhole (λ none _. tt))
+
 body_whole : (others : List (List ℕ)) → IfOk (body_at others) NamesWhole
 unfolding body_at
 body_whole others = behind (bytes_of others) _ NamesWhole (λ bytes _. tt)
@@ -148,10 +152,11 @@ by_word one line word others =
     (picked (λ k. ReadsBy k line others (Ok one)) (NamesWhole one) (bytes_eq word (codes "guids")) (keyword_of (codes "guids")) _ (λ e. told one (guids_at others) e (guids_whole others))
     (picked (λ k. ReadsBy k line others (Ok one)) (NamesWhole one) (bytes_eq word (codes "raw")) (keyword_of (codes "raw")) _ (λ e. told one (raw_at others) e (raw_whole others))
     (picked (λ k. ReadsBy k line others (Ok one)) (NamesWhole one) (bytes_eq word (codes "section")) (keyword_of (codes "section")) _ (λ e. told one (section_at others) e (section_whole others))
+    (picked (λ k. ReadsBy k line others (Ok one)) (NamesWhole one) (bytes_eq word (codes "ui")) (keyword_of (codes "ui")) _ (λ e. told one (ui_at others) e (ui_whole others))
     (picked (λ k. ReadsBy k line others (Ok one)) (NamesWhole one) (bytes_eq word (codes "body")) (keyword_of (codes "body")) _ (λ e. told one (body_at others) e (body_whole others))
     (picked (λ k. ReadsBy k line others (Ok one)) (NamesWhole one) (bytes_eq word (codes "block")) (keyword_of (codes "block")) _ (λ e. told one (alone said.Block others) e (alone_whole said.Block others tt))
     (picked (λ k. ReadsBy k line others (Ok one)) (NamesWhole one) (bytes_eq word (codes "end")) (keyword_of (codes "end")) (keyword_of []) (λ e. told one (alone said.End others) e (alone_whole said.End others tt))
-    (λ e. told one (Ok (said.Action line)) e tt))))))))))))
+    (λ e. told one (Ok (said.Action line)) e tt)))))))))))))
 
 by_words : (one : Statement) (line : List ℕ) (all : List (List ℕ)) → ReadsFirst line all (Ok one) → NamesWhole one
 by_words one line [] e = absurd cc
@@ -184,7 +189,7 @@ bytes_name bytes last next true e = ap (λ (f : NewFile). f.name) (sym (same_fil
 bytes_name bytes last next false e = absurd cc
 
 -- the name and the files that lines say
-pub files_whole : (header_len : ℕ) (lines : List (List ℕ)) (called : Option VolumeName) (files : List NewFile) → SayFiles header_len lines called files → IsWhole called × All HasWholeName files
+pub files_whole : {deep : ℕ} (header_len : ℕ) (lines : List (List ℕ)) (called : Option VolumeName) (files : List NewFile) → SayFiles deep header_len lines called files → IsWhole called × All HasWholeName files
 files_whole header_len _ _ _ no_file = (tt, All-nil HasWholeName)
 files_whole header_len _ _ _ (named lines files line name say says placed) = (line_whole line (said.Name name) says, (files_whole header_len lines None files say).1)
 files_whole header_len _ _ _ (padded lines called files line size say says) = let more = files_whole header_len lines called files say in (more.0, All-push HasWholeName files _ more.1 refl)

@@ -44,6 +44,7 @@ pub fn read_again()
         → SaysItself bytes text told }
 {
     said_is_read();
+    built_or_refused();
 }
 
 /// The volume that is made of such a text is found again by a reader: its form, its length, its name and the place of that, and its files, each at its

@@ -1,5 +1,5 @@
 -- A volume has one text.
-use Rattle.std.proofs.Common.{◌≡◌, inl, inr, ℕ, zero, suc, ◌%◌, Bool, true, false, ◌&&◌, List, [], ◌∷◌, ◌++◌, length, map, take, drop, Option, Some, None, refl, sym, ap, ◌∙◌, subst, arith, ◌-◌, ◌==◌, IfOk, Result, Ok, Err}
+use Rattle.std.proofs.Common.{◌≡◌, inl, inr, ℕ, zero, suc, ◌<◌, ◌%◌, Bool, true, false, ◌&&◌, List, [], ◌∷◌, ◌++◌, length, map, take, drop, Option, Some, None, refl, sym, ap, ◌∙◌, subst, arith, ◌-◌, ◌==◌, IfOk, Result, Ok, Err}
 use Rattle.std.proofs.{lemmas.Bool.and_parts, lemmas.Bool.Decides.nat_tests, lemmas.Option.same_Some}
 use Rattle.pi_base.specs.{declared.memory.OutOfMemory.OutOfMemory, declared.guid.Guid.Guid, declared.phase.Phase.Phase}
 use Rattle.fv_volume.specs.{declared.file.FfsFile.FfsFile, declared.volume.Volume.Volume, Volume.IsVolume}
@@ -13,9 +13,10 @@ use Rattle.depex_code.specs.{declared.depex.Depex.Depex, Expression.Reads}
 use Rattle.act_code.specs.{declared.script.Script.Script, Script.IsScript}
 use Rattle.volume_text.specs.Text.{Leads}
 use Rattle.volume_print.specs.declared.form.Host.{Host}
-use Rattle.volume_print.specs.Spelling.{SaysExpression, is_a_priori, is_guid_list, holds_volume, expression_line, script_lines, IsSectionText, as_volume, as_expression, as_guids, as_script, as_bytes, AreSectionTexts, whole, with_pads, IsBodyText, head_line, host_of, IsFileText, volume_line, name_line}
+use Rattle.volume_print.specs.Spelling.{SaysExpression, is_a_priori, is_guid_list, holds_volume, expression_line, script_lines, ui_line, IsSectionText, as_volume, as_expression, as_guids, as_script, as_name, as_bytes, AreSectionTexts, whole, with_pads, IsBodyText, head_line, host_of, IsFileText, volume_line, name_line}
 use Rattle.volume_print.specs.Description.{section_in, LieAsBuilt, IsNoStream, IsBodyIn, IsFileIn, form_in, name_in, IsSpelled, pads_of, IsTextBy, IsInner, IsTextOf}
 use Rattle.volume_print.specs.Finding.{depex_phase, FindsVolume, FindsText, TellsVolume}
+use Rattle.volume_text.proofs.WideNames.{one_name}
 use Rattle.volume_print.proofs.{Forms.phase_of, Forms.no_phase, Putting.told_inside}
 
 -- what holds of the parts
@@ -46,12 +47,15 @@ list_kind host section is =
 no_expression : (kind other : ℕ) (before : List NewSection) (section : NewSection) (p : Phase) (e : Depex) → section.kind ≡ other → depex_phase other ≡ None → SaysExpression kind before section p e → ⊥
 no_expression kind other before section p e is none x = no_phase section.kind p (ap depex_phase is ∙ none) (phase_of kind before section p e x)
 
-differ : (kind : ℕ) → kind ≡ 23 → kind ≡ 25 → ⊥
-differ kind a b = absurd (omega (arith, a, b))
-
 clash : (test : Bool) → test ≡ true → test ≡ false → ⊥
 clash true a b = absurd cc
 clash false a b = absurd cc
+
+differ : (kind : ℕ) → kind ≡ 23 → kind ≡ 25 → ⊥
+differ kind a b = absurd (omega (arith, a, b))
+
+no_name : (kind other : ℕ) → kind ≡ other → kind ≡ 21 → 21 < other → ⊥
+no_name kind other a b more = absurd (omega (arith, a, b, more))
 
 -- bytes have one text inside
 abbrev OneInner : (List ℕ → List ℕ → Type 0) → Type 0
@@ -63,27 +67,38 @@ section_one laws Inner one host before section a b (as_volume x) (as_volume y) =
 section_one laws Inner one host before section a b (as_volume x) (as_expression q f y j) = absurd (no_expression host.kind 23 before section q f (volume_kind host section.kind x.0) refl y)
 section_one laws Inner one host before section a b (as_volume x) (as_guids y j) = absurd (differ section.kind (volume_kind host section.kind x.0) (list_kind host section y))
 section_one laws Inner one host before section a b (as_volume x) (as_script s y j) = absurd (differ section.kind (volume_kind host section.kind x.0) y.kind_is)
-section_one laws Inner one host before section a b (as_volume x) (as_bytes v n l m j) = absurd (v a x)
+section_one laws Inner one host before section a b (as_volume x) (as_name d y j) = absurd (no_name section.kind 23 (volume_kind host section.kind x.0) y.0 (omega arith))
+section_one laws Inner one host before section a b (as_volume x) (as_bytes v n l m u j) = absurd (v a x)
 section_one laws Inner one host before section a b (as_expression p e x i) (as_volume y) = absurd (no_expression host.kind 23 before section p e (volume_kind host section.kind y.0) refl x)
 section_one laws Inner one host before section a b (as_expression p e x i) (as_expression q f y j) = i ∙ one_expression laws host.kind before section p q e f x y ∙ sym j
 section_one laws Inner one host before section a b (as_expression p e x i) (as_guids y j) = absurd (no_expression host.kind 25 before section p e (list_kind host section y) refl x)
 section_one laws Inner one host before section a b (as_expression p e x i) (as_script s y j) = absurd (no_expression host.kind 25 before section p e y.kind_is refl x)
-section_one laws Inner one host before section a b (as_expression p e x i) (as_bytes v n l m j) = absurd (n p e x)
+section_one laws Inner one host before section a b (as_expression p e x i) (as_name d y j) = absurd (no_expression host.kind 21 before section p e y.0 refl x)
+section_one laws Inner one host before section a b (as_expression p e x i) (as_bytes v n l m u j) = absurd (n p e x)
 section_one laws Inner one host before section a b (as_guids x i) (as_volume y) = absurd (differ section.kind (volume_kind host section.kind y.0) (list_kind host section x))
 section_one laws Inner one host before section a b (as_guids x i) (as_expression q f y j) = absurd (no_expression host.kind 25 before section q f (list_kind host section x) refl y)
 section_one laws Inner one host before section a b (as_guids x i) (as_guids y j) = i ∙ sym j
 section_one laws Inner one host before section a b (as_guids x i) (as_script s y j) = absurd (clash (is_guid_list host section) x y.no_list)
-section_one laws Inner one host before section a b (as_guids x i) (as_bytes v n l m j) = absurd (clash (is_guid_list host section) x l)
+section_one laws Inner one host before section a b (as_guids x i) (as_name d y j) = absurd (no_name section.kind 25 (list_kind host section x) y.0 (omega arith))
+section_one laws Inner one host before section a b (as_guids x i) (as_bytes v n l m u j) = absurd (clash (is_guid_list host section) x l)
 section_one laws Inner one host before section a b (as_script s x i) (as_volume y) = absurd (differ section.kind (volume_kind host section.kind y.0) x.kind_is)
 section_one laws Inner one host before section a b (as_script s x i) (as_expression q f y j) = absurd (no_expression host.kind 25 before section q f x.kind_is refl y)
 section_one laws Inner one host before section a b (as_script s x i) (as_guids y j) = absurd (clash (is_guid_list host section) y x.no_list)
 section_one laws Inner one host before section a b (as_script s x i) (as_script t y j) = i ∙ ap script_lines (laws.script section.body s t x.bytes y.bytes) ∙ sym j
-section_one laws Inner one host before section a b (as_script s x i) (as_bytes v n l m j) = absurd (m s x)
-section_one laws Inner one host before section a b (as_bytes v n l m i) (as_volume y) = absurd (v b y)
-section_one laws Inner one host before section a b (as_bytes v n l m i) (as_expression q f y j) = absurd (n q f y)
-section_one laws Inner one host before section a b (as_bytes v n l m i) (as_guids y j) = absurd (clash (is_guid_list host section) y l)
-section_one laws Inner one host before section a b (as_bytes v n l m i) (as_script t y j) = absurd (m t y)
-section_one laws Inner one host before section a b (as_bytes v n l m i) (as_bytes w o k r j) = i ∙ sym j
+section_one laws Inner one host before section a b (as_script s x i) (as_name d y j) = absurd (no_name section.kind 25 x.kind_is y.0 (omega arith))
+section_one laws Inner one host before section a b (as_script s x i) (as_bytes v n l m u j) = absurd (m s x)
+section_one laws Inner one host before section a b (as_name c x i) (as_volume y) = absurd (no_name section.kind 23 (volume_kind host section.kind y.0) x.0 (omega arith))
+section_one laws Inner one host before section a b (as_name c x i) (as_expression q f y j) = absurd (no_expression host.kind 21 before section q f x.0 refl y)
+section_one laws Inner one host before section a b (as_name c x i) (as_guids y j) = absurd (no_name section.kind 25 (list_kind host section y) x.0 (omega arith))
+section_one laws Inner one host before section a b (as_name c x i) (as_script t y j) = absurd (no_name section.kind 25 y.kind_is x.0 (omega arith))
+section_one laws Inner one host before section a b (as_name c x i) (as_name d y j) = i ∙ ap ui_line (one_name section.body c d x.1 y.1) ∙ sym j
+section_one laws Inner one host before section a b (as_name c x i) (as_bytes v n l m u j) = absurd (u c x)
+section_one laws Inner one host before section a b (as_bytes v n l m u i) (as_volume y) = absurd (v b y)
+section_one laws Inner one host before section a b (as_bytes v n l m u i) (as_expression q f y j) = absurd (n q f y)
+section_one laws Inner one host before section a b (as_bytes v n l m u i) (as_guids y j) = absurd (clash (is_guid_list host section) y l)
+section_one laws Inner one host before section a b (as_bytes v n l m u i) (as_script t y j) = absurd (m t y)
+section_one laws Inner one host before section a b (as_bytes v n l m u i) (as_name d y j) = absurd (u d y)
+section_one laws Inner one host before section a b (as_bytes v n l m u i) (as_bytes w o k r z j) = i ∙ sym j
 
 cons : {A : Type 0} (x y : A) (xs ys : List A) → x ≡ y → xs ≡ ys → x ∷ xs ≡ y ∷ ys
 cons x y xs ys e f = ap (λ z. z ∷ xs) e ∙ ap (λ zs. y ∷ zs) f

@@ -16,7 +16,7 @@ use Rattle.fv_volume.specs.declared.build.new_file.Body.TheVariants.{Sections, B
 use Rattle.volume_print.specs.{declared.form.Form.Form, declared.form.Host.Host}
 use Rattle.volume_print.specs.declared.form.Form.TheVariants as form
 use Rattle.volume_text.specs.Text.{Leads}
-use Rattle.volume_print.specs.Spelling.{holds_volume, as_volume, as_expression, as_guids, as_script, as_bytes, body_line, head_line, name_line, volume_line, attribute_words, number_words, whole, pad_text, with_pads, IsSectionText, AreSectionTexts, IsFileText}
+use Rattle.volume_print.specs.Spelling.{holds_volume, as_volume, as_expression, as_guids, as_script, as_name, as_bytes, body_line, head_line, name_line, volume_line, attribute_words, number_words, whole, pad_text, with_pads, IsSectionText, AreSectionTexts, IsFileText}
 use Rattle.volume_print.specs.Description.{section_in, form_in, name_in, pads_of, IsStream, IsBodyIn, IsFileIn, IsTextBy, IsInner}
 use Rattle.volume_print.specs.Finding.{form_text, FindsVolume, FindsText, TellsVolume, IsPlainForm, IsForm, AddsSection, AddsSections, AddsBody, AddsFile, AddsFiles, held}
 use Rattle.volume_print.specs.Places.{Room, room_of, rooms, between, pads_in, stands, behind_all, pads_before}
@@ -29,7 +29,8 @@ in_form Inner host before section (form.Volume text) is = as_volume is
 in_form Inner host before section (form.Expression phase e) is = as_expression phase e is.1 refl
 in_form Inner host before section form.Guids is = as_guids is.1 refl
 in_form Inner host before section (form.Script s) is = as_script s is.1 refl
-in_form Inner host before section form.Bytes is = as_bytes is.0 is.1.0 is.1.1 is.1.2 refl
+in_form Inner host before section (form.Name name) is = as_name name is.1 refl
+in_form Inner host before section form.Bytes is = as_bytes is.0 is.1.0 is.1.1 is.1.2 is.1.3 refl
 
 -- a plain form is one where the section is told as no volume
 pub formed : (Inner : List ℕ → List ℕ → Type 0) (host : Host) (before : List NewSection) (section : NewSection) (f : Form) → TellsVolume Inner host section None
@@ -38,6 +39,7 @@ formed Inner host before section (form.Volume text) none is = absurd is
 formed Inner host before section (form.Expression phase e) none is = (none, is)
 formed Inner host before section form.Guids none is = (none, is)
 formed Inner host before section (form.Script s) none is = (none, is)
+formed Inner host before section (form.Name name) none is = (none, is)
 formed Inner host before section form.Bytes none is = (none, is)
 
 -- a section's text was put

@@ -12,7 +12,7 @@ use Rattle.volume_print.specs.declared.form.Form.TheVariants as form
 use Rattle.fv_volume.specs.{Volume.IsVolume, declared.build.new_file.NewFile.NewFile, declared.build.new_file.Body.Body}
 use Rattle.volume_text.specs.Text.{Leads}
 use Rattle.fv_volume.specs.{declared.build.file_system.FileSystem.FileSystem, Files.bytes_in, Reading.AreEach}
-use Rattle.volume_print.specs.Spelling.{IsExpressionOf, SaysExpression, is_guid_list, SaysScript, SaysVolume, IsSectionText, AreSectionTexts, IsBodyText, IsFileText, expression_line, guids_line, script_lines, section_line, whole, pad_text, with_pads}
+use Rattle.volume_print.specs.Spelling.{IsExpressionOf, SaysExpression, is_guid_list, SaysScript, SaysName, SaysVolume, IsSectionText, AreSectionTexts, IsBodyText, IsFileText, expression_line, guids_line, script_lines, ui_line, section_line, whole, pad_text, with_pads}
 use Rattle.volume_print.specs.Places.{room_of, rooms, between, pads_in, behind, behind_all, pads_before}
 
 -- the expression that bytes are, or none
@@ -38,6 +38,11 @@ TellsExpression kind before section None = (phase : Phase) (expression : Depex) 
 abbrev pub TellsScript : Host → List NewSection → NewSection → Option Script → Type 0
 TellsScript host before section (Some script) = SaysScript host before section script
 TellsScript host before section None = (script : Script) → SaysScript host before section script → ⊥
+
+-- the name that a section is told as, or none
+abbrev pub TellsName : NewSection → Option (List ℕ) → Type 0
+TellsName section (Some name) = SaysName section name
+TellsName section None = (name : List ℕ) → SaysName section name → ⊥
 
 -- the text of the volume that a section is told as, or none
 abbrev pub TellsVolume : (List ℕ → List ℕ → Type 0) → Host → NewSection → Option (List ℕ) → Type 0
@@ -65,8 +70,9 @@ IsPlainForm host before section (form.Expression phase expression) = SaysExpress
 IsPlainForm host before section (form.Volume text) = ⊥
 IsPlainForm host before section form.Guids = is_guid_list host section ≡ true
 IsPlainForm host before section (form.Script script) = SaysScript host before section script
+IsPlainForm host before section (form.Name name) = SaysName section name
 IsPlainForm host before section form.Bytes =
-    TellsExpression host.kind before section None × (is_guid_list host section ≡ false) × TellsScript host before section None
+    TellsExpression host.kind before section None × (is_guid_list host section ≡ false) × TellsScript host before section None × TellsName section None
 
 -- the form in which it is told
 abbrev pub IsForm : (List ℕ → List ℕ → Type 0) → Host → List NewSection → NewSection → Form → Type 0
@@ -79,6 +85,7 @@ form_text section (form.Expression phase expression) = expression_line phase exp
 form_text section (form.Volume text) = text
 form_text section form.Guids = guids_line section.body
 form_text section (form.Script script) = script_lines script
+form_text section (form.Name name) = ui_line name
 form_text section form.Bytes = section_line section
 
 -- the text of a section behind others is added

@@ -7,7 +7,7 @@ use Rattle.pi_base.specs.{declared.guid.Guid.Guid, declared.phase.Phase.Phase}
 use Rattle.pi_base.specs.{declared.phase.Phase.TheVariants.Pei, declared.phase.Phase.TheVariants.Dxe, declared.guid.TheConstants.GUID_LEN}
 use Rattle.pi_base.specs.{Guids.same_guid, WordText.guid_text, WordText.hexadecimal}
 use Rattle.fv_volume.specs.declared.file_type.TheConstants.{RAW, FREEFORM, SECURITY_CORE, PEI_CORE, DXE_CORE, PEIM, DRIVER, COMBINED_PEIM_DRIVER, APPLICATION, VOLUME_IMAGE, COMBINED_MM_DXE, PAD}
-use Rattle.fv_volume.specs.declared.sections.section_type.TheConstants.{RAW as RAW_SECTION, VOLUME_IMAGE as VOLUME_SECTION}
+use Rattle.fv_volume.specs.declared.sections.section_type.TheConstants.{RAW as RAW_SECTION, USER_INTERFACE, VOLUME_IMAGE as VOLUME_SECTION}
 use Rattle.fv_volume.specs.declared.build.file_system.FileSystem.{FileSystem}
 use Rattle.fv_volume.specs.declared.build.file_system.FileSystem.TheVariants.{Ffs2, Ffs3}
 use Rattle.fv_volume.specs.{declared.build.volume_header.VolumeForm.VolumeForm, declared.build.volume_header.TheConstants.HEADER_LEN}
@@ -24,6 +24,7 @@ use Rattle.act_code.specs.{declared.script.Script.Script, Script.IsScript}
 use Rattle.mod_catalog.specs.{FileType.a_priori_name, APrioriNames.guids_in}
 use Rattle.asm_text.specs.{ExpressionText.expression_text, ScriptText.line, ScriptText.block_lines}
 use Rattle.volume_text.specs.Open.{depex_type, has_part, is_depex_of, is_script_of}
+use Rattle.volume_text.specs.UserInterface.{IsNamed}
 use Rattle.volume_print.specs.{declared.form.Host.Host, declared.pad.TheConstants.ERASED}
 
 unfoldable pub phase_word : Phase → List ℕ
@@ -82,6 +83,10 @@ pub record SaysScript (host : Host) (before : List NewSection) (section : NewSec
   pub first : list_any (is_script_of script.phase) before ≡ false
   pub bytes : IsScript section.body script
 
+-- a section is a name that a word can say, in a user interface section
+abbrev pub SaysName : NewSection → List ℕ → Type 0
+SaysName section name = (section.kind ≡ USER_INTERFACE) × IsNamed section.body name
+
 -- sections of this type may hold a volume, in a file for volumes
 abbrev pub holds_volume : Host → ℕ → Bool
 holds_volume host kind = (host.kind == VOLUME_IMAGE) && (kind == VOLUME_SECTION)
@@ -103,20 +108,25 @@ guid_word guid = 32 ∷ guid_text guid
 abbrev pub guids_line : List ℕ → List ℕ
 guids_line bytes = line (codes "guids" ++ flat_map guid_word (guids_in bytes))
 
+abbrev pub ui_line : List ℕ → List ℕ
+ui_line name = line (codes "ui " ++ name)
+
 abbrev pub section_line : NewSection → List ℕ
 section_line section = line (codes "section " ++ (encode_lower (section.kind ∷ []) ++ (32 ∷ encode_lower section.body)))
 
--- the text of a section behind others of a file: a volume, an expression, a list of GUIDs or a script where it is one, and its bytes where it is none of them
+-- the text of a section behind others of a file: a volume, an expression, a list of GUIDs, a script or a name where it is one, and its bytes where it is none
+-- of them
 pub data IsSectionText (Inner : List ℕ → List ℕ → Type 0) (host : Host) (before : List NewSection) (section : NewSection) (text : List ℕ) : Type 0 where
   as_volume : SaysVolume Inner host section text → IsSectionText Inner host before section text
   as_expression : (phase : Phase) (expression : Depex) → SaysExpression host.kind before section phase expression → text ≡ expression_line phase expression
       → IsSectionText Inner host before section text
   as_guids : is_guid_list host section ≡ true → text ≡ guids_line section.body → IsSectionText Inner host before section text
   as_script : (script : Script) → SaysScript host before section script → text ≡ script_lines script → IsSectionText Inner host before section text
+  as_name : (name : List ℕ) → SaysName section name → text ≡ ui_line name → IsSectionText Inner host before section text
   as_bytes : ((inner : List ℕ) → SaysVolume Inner host section inner → ⊥)
       → ((phase : Phase) (expression : Depex) → SaysExpression host.kind before section phase expression → ⊥)
       → is_guid_list host section ≡ false
-      → ((script : Script) → SaysScript host before section script → ⊥) → text ≡ section_line section → IsSectionText Inner host before section text
+      → ((script : Script) → SaysScript host before section script → ⊥) → ((name : List ℕ) → SaysName section name → ⊥) → text ≡ section_line section → IsSectionText Inner host before section text
 
 -- the texts of sections behind others
 abbrev pub AreSectionTexts : (List ℕ → List ℕ → Type 0) → Host → List NewSection → List NewSection → List (List ℕ) → Type 0

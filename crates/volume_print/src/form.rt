@@ -4,17 +4,17 @@ ghost use Rattle.std.specs.List.{list_any};
 ghost use Rattle.fv_volume.specs.Stream.{AreInside};
 ghost use Rattle.volume_text.specs.Open.{is_depex_of, is_script_of};
 ghost use Rattle.volume_print.specs.{Description.section_in, Spelling.is_guid_list};
-ghost use Rattle.volume_print.specs.Finding.{depex_phase, FindsExpression, FindsScript, IsPlainForm, TellsExpression, TellsScript};
+ghost use Rattle.volume_print.specs.Finding.{depex_phase, FindsExpression, FindsScript, IsPlainForm, TellsExpression, TellsName, TellsScript};
 
 use act_code::{ActCause, Script, one_outcome, read_script};
 use depex_code::{Depex, DepexFault, one_reading, read_depex, write_depex};
 use fv_volume::file_type::FREEFORM;
 use fv_volume::sections::Section;
-use fv_volume::sections::section_type::{DXE_DEPEX, PEI_DEPEX, RAW};
+use fv_volume::sections::section_type::{DXE_DEPEX, PEI_DEPEX, RAW, USER_INTERFACE};
 use mod_catalog::{DXE_APRIORI, PEI_APRIORI};
 use pi_base::{GUID_LEN, Guid, OutOfMemory, Phase, Seq};
 use std::alloc::Global;
-use volume_text::{depex_type, has_part, is_script};
+use volume_text::{depex_type, has_part, is_script, ui_name};
 
 /// The file that sections stand in.
 #[derive(Clone, Copy)]
@@ -36,6 +36,8 @@ pub(crate) enum Form {
     Guids,
     /// As a script.
     Script(Script),
+    /// As a name.
+    Name(Seq<u8>),
     /// As its bytes.
     Bytes,
 }
@@ -195,6 +197,17 @@ fn told_script(
     Ok(Some(script))
 }
 
+// The name that a section is told as, if a word can say it.
+fn told_name(alloc: Global, kind: u8, body: &[u8]) -> Result<Option<Seq<u8>>, OutOfMemory>
+    ensures { IfOk result (TellsName (record { kind = kind; body = body.now })) }
+{
+    if kind == USER_INTERFACE {
+        ui_name(alloc, body)
+    } else {
+        Ok(None)
+    }
+}
+
 /// In which form a section behind others of a file is told, if it is told as no volume.
 pub(crate) fn plain_form(
     alloc: Global,
@@ -214,8 +227,11 @@ pub(crate) fn plain_form(
     if is_guid_list(host, section.kind, body) {
         return Ok(Form::Guids);
     }
-    match told_script(alloc, host, stream, before, section)? {
-        Some(script) => Ok(Form::Script(script)),
+    if let Some(script) = told_script(alloc, host, stream, before, section)? {
+        return Ok(Form::Script(script));
+    }
+    match told_name(alloc, section.kind, body)? {
+        Some(name) => Ok(Form::Name(name)),
         None => Ok(Form::Bytes),
     }
 }

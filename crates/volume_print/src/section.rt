@@ -1,7 +1,7 @@
 // The lines of sections.
 ghost use Rattle.std.specs.Prelude.{◌≡◌, ◌++◌, OnOk, flat_map};
 ghost use Rattle.mod_catalog.specs.APrioriNames.{guids_in};
-ghost use Rattle.volume_print.specs.Spelling.{expression_line, script_lines, guid_word, guids_line, section_line};
+ghost use Rattle.volume_print.specs.Spelling.{expression_line, script_lines, guid_word, guids_line, ui_line, section_line};
 ghost use Rattle.volume_print.specs.Finding.{form_text};
 
 use crate::form::Form;
@@ -64,6 +64,15 @@ fn put_guids(out: &mut Seq<u8>, bytes: &[u8]) -> Result<(), OutOfMemory>
     out.append(b"\n")
 }
 
+// Adds the line of a name.
+fn put_name(out: &mut Seq<u8>, name: &[u8]) -> Result<(), OutOfMemory>
+    ensures { OnOk result (out.new ≡ out.old ++ ui_line name.now) }
+{
+    out.append(b"ui ")?;
+    out.append(name)?;
+    out.append(b"\n")
+}
+
 // Adds the line of a section by its bytes.
 fn put_plain(out: &mut Seq<u8>, kind: u8, bytes: &[u8]) -> Result<(), OutOfMemory>
     ensures { OnOk result (out.new ≡ out.old ++ section_line (record { kind = kind; body = bytes.now })) }
@@ -90,6 +99,7 @@ pub(crate) fn put_form(
         Form::Volume(text) => out.append(text.as_slice()),
         Form::Guids => put_guids(out, bytes),
         Form::Script(script) => put_script(alloc, out, script),
+        Form::Name(name) => put_name(out, name.as_slice()),
         Form::Bytes => put_plain(out, kind, bytes),
     }
 }

@@ -30,7 +30,7 @@ opened text volume s few =
     let o : One p.back s.end = one p.back s.end p.back_is in
     let begun = Filling [] (opened_with volume.form volume.len None []) in
     let begins : Steps Begin f.number s.line (Ok begun) = (Ok (said.Volume volume.form volume.len), s.begins, refl) in
-    let inside : Goes begun p.front (Filling [] volume) = files_go volume.form s.inner volume.name volume.files s.files [] volume.len p.front few p.front_is in
+    let inside : Goes begun p.front (Filling [] volume) = files_go volume.form s.inner volume.name volume.files s.files [] volume.len p.front (omega arith) few p.front_is in
     record {
       front = (f.number, s.line) ∷ p.front;
       number = o.number;
@@ -60,7 +60,7 @@ early text volume s over =
     let p : Parts f.back s.inner (s.end ∷ []) = parts f.back s.inner (s.end ∷ []) f.back_is in
     let begun = Filling [] (opened_with volume.form volume.len None []) in
     let begins : Steps Begin f.number s.line (Ok begun) = (Ok (said.Volume volume.form volume.len), s.begins, refl) in
-    let r : Refuses begun p.front = files_over volume.form s.inner volume.name volume.files s.files [] volume.len p.front over p.front_is in (
+    let r : Refuses begun p.front = files_over volume.form s.inner volume.name volume.files s.files [] volume.len p.front (omega arith) over p.front_is in (
       r.line.0,
       r.need,
       inl (record {

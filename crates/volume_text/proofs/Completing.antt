@@ -1,5 +1,5 @@
 -- Where the lines of a text say a volume, they lead to it.
-use Rattle.std.proofs.Common.{◌≡◌, ℕ, ◌≤◌, List, [], ◌∷◌, ◌++◌, length, map, arith, Option, Some, None, Ok, refl, sym, ap, subst, ◌∙◌}
+use Rattle.std.proofs.Common.{◌≡◌, ℕ, suc, ◌+◌, ◌<◌, ◌≤◌, nat_lt, true, List, [], ◌∷◌, ◌++◌, length, length-append, map, arith, Option, Some, None, Ok, refl, sym, ap, subst, ◌∙◌}
 use Rattle.fv_volume.specs.declared.build.volume_name.VolumeName.{VolumeName}
 use Rattle.pi_base.specs.declared.phase.Phase.{Phase}
 use Rattle.fv_volume.specs.declared.sections.section_type.TheConstants.{RAW, VOLUME_IMAGE}
@@ -12,7 +12,8 @@ use Rattle.volume_text.specs.declared.step.State.TheVariants.{Begin, Filling, Wr
 use Rattle.volume_text.specs.declared.fault.Cause.TheVariants as cause
 use Rattle.volume_text.specs.Reading.{at, only_if, ◌>>=◌}
 use Rattle.volume_text.specs.Open.{holding, new_file, pad_file, depex_type, bytes_held}
-use Rattle.volume_text.specs.Script.{script_of}
+use Rattle.volume_text.specs.{Script.script_of, declared.step.TheConstants.MOST_INSIDE}
+use Rattle.std.proofs.lemmas.Bool.Decides.{nat_tests}
 use Rattle.volume_text.specs.Step.{Steps, Takes, section_of, nested_in}
 use Rattle.volume_text.specs.Volume.{SaysLine, SayBlocks, no_block, block, action, SayFiles, no_file, named, padded, file, bodied, section, depex, script, volume}
 use Rattle.volume_text.specs.Text.{numbered, Goes, Says, Leads}
@@ -155,10 +156,18 @@ section_taken : (below : List OpenVolume) (form : VolumeForm) (len : ℕ) (calle
     → Rattle.volume_text.specs.Step.filling below (opened_with form len called (files ++ last ∷ [])) one ≡ Ok (Filling below (opened_with form len called (files ++ next ∷ [])))
 section_taken below form len called files last next one holds few = rw (last_push files last, holds, has_room (bytes_held (files ++ next ∷ [])) len few) refl
 
-pub some_file : (files : List NewFile) (last : NewFile) (below : List OpenVolume) (top : OpenVolume) (form : VolumeForm) (len : ℕ)
+-- a volume more may be open
+may_nest : (n : ℕ) → n < MOST_INSIDE → nat_lt n MOST_INSIDE ≡ true
+may_nest n few = grind (arith, nat_tests)
+
+pub some_file : (files : List NewFile) (last : NewFile) (below : List OpenVolume) (top : OpenVolume) (form : VolumeForm) (len : ℕ) → length below < MOST_INSIDE
     → nested_in (files ++ last ∷ []) below top form len ≡ Ok (Filling (below ++ top ∷ []) (opened_with form len None []))
-some_file [] last below top form len = refl
-some_file (f ∷ files) last below top form len = refl
+some_file [] last below top form len few = rw (may_nest (length below) few) refl
+some_file (f ∷ files) last below top form len few = rw (may_nest (length below) few) refl
+
+-- the volume in a file has a level less
+pub one_deeper : (deep : ℕ) (below : List OpenVolume) (top : OpenVolume) → length below + suc deep ≤ MOST_INSIDE → length (below ++ top ∷ []) + deep ≤ MOST_INSIDE
+one_deeper deep below top room = omega (arith, room, length-append below (top ∷ []))
 
 -- in front of what is inside of a volume or a script, and behind it
 between : (from opened filled to : State) (all : Lines) (lines : List (List ℕ)) (line : List ℕ) (inner : List (List ℕ)) (end : List ℕ) → bare all ≡ lines ++ line ∷ (inner ++ end ∷ [])
@@ -195,53 +204,53 @@ scripted from to all lines line inner end is mid goes below top phase blocks beg
 fewer : (files : List NewFile) (old next : NewFile) (one : NewSection) (len : ℕ) → holding one old ≡ Ok next → bytes_held (files ++ next ∷ []) ≤ len → bytes_held (files ++ old ∷ []) ≤ len
 fewer files old next one len holds few = omega (arith, few, last_held files old next (length one.body) (holding_more one old next holds))
 
-pub files_go : (form : VolumeForm) (lines : List (List ℕ)) (called : Option VolumeName) (files : List NewFile) → SayFiles form.header_len lines called files → (below : List OpenVolume) (len : ℕ) (all : Lines)
-    → bytes_held files ≤ len → bare all ≡ lines → Goes (Filling below (opened_with form len None [])) all (Filling below (opened_with form len called files))
-files_go form lines called files no_file below len all few is =
+pub files_go : {deep : ℕ} (form : VolumeForm) (lines : List (List ℕ)) (called : Option VolumeName) (files : List NewFile) → SayFiles deep form.header_len lines called files → (below : List OpenVolume) (len : ℕ) (all : Lines)
+    → length below + deep ≤ MOST_INSIDE → bytes_held files ≤ len → bare all ≡ lines → Goes (Filling below (opened_with form len None [])) all (Filling below (opened_with form len called files))
+files_go form lines called files no_file below len all room few is =
     let start = Filling below (opened_with form len None []) in
     subst (λ (ls : Lines). Goes start ls start) (sym (none_left all is)) refl
-files_go form _ _ _ (named lines files line name say says placed) below len all few is =
+files_go form _ _ _ (named lines files line name say says placed) below len all room few is =
     last (Filling below (opened_with form len None [])) (Filling below (opened_with form len None files)) (Filling below (opened_with form len (Some name) files)) all lines line is
-    (λ front front_is. files_go form lines None files say below len front few front_is)
+    (λ front front_is. files_go form lines None files say below len front room few front_is)
     (λ number. (
       Ok (said.Name name),
       says,
       ap (λ test. at number (only_if test cause.Range (opened_with form len (Some name) files) >>= (λ top. Ok (Filling below top)))) (sym placed),
     ))
-files_go form _ _ _ (padded lines called files line size say says) below len all few is =
+files_go form _ _ _ (padded lines called files line size say says) below len all room few is =
     last (Filling below (opened_with form len None [])) (Filling below (opened_with form len called files)) (Filling below (opened_with form len called (files ++ pad_file size ∷ []))) all lines line is
-    (λ front front_is. files_go form lines called files say below len front (omega (arith, few, pad_held files size)) front_is)
+    (λ front front_is. files_go form lines called files say below len front room (omega (arith, few, pad_held files size)) front_is)
     (λ number. (Ok (said.Pad size), says, rw (has_room (bytes_held (files ++ pad_file size ∷ [])) len few) refl))
-files_go form _ _ _ (file lines called files line kind name attributes say says) below len all few is =
+files_go form _ _ _ (file lines called files line kind name attributes say says) below len all room few is =
     last (Filling below (opened_with form len None [])) (Filling below (opened_with form len called files)) (Filling below (opened_with form len called (files ++ new_file kind name attributes ∷ []))) all lines line is
-    (λ front front_is. files_go form lines called files say below len front (omega (arith, few, held_push files (new_file kind name attributes))) front_is)
+    (λ front front_is. files_go form lines called files say below len front room (omega (arith, few, held_push files (new_file kind name attributes))) front_is)
     (λ number. (Ok (said.File kind name attributes), says, refl))
-files_go form _ _ _ (bodied lines called files old next line body say says holds) below len all few is =
+files_go form _ _ _ (bodied lines called files old next line body say says holds) below len all room few is =
     last (Filling below (opened_with form len None [])) (Filling below (opened_with form len called (files ++ old ∷ []))) (Filling below (opened_with form len called (files ++ next ∷ []))) all lines line is
-    (λ front front_is. files_go form lines called (files ++ old ∷ []) say below len front (omega (arith, few, last_held files old next (length body) (bytes_more body old next holds))) front_is)
+    (λ front front_is. files_go form lines called (files ++ old ∷ []) say below len front room (omega (arith, few, last_held files old next (length body) (bytes_more body old next holds))) front_is)
     (λ number. (Ok (said.Body body), says, rw (last_push files old, holds, has_room (bytes_held (files ++ next ∷ [])) len few) refl))
-files_go form _ _ _ (section lines called files old next line kind body say says holds) below len all few is =
+files_go form _ _ _ (section lines called files old next line kind body say says holds) below len all room few is =
     last (Filling below (opened_with form len None [])) (Filling below (opened_with form len called (files ++ old ∷ []))) (Filling below (opened_with form len called (files ++ next ∷ []))) all lines line is
-    (λ front front_is. files_go form lines called (files ++ old ∷ []) say below len front (fewer files old next (section_of kind body) len holds few) front_is)
+    (λ front front_is. files_go form lines called (files ++ old ∷ []) say below len front room (fewer files old next (section_of kind body) len holds few) front_is)
     (λ number. (Ok (said.Section kind body), says, sym (ap (at number) (section_taken below form len called files old next (section_of kind body) holds few))))
-files_go form _ _ _ (depex lines called files old next line phase body say says part unique holds) below len all few is =
+files_go form _ _ _ (depex lines called files old next line phase body say says part unique holds) below len all room few is =
     last (Filling below (opened_with form len None [])) (Filling below (opened_with form len called (files ++ old ∷ []))) (Filling below (opened_with form len called (files ++ next ∷ []))) all lines line is
-    (λ front front_is. files_go form lines called (files ++ old ∷ []) say below len front (fewer files old next (section_of (depex_type phase) body) len holds few) front_is)
+    (λ front front_is. files_go form lines called (files ++ old ∷ []) say below len front room (fewer files old next (section_of (depex_type phase) body) len holds few) front_is)
     (λ number. (Ok (said.Depex phase body), says, rw (last_push files old, part, unique, holds, has_room (bytes_held (files ++ next ∷ [])) len few) refl))
-files_go form _ _ _ (script lines called files old next line phase inner blocks end body say says part unique wrote ends spelled holds) below len all few is =
+files_go form _ _ _ (script lines called files old next line phase inner blocks end body say says part unique wrote ends spelled holds) below len all room few is =
     let top = opened_with form len called (files ++ old ∷ []) in
     scripted (Filling below (opened_with form len None [])) (Filling below (opened_with form len called (files ++ next ∷ []))) all lines line inner end is (Filling below top)
-    (λ front front_is. files_go form lines called (files ++ old ∷ []) say below len front (fewer files old next (section_of RAW body) len holds few) front_is) below top phase blocks
+    (λ front front_is. files_go form lines called (files ++ old ∷ []) say below len front room (fewer files old next (section_of RAW body) len holds few) front_is) below top phase blocks
     (λ number. (Ok (said.Script phase), says, rw (last_push files old, part, unique) refl))
     (λ inside inside_is. blocks_go phase inner blocks wrote below top [] inside inside_is)
     (λ numbers number. (Ok said.End, ends, (Ok body, (none_wrong (script_of phase blocks) spelled.grammar, spelled), sym (ap (at number) (section_taken below form len called files old next (section_of RAW body) holds few)))))
-files_go form _ _ _ (volume lines called files old next line inner inside end body say says told ends built holds) below len all few is =
+files_go form _ _ _ (volume lines called files old next line inner inside end body say says told ends built holds) below len all room few is =
     let top = opened_with form len called (files ++ old ∷ []) in
     let under = below ++ top ∷ [] in
     between (Filling below (opened_with form len None [])) (Filling under (opened_with inside.form inside.len None [])) (Filling under inside) (Filling below (opened_with form len called (files ++ next ∷ []))) all lines line inner end is
-    (Filling below top) (λ front front_is. files_go form lines called (files ++ old ∷ []) say below len front (fewer files old next (section_of VOLUME_IMAGE body) len holds few) front_is)
-    (λ number. (Ok (said.Volume inside.form inside.len), says, sym (ap (at number) (some_file files old below top inside.form inside.len))))
-    (λ lines_inside inside_is. files_go inside.form inner inside.name inside.files told under inside.len lines_inside (built_fits inside body built) inside_is)
+    (Filling below top) (λ front front_is. files_go form lines called (files ++ old ∷ []) say below len front room (fewer files old next (section_of VOLUME_IMAGE body) len holds few) front_is)
+    (λ number. (Ok (said.Volume inside.form inside.len), says, sym (ap (at number) (some_file files old below top inside.form inside.len (omega (arith, room))))))
+    (λ lines_inside inside_is. files_go inside.form inner inside.name inside.files told under inside.len lines_inside (one_deeper _ below top room) (built_fits inside body built) inside_is)
     (λ number. (Ok said.End, ends, rw (built, last_push below top) (sym (ap (at number) (section_taken below form len called files old next (section_of VOLUME_IMAGE body) holds few)))))
 
 -- what the lines of a text say, they lead to
@@ -253,6 +262,6 @@ complete text bytes says =
     let begins : Steps Begin f.number says.line (Ok opened) = (Ok (said.Volume one.form one.len), says.begins, refl) in
     let ends : (number : ℕ) → Steps (Filling [] one) number says.end (Ok (Done bytes)) = λ number. (Ok said.End, says.ends, rw says.built refl) in
     let rest : Goes opened f.back (Done bytes) =
-    last opened (Filling [] one) (Done bytes) f.back says.inner says.end f.back_is (λ inside inside_is. files_go one.form says.inner one.name one.files says.files [] one.len inside (built_fits one bytes says.built) inside_is) ends in
+    last opened (Filling [] one) (Done bytes) f.back says.inner says.end f.back_is (λ inside inside_is. files_go one.form says.inner one.name one.files says.files [] one.len inside (omega arith) (built_fits one bytes says.built) inside_is) ends in
     let there : Goes Begin ((f.number, says.line) ∷ f.back) (Done bytes) = (opened, begins, rest) in
     subst (λ (ls : Lines). Goes Begin ls (Done bytes)) (sym f.here) there

@@ -1,5 +1,5 @@
 -- What calls answer, put together.
-use Rattle.std.proofs.Common.{◌≡◌, ℕ, List, [], ◌∷◌, ◌++◌, Option, Some, None, Result, Ok, Err, refl, sym, ap, subst, IfOk, All}
+use Rattle.std.proofs.Common.{◌≡◌, ℕ, Bool, true, false, nat_lt, length, List, [], ◌∷◌, ◌++◌, Option, Some, None, Result, Ok, Err, refl, sym, ap, subst, IfOk, All}
 use Rattle.std.specs.List.{AllByRecursion}
 use Rattle.std.proofs.lemmas.List.Elements.{All-nil, All-cons, All-append, All-from_recursion, recursion_from_All}
 use Rattle.fv_volume.specs.declared.sections.section_type.TheConstants.{RAW, VOLUME_IMAGE}
@@ -13,10 +13,12 @@ use Rattle.volume_text.specs.declared.fault.Stop.TheVariants as stop
 use Rattle.volume_text.specs.declared.fault.TextFault.TheVariants as text_fault
 use Rattle.volume_text.specs.{declared.volume.OpenVolume.OpenVolume, declared.step.State.State, declared.fault.Cause.Cause, Line.Reads}
 use Rattle.volume_text.specs.declared.step.State.TheVariants.{Begin, Filling, Writing, Done}
-use Rattle.volume_text.specs.Reading.{◌>>=◌, Stops, Gives, StopsAs, StopsText, Answers, at}
+use Rattle.volume_text.specs.declared.step.TheConstants.{MOST_INSIDE}
+use Rattle.volume_text.specs.declared.fault.Cause.TheVariants as cause
+use Rattle.volume_text.specs.Reading.{◌>>=◌, only_if, Stops, Gives, StopsAs, StopsText, Answers, at}
 use Rattle.volume_text.specs.Open.{with_section, depex_type, depex_checked, built_of}
 use Rattle.volume_text.specs.Script.{last_block, script_of, with_block, IsScriptBody}
-use Rattle.volume_text.specs.Step.{IsSaidState, section_of, filling_with, filling, nested_in, nested, with_depex, last_volume, closed_in, closed, at_line, EndsScript, Takes, Steps}
+use Rattle.volume_text.specs.Step.{IsSaidState, section_of, new_volume, filling_with, filling, nested_in, nested, with_depex, last_volume, closed_in, closed, at_line, EndsScript, Takes, Steps}
 use Rattle.volume_text.proofs.Lasts.{last_is}
 
 -- the last of a list, and the others
@@ -75,9 +77,13 @@ part_said : (below : List OpenVolume) (top : OpenVolume) (section : NewSection) 
 part_said below top section (Ok x) = more_said below (with_section top section)
 part_said below top section (Err why) = tt
 
+allowed_said : (test : Bool) (c : Cause) (below : List OpenVolume) (top : OpenVolume) → IfOk (only_if test c (Filling below top)) IsSaidState
+allowed_said true c below top = tt
+allowed_said false c below top = tt
+
 nested_in_said : (files : List NewFile) (below : List OpenVolume) (top : OpenVolume) (form : VolumeForm) (len : ℕ) → IfOk (nested_in files below top form len) IsSaidState
 nested_in_said [] below top form len = tt
-nested_in_said (file ∷ files) below top form len = tt
+nested_in_said (file ∷ files) below top form len = allowed_said (nat_lt (length below) MOST_INSIDE) cause.Nesting (below ++ top ∷ []) (new_volume form len)
 
 closed_in_said : (bytes : List ℕ) (last : Option (List OpenVolume × OpenVolume)) → IfOk (closed_in bytes last) IsSaidState
 closed_in_said bytes None = tt

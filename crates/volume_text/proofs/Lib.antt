@@ -1,3 +1,4 @@
+pub mod WideNames
 mod LastFile
 mod Lasts
 mod GuidLists

@@ -78,6 +78,7 @@ one_by (Some keyword.Script) line others a b x y = x ∙ sym y
 one_by (Some keyword.Guids) line others a b x y = x ∙ sym y
 one_by (Some keyword.Raw) line others a b x y = x ∙ sym y
 one_by (Some keyword.Section) line others a b x y = x ∙ sym y
+one_by (Some keyword.Ui) line others a b x y = x ∙ sym y
 one_by (Some keyword.Body) line others a b x y = x ∙ sym y
 one_by (Some keyword.Block) line others a b x y = x ∙ sym y
 one_by (Some keyword.End) line others a b x y = x ∙ sym y

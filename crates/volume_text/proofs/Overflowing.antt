@@ -1,5 +1,5 @@
 -- A volume whose files hold more bytes than it has is refused at the line with which they do.
-use Rattle.std.proofs.Common.{◌≡◌, ℕ, ◌-◌, ◌^◌, ◌<◌, ◌≤◌, Bool, true, false, List, [], ◌∷◌, ◌++◌, min, nat_le, Option, None, Ok, Err, refl, sym, ap, ◌∙◌, append_assoc, arith}
+use Rattle.std.proofs.Common.{◌≡◌, ℕ, ◌+◌, ◌-◌, ◌^◌, ◌<◌, ◌≤◌, Bool, true, false, List, [], ◌∷◌, ◌++◌, length, min, nat_le, Option, None, Ok, Err, refl, sym, ap, ◌∙◌, append_assoc, arith}
 use Rattle.std.proofs.lemmas.Bool.Decides.{nat_tests}
 use Rattle.fv_volume.specs.{declared.build.volume_name.VolumeName.VolumeName, declared.build.volume_header.VolumeForm.VolumeForm}
 use Rattle.fv_volume.specs.declared.sections.section_type.TheConstants.{RAW, VOLUME_IMAGE}
@@ -9,11 +9,11 @@ use Rattle.volume_text.specs.declared.fault.Cause.TheVariants as cause
 use Rattle.volume_text.specs.declared.statement.Statement.TheVariants as said
 use Rattle.volume_text.specs.{declared.step.State.TheVariants.Filling, declared.step.State.TheVariants.Writing, Reading.at}
 use Rattle.volume_text.specs.Open.{holding, new_file, pad_file, bytes_held}
-use Rattle.volume_text.specs.{Script.script_of, Text.Goes}
+use Rattle.volume_text.specs.{Script.script_of, Text.Goes, declared.step.TheConstants.MOST_INSIDE}
 use Rattle.volume_text.specs.Step.{Steps, section_of, filling}
 use Rattle.volume_text.specs.Volume.{SayFiles, no_file, named, padded, file, bodied, section, depex, script, volume}
 use Rattle.volume_text.proofs.{Lasts.last_push, Wholeness.none_wrong, Fitting.built_fits, Counting.has_none, Counting.held_push}
-use Rattle.volume_text.proofs.Completing.{Lines, bare, parts, one, first, both, blocks_go, opened_with, some_file, files_go}
+use Rattle.volume_text.proofs.Completing.{Lines, bare, parts, one, first, both, blocks_go, opened_with, some_file, one_deeper, files_go}
 
 abbrev pub no_room : ℕ → ℕ → Fault
 no_room line need = record { line = line; cause = cause.NoRoom need }
@@ -99,59 +99,59 @@ section_not : (below : List OpenVolume) (form : VolumeForm) (len : ℕ) (called 
     → filling below (opened_with form len called (files ++ last ∷ [])) one ≡ Err (cause.NoRoom (min (bytes_held (files ++ next ∷ [])) (2 ^ 64 - 1)))
 section_not below form len called files last next one holds over = rw (last_push files last, holds, has_none (bytes_held (files ++ next ∷ [])) len over) refl
 
-pub files_over : (form : VolumeForm) (lines : List (List ℕ)) (called : Option VolumeName) (files : List NewFile) → SayFiles form.header_len lines called files → (below : List OpenVolume) (len : ℕ) (all : Lines)
-    → len < bytes_held files → bare all ≡ lines → Refuses (Filling below (opened_with form len None [])) all
-files_over form lines called files no_file below len all over is = absurd (omega (arith, over))
-files_over form _ _ _ (named lines files line name say says placed) below len all over is =
-    before_it (Filling below (opened_with form len None [])) all lines (line ∷ []) is (λ front front_is. files_over form lines None files say below len front over front_is)
-files_over form _ _ _ (padded lines called files line size say says) below len all over is =
+pub files_over : {deep : ℕ} (form : VolumeForm) (lines : List (List ℕ)) (called : Option VolumeName) (files : List NewFile) → SayFiles deep form.header_len lines called files → (below : List OpenVolume) (len : ℕ) (all : Lines)
+    → length below + deep ≤ MOST_INSIDE → len < bytes_held files → bare all ≡ lines → Refuses (Filling below (opened_with form len None [])) all
+files_over form lines called files no_file below len all room over is = absurd (omega (arith, over))
+files_over form _ _ _ (named lines files line name say says placed) below len all room over is =
+    before_it (Filling below (opened_with form len None [])) all lines (line ∷ []) is (λ front front_is. files_over form lines None files say below len front room over front_is)
+files_over form _ _ _ (padded lines called files line size say says) below len all room over is =
     let from = Filling below (opened_with form len None []) in
     let top = opened_with form len called (files ++ pad_file size ∷ []) in
     decided from all (bytes_held files) len (nat_le (bytes_held files) len) refl
-    (λ more. before_it from all lines (line ∷ []) is (λ front front_is. files_over form lines called files say below len front more front_is))
+    (λ more. before_it from all lines (line ∷ []) is (λ front front_is. files_over form lines called files say below len front room more front_is))
     (λ few. at_last from (Filling below (opened_with form len called files)) all lines line (min (bytes_held top.files) (2 ^ 64 - 1)) is
-    (λ front front_is. files_go form lines called files say below len front few front_is)
+    (λ front front_is. files_go form lines called files say below len front room few front_is)
     (λ number. (Ok (said.Pad size), says, rw (has_none (bytes_held top.files) len over) refl)))
-files_over form _ _ _ (file lines called files line kind name attributes say says) below len all over is =
+files_over form _ _ _ (file lines called files line kind name attributes say says) below len all room over is =
     before_it (Filling below (opened_with form len None [])) all lines (line ∷ []) is
-    (λ front front_is. files_over form lines called files say below len front (omega (arith, over, held_push files (new_file kind name attributes))) front_is)
-files_over form _ _ _ (bodied lines called files old next line body say says holds) below len all over is =
+    (λ front front_is. files_over form lines called files say below len front room (omega (arith, over, held_push files (new_file kind name attributes))) front_is)
+files_over form _ _ _ (bodied lines called files old next line body say says holds) below len all room over is =
     let from = Filling below (opened_with form len None []) in
     let top = opened_with form len called (files ++ next ∷ []) in
     let held = bytes_held (files ++ old ∷ []) in
     decided from all held len (nat_le held len) refl
-    (λ more. before_it from all lines (line ∷ []) is (λ front front_is. files_over form lines called (files ++ old ∷ []) say below len front more front_is))
+    (λ more. before_it from all lines (line ∷ []) is (λ front front_is. files_over form lines called (files ++ old ∷ []) say below len front room more front_is))
     (λ few. at_last from (Filling below (opened_with form len called (files ++ old ∷ []))) all lines line (min (bytes_held top.files) (2 ^ 64 - 1)) is
-    (λ front front_is. files_go form lines called (files ++ old ∷ []) say below len front few front_is)
+    (λ front front_is. files_go form lines called (files ++ old ∷ []) say below len front room few front_is)
     (λ number. (Ok (said.Body body), says, rw (last_push files old, holds, has_none (bytes_held top.files) len over) refl)))
-files_over form _ _ _ (section lines called files old next line kind body say says holds) below len all over is =
+files_over form _ _ _ (section lines called files old next line kind body say says holds) below len all room over is =
     let from = Filling below (opened_with form len None []) in
     let need = min (bytes_held (files ++ next ∷ [])) (2 ^ 64 - 1) in
     let held = bytes_held (files ++ old ∷ []) in
     decided from all held len (nat_le held len) refl
-    (λ more. before_it from all lines (line ∷ []) is (λ front front_is. files_over form lines called (files ++ old ∷ []) say below len front more front_is))
+    (λ more. before_it from all lines (line ∷ []) is (λ front front_is. files_over form lines called (files ++ old ∷ []) say below len front room more front_is))
     (λ few. at_last from (Filling below (opened_with form len called (files ++ old ∷ []))) all lines line need is
-    (λ front front_is. files_go form lines called (files ++ old ∷ []) say below len front few front_is)
+    (λ front front_is. files_go form lines called (files ++ old ∷ []) say below len front room few front_is)
     (λ number. (Ok (said.Section kind body), says, sym (ap (at number) (section_not below form len called files old next (section_of kind body) holds over)))))
-files_over form _ _ _ (depex lines called files old next line phase body say says part unique holds) below len all over is =
+files_over form _ _ _ (depex lines called files old next line phase body say says part unique holds) below len all room over is =
     let from = Filling below (opened_with form len None []) in
     let top = opened_with form len called (files ++ next ∷ []) in
     let held = bytes_held (files ++ old ∷ []) in
     decided from all held len (nat_le held len) refl
-    (λ more. before_it from all lines (line ∷ []) is (λ front front_is. files_over form lines called (files ++ old ∷ []) say below len front more front_is))
+    (λ more. before_it from all lines (line ∷ []) is (λ front front_is. files_over form lines called (files ++ old ∷ []) say below len front room more front_is))
     (λ few. at_last from (Filling below (opened_with form len called (files ++ old ∷ []))) all lines line (min (bytes_held top.files) (2 ^ 64 - 1)) is
-    (λ front front_is. files_go form lines called (files ++ old ∷ []) say below len front few front_is)
+    (λ front front_is. files_go form lines called (files ++ old ∷ []) say below len front room few front_is)
     (λ number. (Ok (said.Depex phase body), says, rw (last_push files old, part, unique, holds, has_none (bytes_held top.files) len over) refl)))
-files_over form _ _ _ (script lines called files old next line phase inner blocks end body say says part unique wrote ends spelled holds) below len all over is =
+files_over form _ _ _ (script lines called files old next line phase inner blocks end body say says part unique wrote ends spelled holds) below len all room over is =
     let from = Filling below (opened_with form len None []) in
     let top = opened_with form len called (files ++ old ∷ []) in
     let start = Writing below top (script_of phase []) [] in
     let need = min (bytes_held (files ++ next ∷ [])) (2 ^ 64 - 1) in
     let held = bytes_held (files ++ old ∷ []) in
     decided from all held len (nat_le held len) refl
-    (λ more. before_it from all lines (line ∷ (inner ++ end ∷ [])) is (λ front front_is. files_over form lines called (files ++ old ∷ []) say below len front more front_is))
+    (λ more. before_it from all lines (line ∷ (inner ++ end ∷ [])) is (λ front front_is. files_over form lines called (files ++ old ∷ []) say below len front room more front_is))
     (λ few. at_end from (Filling below top) all lines line inner end need is
-    (λ front front_is. files_go form lines called (files ++ old ∷ []) say below len front few front_is)
+    (λ front front_is. files_go form lines called (files ++ old ∷ []) say below len front room few front_is)
     (λ number inside inside_is.
     let w = blocks_go phase inner blocks wrote below top [] inside inside_is in
     let begins : Steps (Filling below top) number line (Ok start) = (Ok (said.Script phase), says, rw (last_push files old, part, unique) refl) in (
@@ -159,7 +159,7 @@ files_over form _ _ _ (script lines called files old next line phase inner block
       (start, begins, w.goes),
       λ n. (Ok said.End, ends, (Ok body, (none_wrong (script_of phase blocks) spelled.grammar, spelled), sym (ap (at n) (section_not below form len called files old next (section_of RAW body) holds over)))),
     )))
-files_over form _ _ _ (volume lines called files old next line inner inside end body say says told ends built holds) below len all over is =
+files_over form _ _ _ (volume lines called files old next line inner inside end body say says told ends built holds) below len all room over is =
     let from = Filling below (opened_with form len None []) in
     let top = opened_with form len called (files ++ old ∷ []) in
     let under = below ++ top ∷ [] in
@@ -167,12 +167,12 @@ files_over form _ _ _ (volume lines called files old next line inner inside end 
     let need = min (bytes_held (files ++ next ∷ [])) (2 ^ 64 - 1) in
     let held = bytes_held (files ++ old ∷ []) in
     decided from all held len (nat_le held len) refl
-    (λ more. before_it from all lines (line ∷ (inner ++ end ∷ [])) is (λ front front_is. files_over form lines called (files ++ old ∷ []) say below len front more front_is))
+    (λ more. before_it from all lines (line ∷ (inner ++ end ∷ [])) is (λ front front_is. files_over form lines called (files ++ old ∷ []) say below len front room more front_is))
     (λ few. at_end from (Filling below top) all lines line inner end need is
-    (λ front front_is. files_go form lines called (files ++ old ∷ []) say below len front few front_is)
+    (λ front front_is. files_go form lines called (files ++ old ∷ []) say below len front room few front_is)
     (λ number lines_inside inside_is.
-    let begins : Steps (Filling below top) number line (Ok start) = (Ok (said.Volume inside.form inside.len), says, sym (ap (at number) (some_file files old below top inside.form inside.len))) in (
+    let begins : Steps (Filling below top) number line (Ok start) = (Ok (said.Volume inside.form inside.len), says, sym (ap (at number) (some_file files old below top inside.form inside.len (omega (arith, room))))) in (
       Filling under inside,
-      (start, begins, files_go inside.form inner inside.name inside.files told under inside.len lines_inside (built_fits inside body built) inside_is),
+      (start, begins, files_go inside.form inner inside.name inside.files told under inside.len lines_inside (one_deeper _ below top room) (built_fits inside body built) inside_is),
       λ n. (Ok said.End, ends, rw (built, last_push below top) (sym (ap (at n) (section_not below form len called files old next (section_of VOLUME_IMAGE body) holds over)))),
     )))

@@ -13,6 +13,7 @@ plain_keyword_of word =
     if bytes_eq word (codes "guids") then Some keyword.Guids
     else if bytes_eq word (codes "raw") then Some keyword.Raw
     else if bytes_eq word (codes "section") then Some keyword.Section
+    else if bytes_eq word (codes "ui") then Some keyword.Ui
     else if bytes_eq word (codes "body") then Some keyword.Body
     else if bytes_eq word (codes "block") then Some keyword.Block
     else if bytes_eq word (codes "end") then Some keyword.End

@@ -2,6 +2,7 @@ pub mod Reading
 pub mod Keywords
 pub mod Words
 pub mod Bytes
+pub mod UserInterface
 pub mod Line
 pub mod Open
 pub mod Script

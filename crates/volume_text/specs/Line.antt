@@ -6,13 +6,13 @@ use Rattle.depex_code.specs.Expression.{IsOfPhase, instructions, bytes_of as opc
 use Rattle.source_words.specs.{declared.depex.fault.ExpressionFault.ExpressionFault, Tokens.token_of, Cause.expression_cause}
 use Rattle.source_words.specs.declared.depex.fault.ExpressionFault.TheVariants as expression_fault
 use Rattle.source_words.specs.{Expression.AreOf, Words.words}
-use Rattle.fv_volume.specs.declared.sections.section_type.TheConstants.{RAW}
+use Rattle.fv_volume.specs.declared.sections.section_type.TheConstants.{RAW, USER_INTERFACE}
 use Rattle.volume_text.specs.{declared.fault.Cause.Cause, declared.keyword.Keyword.Keyword, declared.statement.Statement.Statement}
 use Rattle.volume_text.specs.declared.fault.Cause.TheVariants as cause
 use Rattle.volume_text.specs.declared.keyword.Keyword.TheVariants as keyword
 use Rattle.volume_text.specs.declared.statement.Statement.TheVariants as statement
-use Rattle.volume_text.specs.{Keywords.keyword_of, Reading.◌>>=◌, Bytes.bytes_of, Bytes.guids_of}
-use Rattle.volume_text.specs.Words.{none_left, guid_at, phase_at, length_at, pad_length_at, system_at, header_at, attributes_at, place_at, size_at, chosen_at, file_type_at, section_type_at}
+use Rattle.volume_text.specs.{Keywords.keyword_of, Reading.◌>>=◌, Bytes.bytes_of, Bytes.guids_of, UserInterface.ui_bytes}
+use Rattle.volume_text.specs.Words.{none_left, guid_at, phase_at, length_at, pad_length_at, system_at, header_at, attributes_at, place_at, size_at, chosen_at, file_type_at, section_type_at, ui_name_at}
 
 -- each of these is of the words behind the first
 unfoldable pub volume_at : List (List ℕ) → Result Statement Cause
@@ -62,6 +62,13 @@ section_at others = do
   body ← bytes_of kind.1
   Ok (statement.Section kind.0 body)
 
+-- the name in a user interface section
+unfoldable pub ui_at : List (List ℕ) → Result Statement Cause
+ui_at others = do
+  name ← ui_name_at others
+  _ ← none_left name.1
+  Ok (statement.Section USER_INTERFACE (ui_bytes name.0))
+
 unfoldable pub body_at : List (List ℕ) → Result Statement Cause
 body_at others = bytes_of others >>= (λ bytes. Ok (statement.Body bytes))
 
@@ -103,6 +110,7 @@ ReadsBy (Some keyword.Script) line others read = read ≡ script_at others
 ReadsBy (Some keyword.Guids) line others read = read ≡ guids_at others
 ReadsBy (Some keyword.Raw) line others read = read ≡ raw_at others
 ReadsBy (Some keyword.Section) line others read = read ≡ section_at others
+ReadsBy (Some keyword.Ui) line others read = read ≡ ui_at others
 ReadsBy (Some keyword.Body) line others read = read ≡ body_at others
 ReadsBy (Some keyword.Block) line others read = read ≡ alone statement.Block others
 ReadsBy (Some keyword.End) line others read = read ≡ alone statement.End others

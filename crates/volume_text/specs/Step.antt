@@ -1,5 +1,5 @@
 -- What is open behind one line more (own), and what is wrong with a line where it stands.
-use Rattle.std.specs.Prelude.{◌≡◌, ℕ, ⊤, List, [], ◌∷◌, ◌++◌, Option, Some, None, Result, Ok, Err}
+use Rattle.std.specs.Prelude.{◌≡◌, ℕ, ⊤, nat_lt, List, [], ◌∷◌, ◌++◌, length, Option, Some, None, Result, Ok, Err}
 use Rattle.pi_base.specs.declared.phase.Phase.{Phase}
 use Rattle.fv_volume.specs.declared.sections.section_type.TheConstants.{RAW, VOLUME_IMAGE}
 use Rattle.fv_volume.specs.{declared.build.new_file.NewFile.NewFile, declared.build.new_file.NewSection.NewSection}
@@ -14,7 +14,8 @@ use Rattle.fv_volume.specs.declared.build.volume_header.VolumeForm.{VolumeForm}
 use Rattle.volume_text.specs.declared.statement.Statement.TheVariants as statement
 use Rattle.volume_text.specs.{declared.volume.OpenVolume.OpenVolume, declared.step.State.State, Line.Reads}
 use Rattle.volume_text.specs.declared.step.State.TheVariants.{Begin, Filling, Writing, Done}
-use Rattle.volume_text.specs.Reading.{◌>>=◌, at, onward}
+use Rattle.volume_text.specs.declared.step.TheConstants.{MOST_INSIDE}
+use Rattle.volume_text.specs.Reading.{◌>>=◌, only_if, at, onward}
 use Rattle.volume_text.specs.Open.{last_of, with_section, with_last_body, with_file, with_pad, with_name, depex_type, depex_checked, script_checked, built_of}
 use Rattle.volume_text.specs.Script.{script_of, with_block, with_action, IsScriptBody}
 
@@ -43,10 +44,10 @@ filling_with below (Err e) = Err e
 abbrev pub filling : List OpenVolume → OpenVolume → NewSection → Result State Cause
 filling below top section = with_section top section >>= (λ top. Ok (Filling below top))
 
--- a volume in the last file
+-- a volume in the last file, where it is not nested too deep
 abbrev pub nested_in : List NewFile → List OpenVolume → OpenVolume → VolumeForm → ℕ → Result State Cause
 nested_in [] below top form len = Err cause.NoFile
-nested_in (file ∷ files) below top form len = Ok (Filling (below ++ top ∷ []) (new_volume form len))
+nested_in (file ∷ files) below top form len = only_if (nat_lt (length below) MOST_INSIDE) cause.Nesting (Filling (below ++ top ∷ []) (new_volume form len))
 
 abbrev pub nested : List OpenVolume → OpenVolume → VolumeForm → ℕ → Result State Cause
 nested below top form len = nested_in top.files below top form len

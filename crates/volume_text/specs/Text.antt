@@ -6,7 +6,8 @@ use Rattle.volume_text.specs.{declared.fault.Cause.Cause, declared.fault.Cause.T
 use Rattle.volume_text.specs.{declared.fault.Fault.Fault, declared.fault.TextFault.TextFault, declared.step.State.State}
 use Rattle.volume_text.specs.declared.fault.TextFault.TheVariants as text_fault
 use Rattle.volume_text.specs.{declared.step.State.TheVariants.Begin, declared.step.State.TheVariants.Done, Step.Steps}
-use Rattle.volume_text.specs.{declared.volume.OpenVolume.OpenVolume, Volume.SaysOpen, Volume.SaysVolume}
+use Rattle.volume_text.specs.{declared.step.TheConstants.MOST_INSIDE, declared.volume.OpenVolume.OpenVolume}
+use Rattle.volume_text.specs.Volume.{SaysOpen, SaysVolume}
 
 abbrev pub passes_over : List (List ℕ) → Bool
 passes_over [] = true
@@ -26,11 +27,11 @@ numbered text = counted 1 (lines text)
 
 -- the text describes this volume, whether it can be built or not
 abbrev pub Describes : List ℕ → OpenVolume → Type 0
-Describes text volume = SaysOpen (map (λ line. line.1) (numbered text)) volume
+Describes text volume = SaysOpen MOST_INSIDE (map (λ line. line.1) (numbered text)) volume
 
 -- the text describes the volume of these bytes
 abbrev pub Says : List ℕ → List ℕ → Type 0
-Says text bytes = SaysVolume (map (λ line. line.1) (numbered text)) bytes
+Says text bytes = SaysVolume MOST_INSIDE (map (λ line. line.1) (numbered text)) bytes
 
 -- behind a line more, which may be passed over, this is open, or this is at fault
 abbrev pub Moves : State → ℕ → List ℕ → Result State Fault → Type 0

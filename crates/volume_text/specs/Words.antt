@@ -8,7 +8,7 @@ use Rattle.fv_volume.specs.declared.build.volume_name.TheConstants.{EXT_AT, EXT_
 use Rattle.fv_volume.specs.{declared.build.volume.TheConstants.MOST_LEN, Header.is_header_length}
 use Rattle.line_words.specs.Number.{number_of}
 use Rattle.source_words.specs.GuidWord.{guid_of}
-use Rattle.volume_text.specs.{declared.word.TheConstants.MOST_PAD, declared.fault.Cause.Cause}
+use Rattle.volume_text.specs.{declared.word.TheConstants.MOST_PAD, declared.fault.Cause.Cause, UserInterface.is_ui_name}
 use Rattle.volume_text.specs.declared.fault.Cause.TheVariants as cause
 use Rattle.fv_volume.specs.{declared.build.file_system.FileSystem.FileSystem, declared.build.file_system.FileSystem.TheVariants.Ffs2}
 use Rattle.volume_text.specs.Keywords.{phase_of, system_of, file_type_of, byte_of}
@@ -140,3 +140,9 @@ section_type_at words = do
   w ← word_at words
   kind ← there cause.SectionType (byte_of w.0)
   Ok (kind, w.1)
+
+-- a name in a user interface section
+unfoldable pub ui_name_at : List (List ℕ) → Result (List ℕ × List (List ℕ)) Cause
+ui_name_at words = do
+  w ← word_at words
+  only_if (is_ui_name w.0) cause.Word w

@@ -60,6 +60,8 @@ pub enum Cause {
     TwoBodies,
     /// The volume has a name already.
     TwoNames,
+    /// A volume is nested deeper than a reader of an image looks: it has depth 5, where the outermost has depth 1.
+    Nesting,
     /// A line behind the end of the volume.
     BehindEnd,
     /// At the line behind the last: a volume or a script has no `end`.

@@ -22,6 +22,7 @@ pub(crate) enum Keyword {
     Guids,
     Raw,
     Section,
+    Ui,
     Body,
     Block,
     End,
@@ -38,6 +39,8 @@ fn plain_keyword_of(word: &[u8]) -> Option<Keyword>
         Some(Keyword::Raw)
     } else if word == b"section".as_slice() {
         Some(Keyword::Section)
+    } else if word == b"ui".as_slice() {
+        Some(Keyword::Ui)
     } else if word == b"body".as_slice() {
         Some(Keyword::Body)
     } else if word == b"block".as_slice() {

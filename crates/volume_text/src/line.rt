@@ -2,19 +2,20 @@
 ghost use Rattle.std.specs.Prelude.{Ok};
 ghost use Rattle.source_words.specs.Words.{words};
 ghost use Rattle.volume_text.specs.Reading.{Gives, Meets};
-ghost use Rattle.volume_text.specs.Line.{volume_at, name_at, file_at, pad_at, script_at, guids_at, raw_at, section_at, body_at, alone, Reads, ReadsBy, ReadsDepex, IsBody};
+ghost use Rattle.volume_text.specs.Line.{volume_at, name_at, file_at, pad_at, script_at, guids_at, raw_at, section_at, ui_at, body_at, alone, Reads, ReadsBy, ReadsDepex, IsBody};
 
 use crate::bytes::{bytes, guids};
 use crate::fault::{Cause, Stop};
 use crate::keyword::{Keyword, keyword_of};
 use crate::statement::Statement;
+use crate::user_interface::ui_bytes;
 use crate::word::{
     attributes, chosen, file_type, guid, header, length, none_left, pad_length, phase, place,
-    section_type, size, system, word,
+    section_type, size, system, ui_word, word,
 };
 use depex_code::write_depex;
 use fv_volume::build::{VolumeForm, VolumeName};
-use fv_volume::sections::section_type::RAW;
+use fv_volume::sections::section_type::{RAW, USER_INTERFACE};
 use pi_base::{Phase, Seq};
 use source_words::depex::{ExpressionFault, read_expression};
 use std::alloc::Global;
@@ -136,6 +137,20 @@ fn section(alloc: Global, text: &[u8]) -> Result<Statement, Stop>
     Ok(Statement::Section { kind, body })
 }
 
+// `ui NAME`.
+#[tactic(auto, unfolding(crate::specs::Line::ui_at))]
+fn user_interface(alloc: Global, text: &[u8]) -> Result<Statement, Stop>
+    ensures { Gives (λ x. x) result (ui_at (words text.now)) }
+{
+    let (name, rest) = ui_word(text)?;
+    none_left(rest)?;
+    let body = ui_bytes(alloc, name)?;
+    Ok(Statement::Section {
+        kind: USER_INTERFACE,
+        body,
+    })
+}
+
 // `body HEX`.
 #[tactic(auto, unfolding(crate::specs::Line::body_at))]
 fn body(alloc: Global, text: &[u8]) -> Result<Statement, Stop>
@@ -189,6 +204,7 @@ fn by_keyword(
         Some(Keyword::Guids) => guid_section(alloc, rest),
         Some(Keyword::Raw) => raw_section(alloc, rest),
         Some(Keyword::Section) => section(alloc, rest),
+        Some(Keyword::Ui) => user_interface(alloc, rest),
         Some(Keyword::Body) => body(alloc, rest),
         Some(Keyword::Block) => block(rest),
         Some(Keyword::End) => end(rest),

@@ -16,6 +16,9 @@ use fv_volume::sections::section_type::{RAW, VOLUME_IMAGE};
 use pi_base::{Phase, Seq};
 use std::alloc::Global;
 
+/// How many volumes may be open one in the other inside of the outermost: no reader of an image looks deeper (own).
+pub const MOST_INSIDE: usize = 3;
+
 /// What is open behind some lines of a text.
 #[derive(Drop)]
 pub(crate) enum State {
@@ -89,6 +92,9 @@ fn nested(
 {
     if top.volume().files.is_empty() {
         return Err(Stop::Fault(Cause::NoFile));
+    }
+    if below.len() >= MOST_INSIDE {
+        return Err(Stop::Fault(Cause::Nesting));
     }
     below.push(top)?;
     Ok(State::Filling {

@@ -2,10 +2,11 @@
 ghost use Rattle.std.specs.Prelude.{◌≡◌};
 ghost use Rattle.source_words.specs.Words.{words};
 ghost use Rattle.volume_text.specs.Reading.{Gives};
-ghost use Rattle.volume_text.specs.Words.{word_at, none_left, guid_at, phase_at, is_length, length_at, pad_length_at, system_at, number_at, told_at, is_header, header_at, place_at, size_at, last_number, attributes_at, fixed_at, last_alignment, alignment_at, chosen_at, file_type_at, section_type_at};
+ghost use Rattle.volume_text.specs.Words.{word_at, none_left, guid_at, phase_at, is_length, length_at, pad_length_at, system_at, number_at, told_at, is_header, header_at, place_at, size_at, last_number, attributes_at, fixed_at, last_alignment, alignment_at, chosen_at, file_type_at, section_type_at, ui_name_at};
 
 use crate::fault::{Cause, Stop};
 use crate::keyword::{byte_of, file_type_of, phase_of, system_of};
+use crate::user_interface::is_ui_name;
 use fv_volume::build::{
     Alignment, EXT_AT, EXT_HEADER_LEN, FileAttributes, FileSystem, HEADER_LEN, MOST_LEN,
     is_header_length,
@@ -304,5 +305,18 @@ pub(crate) fn section_type(text: &[u8]) -> Result<(u8, &[u8]), Stop>
     match byte_of(word) {
         Some(kind) => Ok((kind, rest)),
         None => Err(Stop::Fault(Cause::SectionType)),
+    }
+}
+
+/// A name in a user interface section.
+#[tactic(auto, unfolding(crate::specs::Words::ui_name_at))]
+pub(crate) fn ui_word(text: &[u8]) -> Result<(&[u8], &[u8]), Stop>
+    ensures { Gives (λ x. (x.0.now, words x.1.now)) result (ui_name_at (words text.now)) }
+{
+    let (name, rest) = word(text)?;
+    if is_ui_name(name) {
+        Ok((name, rest))
+    } else {
+        Err(Stop::Fault(Cause::Word))
     }
 }

@@ -7,7 +7,7 @@ use volume_print::text_of;
 use volume_text::volume_of;
 
 /// Texts as people write them, and what is printed of their volumes.
-static PRINTED: [(&str, &str); 17] = [
+static PRINTED: [(&str, &str); 18] = [
     ("volume 72\nend\n", "volume 72 ffs2\nend\n"), // no file
     (
         "volume 256 ffs3 attributes 0x4feff\nname B5A1C0DE-93f0-4a5d-8d11-6e2f40715c33\nend",
@@ -58,6 +58,10 @@ static PRINTED: [(&str, &str); 17] = [
         "volume 512 ffs2\nfile combined 00000001-0000-4000-8000-000000000001\nsection 13 0608ff\nsection 13 0608\ndepex pei true\nfile pei-core 00000001-0000-4000-8000-000000000002\nend\n",
     ), // an expression behind one that is none, and one for the other phase
     (
+        "volume 512\nfile driver 00000001-0000-4000-8000-000000000014\nsection 15 530068000000\nui !-1.0~\nsection 15 0000\nsection 15 5300200068000000\nsection 15 530023000000\nsection 15 530000010000\nsection 15 5300\nsection 14 53000000\nend\n",
+        "volume 512 ffs2\nfile driver 00000001-0000-4000-8000-000000000014\nui Sh\nui !-1.0~\nsection 15 0000\nsection 15 5300200068000000\nsection 15 530023000000\nsection 15 530000010000\nsection 15 5300\nsection 14 53000000\nend\n",
+    ), // names, one of no character, with a space, with a `#`, with a character beyond ASCII, without its zero, and a version
+    (
         "volume 1024\nfile volume-image 00000001-0000-4000-8000-000000000003\n  section 10 4d\n  volume 256 ffs3\n    name memory-ppi\n    pad 8\n    file 06 00000001-0000-4000-8000-000000000004\n      script pei\n        block\n        ret Success\n      end\n  end\n  volume 72\n  end\nend\n",
         "volume 1024 ffs2\nfile volume-image 00000001-0000-4000-8000-000000000003\nsection 10 4d\nvolume 256 ffs3\nname f894643d-c449-42d1-8ea8-85bdd8c65bde\npad 8\nfile peim 00000001-0000-4000-8000-000000000004\nscript pei\nblock\nret Success\nend\nend\nvolume 72 ffs2\nend\nend\n",
     ), // volumes in a volume
@@ -66,7 +70,7 @@ static PRINTED: [(&str, &str); 17] = [
         "volume 512 ffs2\nfile freeform 00000001-0000-4000-8000-000000000003\nsection 17 0000000000000000000000000000000078e58c8c3d8a1c4f9935896185c32dd348000000000000005f46564800080000480041ed0000000201000000480000000000000000000000\nfile volume-image 00000001-0000-4000-8000-000000000004\nsection 17 00\nend\n",
     ), // a volume in another file, and bytes that are none
     (
-        "volume 4096\nfile volume-image 00000001-0000-4000-8000-000000000003\nvolume 2048\nfile volume-image 00000001-0000-4000-8000-000000000003\nvolume 1024\nfile volume-image 00000001-0000-4000-8000-000000000003\nvolume 512\nfile volume-image 00000001-0000-4000-8000-000000000003\nvolume 72\nend\nend\nend\nend\nend\n",
+        "volume 4096\nfile volume-image 00000001-0000-4000-8000-000000000003\nvolume 2048\nfile volume-image 00000001-0000-4000-8000-000000000003\nvolume 1024\nfile volume-image 00000001-0000-4000-8000-000000000003\nvolume 512\nfile volume-image 00000001-0000-4000-8000-000000000003\nsection 17 0000000000000000000000000000000078e58c8c3d8a1c4f9935896185c32dd348000000000000005f46564800080000480041ed0000000201000000480000000000000000000000\nend\nend\nend\nend\n",
         "volume 4096 ffs2\nfile volume-image 00000001-0000-4000-8000-000000000003\nvolume 2048 ffs2\nfile volume-image 00000001-0000-4000-8000-000000000003\nvolume 1024 ffs2\nfile volume-image 00000001-0000-4000-8000-000000000003\nvolume 512 ffs2\nfile volume-image 00000001-0000-4000-8000-000000000003\nsection 17 0000000000000000000000000000000078e58c8c3d8a1c4f9935896185c32dd348000000000000005f46564800080000480041ed0000000201000000480000000000000000000000\nend\nend\nend\nend\n",
     ), // a volume deeper than four
     (

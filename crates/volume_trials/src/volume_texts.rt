@@ -257,7 +257,7 @@ const AUDIT_MAIN_FRONT: [u8; 1254] = [
 ];
 
 /// Texts with a mistake, its line and its cause.
-static MISTAKES: [(&str, u64, Cause); 85] = [
+static MISTAKES: [(&str, u64, Cause); 91] = [
     ("", 1, Cause::NoVolume), // no line
     ("\n# nothing\n", 3, Cause::NoVolume), // comments alone
     (
@@ -292,6 +292,26 @@ static MISTAKES: [(&str, u64, Cause); 85] = [
         3,
         Cause::SectionType,
     ), // no type of a section
+    (
+        "volume 4096\nfile peim 00000001-0000-4000-8000-000000000001\nui\n",
+        3,
+        Cause::Missing,
+    ), // no name for a person
+    (
+        "volume 4096\nfile peim 00000001-0000-4000-8000-000000000001\nui Boot Shell\n",
+        3,
+        Cause::Extra,
+    ), // one of two words
+    (
+        "volume 4096\nfile peim 00000001-0000-4000-8000-000000000001\nui (Shell)\n",
+        3,
+        Cause::Word,
+    ), // one with brackets
+    (
+        "volume 4096\nfile peim 00000001-0000-4000-8000-000000000001\nui Sh\u{e9}ll\n",
+        3,
+        Cause::Word,
+    ), // one beyond ASCII
     (
         "volume 4096\nfile peim 00000001-0000-4000-8000-000000000001\nraw 0\n",
         3,
@@ -477,6 +497,16 @@ static MISTAKES: [(&str, u64, Cause); 85] = [
         6,
         Cause::NoRoom { need: 192 },
     ), // volumes that are longer than the one that they stand in
+    (
+        "volume 4096\nfile volume-image 00000001-0000-4000-8000-000000000001\nvolume 2048\nfile volume-image 00000001-0000-4000-8000-000000000001\nvolume 1024\nfile volume-image 00000001-0000-4000-8000-000000000001\nvolume 512\nfile volume-image 00000001-0000-4000-8000-000000000001\nvolume 72\n",
+        9,
+        Cause::Nesting,
+    ), // a volume of depth 5
+    (
+        "volume 4096\nfile volume-image 00000001-0000-4000-8000-000000000001\nvolume 2048\nfile volume-image 00000001-0000-4000-8000-000000000001\nvolume 1024\nfile volume-image 00000001-0000-4000-8000-000000000001\nvolume 512\nend\nvolume 256\nvolume 72\n",
+        10,
+        Cause::NoFile,
+    ), // two of depth 4, and one in front of the first file
     (
         "volume 4096\npad 0xffffe6\n",
         2,

@@ -4,7 +4,7 @@ ghost use Rattle.boot_plan.specs.Range.{IsPlanInRange};
 use super::text::{NOTHING, Text};
 use super::{Case, Image, SMALLEST, VOLUME, are_of, images_of, plan_of, whole_text};
 use boot_core::examine;
-use boot_laws::{Choice, Reached};
+use boot_laws::{Before, Choice, Reached};
 use boot_plan::Plan;
 use boot_reasons::{Nowhere, explain_plan, explain_plan_by};
 use explain_text::{Explained, put_explained};
@@ -158,30 +158,34 @@ struct FourthEarly {
 }
 
 impl Choice<Nowhere> for FourthEarly {
-    ghost use Rattle.std.specs.Prelude.{◌≡◌, ◌==◌, if◌then◌else◌, Some, None, nat_lt, true};
+    ghost use Rattle.std.specs.Prelude.{◌≡◌, ◌==◌, if◌then◌else◌, Some, None, nat_lt, true, false};
 
-    ghost peims = { λ choice sink starts named. named ≡ (if starts == 1 then Some 3 else None) };
+    ghost rules = { λ choice. record {
+      peims = λ sink before named. named ≡ (if before.starts == 1 then Some 3 else None);
+      lets_in_pei = λ before number. true;
+      drivers = λ sink before named. named ≡ None;
+      lets_in_dxe = λ before number. nat_lt before.starts choice.most;
+      wants_turn = false;
+    } };
 
-    ghost drivers = { λ choice sink starts named. named ≡ None };
-
-    ghost lets_in_pei = { λ choice starts number. true };
-
-    ghost lets_in_dxe = { λ choice starts number. nat_lt starts choice.most };
-
-    fn peim(&self, _sink: &Nowhere, starts: u64) -> Option<u32> {
-        if starts == 1 { Some(3) } else { None }
+    fn wants_turn(&self) -> bool {
+        false
     }
 
-    fn driver(&self, _sink: &Nowhere, _starts: u64) -> Option<u32> {
+    fn peim(&self, _sink: &Nowhere, before: Before) -> Option<u32> {
+        if before.starts == 1 { Some(3) } else { None }
+    }
+
+    fn driver(&self, _sink: &Nowhere, _before: Before) -> Option<u32> {
         None
     }
 
-    fn lets_peim(&self, _starts: u64, _number: u32) -> bool {
+    fn lets_peim(&self, _before: Before, _number: u32) -> bool {
         true
     }
 
-    fn lets_driver(&self, starts: u64, _number: u32) -> bool {
-        starts < self.most
+    fn lets_driver(&self, before: Before, _number: u32) -> bool {
+        before.starts < self.most
     }
 }
 

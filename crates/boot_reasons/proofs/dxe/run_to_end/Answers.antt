@@ -1,9 +1,9 @@
 use Rattle.std.proofs.Common.{◌≡◌, None, arith, refl, ap, ◌∙◌}
 use Rattle.boot_model.specs.DxeRun.{dxe_bound, dxe_opening}
-use Rattle.dxe_dispatch.specs.Choices.{NamesDrivers, came}
-use Rattle.dxe_dispatch.specs.Passes.{queued, told_in_dxe}
+use Rattle.dxe_dispatch.specs.{Choices.NamesDrivers, Choices.came, Passes.queued, Passes.told_in_dxe}
 use Rattle.dxe_dispatch.proofs.Chosen.{StepLaws}
-use Rattle.boot_reasons.specs.{Givers.actor_by, Unseen.LetsUnseenAfter, Unseen.NamesUnseenAfter, Unseen.nowhere, Unseen.unseen_behind, Unseen.unseen_by}
+use Rattle.boot_reasons.specs.Givers.{actor_by}
+use Rattle.boot_reasons.specs.Unseen.{LetsUnseenAfter, NamesUnseenAfter, nowhere, unseen_behind, unseen_by}
 use Rattle.boot_reasons.proofs.DxeSteps.{comes_first, told_further, told_to, turn_to_come, unseen}
 use Rattle.boot_reasons.proofs.dxe.run_to_end.Goals as goal
 

@@ -3,7 +3,8 @@ use Rattle.store_model.specs.StoreState.{StoreState}
 use Rattle.boot_model.specs.DxeRun.{dxe_opening}
 use Rattle.dxe_dispatch.specs.{Queue.IsQueueFor, Choices.NamesDrivers, Passes.told_in_dxe}
 use Rattle.dxe_core.specs.Standing.{IsFor}
-use Rattle.boot_reasons.specs.{DxeTelling.IsAtOpening, Unseen.LetsUnseenAfter, Unseen.nowhere, Unseen.unseen_behind, Unseen.unseen_by}
+use Rattle.boot_reasons.specs.DxeTelling.{IsAtOpening}
+use Rattle.boot_reasons.specs.Unseen.{LetsUnseenAfter, nowhere, unseen_behind, unseen_by}
 use Rattle.boot_reasons.proofs.DxeSteps.{IsComing}
 use Rattle.boot_reasons.proofs.dxe.run_to_end.Given as goal
 

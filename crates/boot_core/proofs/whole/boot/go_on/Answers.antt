@@ -1,5 +1,5 @@
 use Rattle.std.proofs.lemmas.Result.{err_from_is_err_and}
-use Rattle.boot_core.specs.{Watched.BootCall, Watched.Knowing}
+use Rattle.boot_core.specs.Watched.{BootCall, Knowing}
 use Rattle.boot_core.proofs.Giving.{given_up_behind, knows_come, knows_none}
 use Rattle.boot_core.proofs.whole.boot.go_on.Goals as goal
 
