@@ -46,6 +46,12 @@ SAME, UNEXPLAINED = "same", "unexplained"
 # it boots so, and may start another module where EDK2 starts none any more; one of the starts may not be; or no answer in time.
 AS_EDK2, OTHER_LINES, MORE_STARTS, NO_ORDER, NO_ANSWER = "as EDK2", "other lines", "more starts", "no order", "no answer"
 NO, REFUSALS = 11, (1, 2, 3, 4, 5, 12, 16)  # statuses of `pitools follow`: the order is none of a boot, or files, images, names or it are refused
+# What `pitools passes` makes of a boot beside EDK2's trace: AS_EDK2 or OTHER_LINES as above; the lines are EDK2's but for the order of those
+# `waiting`; the lines are EDK2's as far as they go, and the driver whose turn it is, which may not start, is the next that EDK2 starts; or refused.
+OTHER_WAITING, LEFT, REFUSED = "as EDK2 but for the order of waiting", "left at EDK2's next start", "refused"
+IN_TURN = (AS_EDK2, LEFT)
+# The words of differences by order alone, of which `passes` takes over EDK2's rule; with the last one lines `waiting` may come in another order.
+BY_ORDER, BY_TYPES = ("same", "shadow-at-once", "batch"), "types-in-turn"
 AS_BUILT = "# as built"
 
 
@@ -56,6 +62,14 @@ class Outcome:
     word: str  # SAME, UNEXPLAINED, or the rules that explain it
     difference: str
     followed: str  # AS_EDK2 or one of the other four
+    passed: str  # one of IN_TURN, or one of the other four
+
+    def is_in_turn(self) -> bool:
+        """Whether `passes` prints what it has to: of a boot that differs by order alone EDK2's lines, or up to its next start."""
+        words = self.word.split(" + ")
+        if not set(words) <= {*BY_ORDER, BY_TYPES}:
+            return True
+        return self.passed in IN_TURN or self.passed == OTHER_WAITING and BY_TYPES in words
 
 
 def output(words: list[str], folder: str, **more: str) -> list[str]:
@@ -124,6 +138,39 @@ def followed(folder: str, audit: list[str], theirs: Trace) -> str:
     return OTHER_LINES if first_difference(read(lines, audit), theirs) else AS_EDK2
 
 
+def passed(folder: str, audit: list[str], theirs: Trace) -> str:
+    """What comes of a boot on this machine in the order of EDK2's dispatchers."""
+    try:
+        done = subprocess.run([PITOOLS, "passes", "plan"], cwd=folder, stdout=subprocess.PIPE, stderr=subprocess.DEVNULL, timeout=SECONDS)
+    except subprocess.TimeoutExpired:
+        return NO_ANSWER
+    lines = done.stdout.decode(errors="replace").split("\n")[:-1]
+    if done.returncode in REFUSALS:
+        return REFUSED
+    turn = lines[-2].split()[1:] if done.returncode == NO else []
+    ours = read(lines[:-2] if done.returncode == NO else lines, audit)
+    if first_difference(ours, theirs) is None:
+        return AS_EDK2
+    if turn and is_left(ours.run, turn, theirs.run):
+        return LEFT
+    sort_waiting(ours)
+    return OTHER_LINES if first_difference(ours, sort_waiting(Trace(theirs.run[:], theirs.lists, theirs.asserts))) else OTHER_WAITING
+
+
+def is_left(ours: list[str], turn: list[str], theirs: list[str]) -> bool:
+    """Whether a run is EDK2's up to the next start of EDK2's, which is that of this driver. A run that stopped is compared up to there."""
+    at = ours.index("dxe stop") if "dxe stop" in ours else len(ours)
+    return theirs[:at] == ours[:at] and theirs[at : at + 1] == [" ".join(["dxe", "start", *turn[1:]])]
+
+
+def sort_waiting(trace: Trace) -> Trace:
+    """The trace with its lines `waiting` in order."""
+    places = [at for at, line in enumerate(trace.run) if line.startswith("waiting ")]
+    for at, line in zip(places, sorted(trace.run[at] for at in places)):
+        trace.run[at] = line
+    return trace
+
+
 def is_explained(folder: str, audit: list[str], theirs: Trace, rules: tuple[str, ...]) -> bool:
     """Whether the plain program prints EDK2's trace with some of EDK2's rules."""
     words = [PLAIN, "boot", "plan"] + [f"--edk2={rule}" for rule in rules]
@@ -145,9 +192,9 @@ def compare(folder: str, phase: str = "") -> Outcome:
     audit, ours, theirs = both(folder)
     difference = first_difference(ours, theirs)
     if difference is None:
-        return Outcome(SAME, "", followed(folder, audit, theirs))
+        return Outcome(SAME, "", followed(folder, audit, theirs), passed(folder, audit, theirs))
     rules = explained_by(folder, audit, theirs, phase)
-    return Outcome(" + ".join(rules) or UNEXPLAINED, difference, followed(folder, audit, theirs))
+    return Outcome(" + ".join(rules) or UNEXPLAINED, difference, followed(folder, audit, theirs), passed(folder, audit, theirs))
 
 
 def kind(difference: str) -> str:

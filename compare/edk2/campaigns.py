@@ -6,7 +6,7 @@
 
 A boot that differs is explained by the known differences (boots.py, RULES) with whose rules of EDK2's the
 plain program (compare/plain) prints EDK2's trace. One that none explains is made smaller, kept in out/found,
-and a failure. `case` compares both traces with the kept ones, or writes them with --new.
+and a failure. So is one that differs by order alone, where `pitools passes` prints other lines than EDK2 (boots.py, BY_ORDER). `case` compares both traces with the kept ones, or writes them with --new.
 """
 import argparse
 import os
@@ -40,19 +40,26 @@ class Result:
 
     words: Counter[str] = field(default_factory=Counter)
     followed: dict[str, Counter[str]] = field(default_factory=dict)  # the words of the boots that went so
+    passed: dict[str, Counter[str]] = field(default_factory=dict)  # the same, of `pitools passes`
+    out_of_turn: list[tuple[str, int, str]] = field(default_factory=list)  # the boots in which it printed other lines than it has to
     unexplained: dict[str, tuple[str, int, str]] = field(default_factory=dict)
 
     def add(self, name: str, seed: int, outcome: Outcome) -> None:
         self.words[outcome.word] += 1
         self.followed.setdefault(outcome.followed, Counter())[outcome.word] += 1
+        self.passed.setdefault(outcome.passed, Counter())[outcome.word] += 1
+        if not outcome.is_in_turn():
+            self.out_of_turn.append((name, seed, outcome.passed))
         if outcome.word == UNEXPLAINED:
             self.unexplained.setdefault(kind(outcome.difference), (name, seed, outcome.difference))
 
     def text(self) -> str:
-        lines = [f"{self.words.total()} boots, {listed(self.words)}"]
-        for what, words in sorted(self.followed.items()):
-            lines.append(f"{what} {words.total()}" + (f" ({listed(words)})" if what != AS_EDK2 else ""))
-        return "; in EDK2's order: ".join([lines[0], ", ".join(lines[1:])])
+        return f"{self.words.total()} boots, {listed(self.words)}; in EDK2's order: {counts_of(self.followed)}; by passes: {counts_of(self.passed)}"
+
+
+def counts_of(boots: dict[str, Counter[str]]) -> str:
+    """How many boots went so, and if not as EDK2's, by which words."""
+    return ", ".join(f"{what} {words.total()}" + (f" ({listed(words)})" if what != AS_EDK2 else "") for what, words in sorted(boots.items()))
 
 
 def volumes_of(name: str, seed: int) -> list[str]:
@@ -94,7 +101,9 @@ def run(names: list[str], boots: int, seed: int, jobs: int) -> int:
     for name, number, difference in total.unexplained.values():
         print(f"unexplained: {name} {number}: {difference}", flush=True)
         keep(name, number, difference)
-    return total.words[UNEXPLAINED]
+    for name, number, what in total.out_of_turn:
+        print(f"by passes: {name} {number}: {what}", flush=True)
+    return total.words[UNEXPLAINED] + len(total.out_of_turn)
 
 
 def main() -> int:

@@ -1,12 +1,12 @@
 """The smallest boot of each known difference, cases/NAME: a plan, volumes, both traces as they are compared
 (here.trace and edk2.trace), the rules of EDK2's that explain it (rules), none where no word does, and what
-comes of it here in the order of EDK2's starts (followed).
+comes of it here in the order of EDK2's starts (followed) and by `pitools passes` (passed).
 """
 import os
 import re
 import tempfile
 
-from boots import HERE, both, explained_by, followed, is_explained, write
+from boots import HERE, both, explained_by, followed, is_explained, passed, write
 from traces import Trace, first_difference
 
 CASES = f"{HERE}/cases"
@@ -44,9 +44,9 @@ def text_of(trace: Trace) -> str:
     return "".join(f"{line}\n" for line in trace.run + trace.lists + sorted(set(trace.asserts)))
 
 
-def keep(name: str, ours: Trace, theirs: Trace, rules: tuple[str, ...], in_order: str) -> None:
+def keep(name: str, ours: Trace, theirs: Trace, rules: tuple[str, ...], words: dict[str, str]) -> None:
     """Writes what is expected of a case from now on."""
-    kept = {"here.trace": text_of(ours), "edk2.trace": text_of(theirs), "rules": " ".join(rules) + "\n", "followed": in_order + "\n"}
+    kept = {"here.trace": text_of(ours), "edk2.trace": text_of(theirs), "rules": " ".join(rules) + "\n", **words}
     for file, text in kept.items():
         with open(f"{CASES}/{name}/{file}", "w", encoding="utf-8") as out:
             out.write(text)
@@ -57,14 +57,14 @@ def faults_of(name: str, is_new: bool) -> list[str]:
     with tempfile.TemporaryDirectory(prefix="edk2-case-") as folder:
         write_boot(name, folder)
         audit, ours, theirs = both(folder)
-        in_order = followed(folder, audit, theirs)
+        words = {"followed": followed(folder, audit, theirs) + "\n", "passed": passed(folder, audit, theirs) + "\n"}
         if is_new:
-            keep(name, ours, theirs, explained_by(folder, audit, theirs, ""), in_order)
+            keep(name, ours, theirs, explained_by(folder, audit, theirs, ""), words)
         rules = rules_of(name)
         is_right = not rules or is_explained(folder, audit, theirs, rules)
     difference = first_difference(ours, theirs)
-    print(f"{name}: {' + '.join(rules) or 'no word'}; in EDK2's order: {in_order}: {difference}", flush=True)
-    told = {"here.trace": text_of(ours), "edk2.trace": text_of(theirs), "followed": in_order + "\n"}
+    print(f"{name}: {' + '.join(rules) or 'no word'}; in EDK2's order: {words['followed'].strip()}; by passes: {words['passed'].strip()}: {difference}", flush=True)
+    told = {"here.trace": text_of(ours), "edk2.trace": text_of(theirs), **words}
     faults = [f"another one than {file}" for file, text in told.items() if text != read_file(f"{CASES}/{name}/{file}")]
     faults += [] if is_right else ["its rules do not explain it"]
     faults += [] if difference else ["both traces are the same"]

@@ -230,6 +230,7 @@ fn tell_fault(rt: &HostRuntime, words: &[String], status: ToolStatus, heard: &He
         ToolStatus::PlanRefused => PROGRAM.tell_plan(rt, first, heard),
         ToolStatus::ImageRefused if word_at(words, 0) == "text" => None,
         ToolStatus::ImageRefused => PROGRAM.tell_image(rt, first, heard),
+        ToolStatus::No if word_at(words, 0) == "passes" => None,
         ToolStatus::No if word_at(words, 0) == "follow" => tell_start(rt, word_at(words, 2), heard),
         ToolStatus::OrderRefused => tell_line(rt, word_at(words, 2), heard, LINE_FORMS),
         ToolStatus::No => tell_line(
@@ -254,7 +255,8 @@ fn tell_fault(rt: &HostRuntime, words: &[String], status: ToolStatus, heard: &He
 
 // What a status means, whatever the files.
 fn meaning_of(words: &[String], status: ToolStatus) -> &'static str {
-    if word_at(words, 0) == "follow" {
+    let verb = word_at(words, 0);
+    if verb == "follow" || verb == "passes" {
         if let Some(meaning) = boot_words(status) {
             return meaning;
         }
@@ -268,6 +270,9 @@ fn meaning_of(words: &[String], status: ToolStatus) -> &'static str {
         }
         ToolStatus::Spent | ToolStatus::Deep => {
             "PEI was given up before the hand-off, since its fuel was spent or its frames are nested too deep"
+        }
+        ToolStatus::No if verb == "passes" => {
+            "it is the turn of the driver in the last line but one, which may not start there; the last line has the GUIDs that are not installed"
         }
         ToolStatus::Memory => "memory was wanting",
         _ => "it is refused at the place above; docs/TOOLS.md has the causes",
@@ -286,6 +291,7 @@ pub(crate) fn shown_file(words: &[String], status: ToolStatus) -> Option<&str> {
     let verb = word_at(words, 0);
     let place = match status {
         ToolStatus::Done if verb == "volume" => 1,
+        ToolStatus::No if verb == "passes" => return None,
         ToolStatus::No | ToolStatus::OrderRefused => 2,
         ToolStatus::CommandRefused | ToolStatus::TextRefused if verb == "mp" || verb == "volume" =>
             1,
