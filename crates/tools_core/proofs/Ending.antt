@@ -4,6 +4,7 @@ use Rattle.pi_base.specs.declared.memory.OutOfMemory.{OutOfMemory}
 use Rattle.boot_io.specs.{declared.sink.SinkFault.SinkFault, Sink.Puts, Sink.SinkFaultsAfter}
 use Rattle.tools_core.specs.{declared.report.Report.Report, declared.status.ToolStatus.ToolStatus}
 use Rattle.recorded_boot.specs.declared.follow.followed.Followed.TheVariants as F
+use Rattle.recorded_boot.specs.declared.passes.Passed.TheVariants as Q
 use Rattle.tools_core.specs.declared.report.Report.TheVariants as R
 use Rattle.tools_core.specs.{declared.status.ToolStatus.TheVariants.Done, FileReading.FilesTrail}
 use Rattle.boot_model.specs.declared.line.RunEnd.TheVariants as E
@@ -59,6 +60,7 @@ due_of Out Named (R.Twins volume) t r = outcome r.0 r.1
 due_of Out Named (R.Verdict verdict) t r = outcome r.0 r.1
 due_of Out Named (R.Order line) t r = outcome r.0 r.1
 due_of Out Named (R.Followed lines followed) t r = outcome r.0 r.1
+due_of Out Named (R.Passed lines passed) t r = outcome r.0 r.1
 due_of Out Named (R.Hobs fault) t r = outcome r.0 r.1
 due_of Out Named (R.Command line) t r = outcome r.0 r.1
 due_of Out Named (R.Event line) t r = outcome r.0 r.1
@@ -89,6 +91,12 @@ text_kind (R.Followed lines (F.Ended E.Spent)) = refl
 text_kind (R.Followed lines (F.Ended E.Deep)) = refl
 text_kind (R.Followed lines F.Stopped) = refl
 text_kind (R.Followed lines (F.No line against)) = refl
+text_kind (R.Passed lines (Q.Ended E.Done)) = refl
+text_kind (R.Passed lines (Q.Ended E.NoMemory)) = refl
+text_kind (R.Passed lines (Q.Ended E.NoIpl)) = refl
+text_kind (R.Passed lines (Q.Ended E.Spent)) = refl
+text_kind (R.Passed lines (Q.Ended E.Deep)) = refl
+text_kind (R.Passed lines (Q.No turn)) = refl
 text_kind (R.Hobs fault) = refl
 text_kind (R.Command line) = refl
 text_kind (R.Event line) = refl

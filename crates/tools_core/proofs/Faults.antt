@@ -19,12 +19,15 @@ use Rattle.boot_model.specs.declared.line.RunEnd.TheVariants as E
 use Rattle.tools_core.specs.HobsReport.{HobsReport, bad_image, ended, handed}
 use Rattle.tools_core.specs.PlanReport.{PlanReport, over_long, text_read}
 use Rattle.tools_core.specs.JobOutcome.{JobOutcome, JobReport, job_long, job_plan, job_read, no_job}
-use Rattle.tools_core.specs.ReportText.{end_status, followed_status}
+use Rattle.tools_core.specs.ReportText.{end_status, followed_status, passed_status}
 use Rattle.tools_core.specs.Ends.{Answered, Ends, IsDue, NoMemory, SinkFailed, Trail, outcome, unread}
 use Rattle.tools_core.specs.FollowReport.{FollowReport, OrderReport, bad_order, boots, image_refused as of_image, in_order, long_order, long_plan, texts_read, twins as of_twins}
 use Rattle.tools_core.specs.GcdReport.{GcdReport, command_refused, done, hobs_refused}
 use Rattle.recorded_boot.specs.{declared.order.lines.StartOrder.StartOrder, declared.follow.followed.Followed.Followed}
 use Rattle.recorded_boot.specs.declared.follow.followed.Followed.TheVariants as F
+use Rattle.recorded_boot.specs.declared.passes.Passed.{Passed}
+use Rattle.recorded_boot.specs.declared.passes.Passed.TheVariants as Q
+use Rattle.tools_core.specs.PassesReport.{PassesReport, boots_so, wrong_image}
 use Rattle.tools_core.specs.MpReport.{MpReport, ran, refused}
 use Rattle.tools_core.specs.Outcome.{ContentReport, Names, Outcome, both, commands_long, content, hobs_long, long, usage, words_ask_follow, words_ask_plan, words_ask_map, words_ask_tool, words_ask_trace}
 use Rattle.tools_core.specs.PrintReport.{PrintReport, printed, no_volume}
@@ -134,9 +137,19 @@ hobs_tell plan images status out (bad_image fault p is t) = other status S.Image
 hobs_tell plan images status out (handed hobs p is t) = done_tells status is
 hobs_tell plan images status out (ended end p is t) = end_tells end status is
 
+-- nor what a boot in the order of EDK2's dispatchers came to
+passed_tells : (passed : Passed) (status : ToolStatus) → status ≡ passed_status passed → status ≡ S.FileFault → ⊥
+passed_tells (Q.Ended end) status is = end_tells end status is
+passed_tells (Q.No turn) status is = other status S.No (λ (e : S.No ≡ S.FileFault). absurd (cc)) is
+
+passes_tell : (plan : Plan) (images : List (List ℕ)) → Tells (PassesReport plan images)
+passes_tell plan images status out (wrong_image fault p is t) = other status S.ImageRefused (λ (e : S.ImageRefused ≡ S.FileFault). absurd (cc)) is
+passes_tell plan images status out (boots_so catalog sound passed lines p is t) = passed_tells passed status is
+
 plan_tells : (tool : PlanTool) (plan : Plan) (images : List (List ℕ)) → Tells (PlanReport tool plan images)
 plan_tells P.Hobs plan images = hobs_tell plan images
 plan_tells P.Reasons plan images = explain_tells plan images
+plan_tells P.Passes plan images = passes_tell plan images
 
 -- nor what a boot in an order of starts came to
 followed_tells : (followed : Followed) (status : ToolStatus) → status ≡ followed_status followed → status ≡ S.FileFault → ⊥
