@@ -36,7 +36,7 @@ choices b = choices_of (record { rules = turn_rules; text = b.text; faults = b.f
 in_dxe : {S : Type 0} (b : TurnBoot S) (pei : PeiMachine) (m : DxeMachine) → ComesInDxe (choices b) b.catalog b.fuel pei m → ComesInDxe (pass_choices b.catalog b.fuel) b.catalog b.fuel pei m
 in_dxe b pei m comes = record {
   earlier = comes.earlier;
-  run = dxe_run_of ((choices b).drivers pei) ((pass_choices b.catalog b.fuel).drivers pei) ((choices b).lets_driver pei) b.catalog b.fuel (dxe_opening b.catalog pei.store pei.actions) comes.earlier (λ earlier n named may. may.is) comes.run;
+  run = dxe_run_of ((choices b).drivers pei) ((pass_choices b.catalog b.fuel).drivers pei) ((choices b).lets_driver pei) ((pass_choices b.catalog b.fuel).lets_driver pei) b.catalog b.fuel (dxe_opening b.catalog pei.store pei.actions) comes.earlier (λ earlier named may. may.is) (λ over target number going aimed. refl) comes.run;
   is = comes.is;
 }
 
@@ -127,7 +127,7 @@ left_passes b stands left barred t (No turn) by leaves =
       number = barred.number;
       due = record {
         target = due.target;
-        aimed = aimed_of ((choices b).drivers pei over) ((pass_choices b.catalog b.fuel).drivers pei over) b.catalog bars.dxe due.target (λ n named may. may.is) due.aimed;
+        aimed = aimed_of ((choices b).drivers pei over) ((pass_choices b.catalog b.fuel).drivers pei over) b.catalog bars.dxe due.target (λ named may. may.is) due.aimed;
         starting = due.starting;
       };
       other = bars.bars;

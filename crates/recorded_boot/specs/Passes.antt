@@ -113,6 +113,14 @@ IsNotLeftInPei (B.Ended ran) = ⊤
 IsNotLeftInPei (B.BarredInPei barred) = ⊥
 IsNotLeftInPei (B.BarredInDxe pei barred) = ⊤
 
+-- over a catalogue: a boot in that order, or the sink failed, or memory ran out
+abbrev pub PassesOver : Board → Catalog → ℕ → Texts → Result Passed FollowFault → Type 0
+PassesOver board catalog fuel t (Ok passed) = PassesTo board catalog fuel t passed
+PassesOver board catalog fuel t (Err (Image fault)) = ⊥
+PassesOver board catalog fuel t (Err (Twins volume)) = ⊥
+PassesOver board catalog fuel t (Err Sink) = ⊤
+PassesOver board catalog fuel t (Err Memory) = ⊤
+
 -- the boot of a plan and its images in that order
 pub record IsPassed (plan : Plan) (images : List (List ℕ)) (t : Texts) (passed : Passed) : Type 0 where
   pub catalog : Catalog

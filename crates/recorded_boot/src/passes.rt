@@ -9,7 +9,7 @@ ghost use Rattle.pi_base.specs.declared.phase.Phase.TheVariants.{Dxe};
 ghost use Rattle.store_model.specs.{Service.Present, Service.OfEach, StateFacts.IsBoard, StoreCall.Anything};
 ghost use Rattle.store_model.specs.StoreState.{Board, empty_store};
 ghost use Rattle.recorded_boot.specs.{Follow.FaultsAfter, Leaving.store_of, OnePass.OnePass, Starts.module_start};
-ghost use Rattle.recorded_boot.specs.Passes.{IsNotLeftInPei, IsTurnOf, LeavesBoot, Passes, PassesTo, lacks_in};
+ghost use Rattle.recorded_boot.specs.Passes.{IsNotLeftInPei, IsTurnOf, LeavesBoot, Passes, PassesOver, PassesTo, lacks_in};
 
 use crate::follow::{FollowFault, Installed, fault_of, lacking};
 use crate::order::Start;
@@ -201,8 +201,8 @@ fn pass_over<S: Sink>(
     requires board { IsBoard (board_of plan.now catalog.now images) }
     requires catalog { IsWellFormed catalog.now }
     requires some { 1 ≤ length catalog.now.volumes }
-    ensures row { IfOk result (PassesTo (board_of plan.now catalog.now images) catalog.now plan.now.fuel
-        (record { old = S.text sink.old; new = S.text sink.new })) }
+    ensures row { PassesOver (board_of plan.now catalog.now images) catalog.now plan.now.fuel
+        (record { old = S.text sink.old; new = S.text sink.new }) result }
     ensures faults { FaultsAfter result (S.faults sink.old) (S.faults sink.new) }
 {
     let Ok(store) = store_of(alloc, plan, catalog, images) else {

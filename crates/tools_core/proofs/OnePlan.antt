@@ -6,10 +6,9 @@ use Rattle.mod_catalog.specs.declared.catalogue.Catalog.{Catalog}
 use Rattle.boot_model.specs.PlanBoard.{board_of}
 use Rattle.recorded_boot.specs.OnePass.{OnePass}
 use Rattle.boot_core.specs.Job.{IsNamedIn}
-use Rattle.tools_core.specs.declared.command_line.PlanTool.{PlanTool}
+use Rattle.tools_core.specs.{declared.command_line.PlanTool.PlanTool, JobOutcome.JobOutcome, OneOutcome.AreAllTold, OneOutcome.IsOne}
 use Rattle.tools_core.specs.declared.command_line.PlanTool.TheVariants.{Hobs, Reasons, Passes}
-use Rattle.tools_core.specs.{JobOutcome.JobOutcome, OneOutcome.AreAllTold, OneOutcome.IsOne, PlanReport.PlanReport}
-use Rattle.tools_core.specs.{FollowText.passed_text, Refusals.image_line, ReportText.passed_status}
+use Rattle.tools_core.specs.{PlanReport.PlanReport, FollowText.passed_text, Refusals.image_line, ReportText.passed_status}
 use Rattle.tools_core.specs.PassesReport.{PassesReport, PassesSo, boots_so, wrong_image}
 use Rattle.tools_core.proofs.{OneCheck.one_hobs, OneCheck.one_of_job, OneExplain.one_explain}
 pub use Rattle.tools_core.proofs.OneExplain.{Laws}

@@ -6,8 +6,7 @@ use Rattle.mod_catalog.specs.{declared.catalogue.Catalog.Catalog, declared.image
 use Rattle.mod_catalog.specs.ImageFault.{IsImageFault}
 use Rattle.boot_model.specs.PlanBoard.{board_of}
 use Rattle.recorded_boot.specs.{declared.passes.Passed.Passed, Passes.PassesTo}
-use Rattle.tools_core.specs.declared.status.ToolStatus.{ToolStatus}
-use Rattle.tools_core.specs.declared.status.ToolStatus.TheVariants.{ImageRefused}
+use Rattle.tools_core.specs.{declared.status.ToolStatus.ToolStatus, declared.status.ToolStatus.TheVariants.ImageRefused}
 use Rattle.tools_core.specs.{FollowText.passed_text, Refusals.image_line, ReportText.passed_status}
 
 -- a boot over the catalogue of the images ends this way in that order, with these lines

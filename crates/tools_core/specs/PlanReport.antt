@@ -2,10 +2,10 @@
 use Rattle.std.specs.Prelude.{◌≡◌, ℕ, List, Option}
 use Rattle.boot_plan.specs.declared.plan.Plan.{Plan}
 use Rattle.boot_core.specs.{Job.IsNamedIn, Reading.plan_limit}
-use Rattle.tools_core.specs.declared.command_line.PlanTool.{PlanTool}
+use Rattle.tools_core.specs.{declared.command_line.PlanTool.PlanTool, declared.status.ToolStatus.ToolStatus, ExplainReport.ExplainReport}
 use Rattle.tools_core.specs.declared.command_line.PlanTool.TheVariants.{Hobs, Reasons, Passes}
-use Rattle.tools_core.specs.{declared.status.ToolStatus.ToolStatus, ExplainReport.ExplainReport}
-use Rattle.tools_core.specs.{FileReading.IsRead, FileReading.LongOutcome, HobsReport.HobsReport, JobOutcome.JobOutcome, PassesReport.PassesReport}
+use Rattle.tools_core.specs.{FileReading.IsRead, FileReading.LongOutcome, HobsReport.HobsReport, JobOutcome.JobOutcome}
+use Rattle.tools_core.specs.PassesReport.{PassesReport}
 
 -- what a plan and the images of its volumes lead to
 abbrev pub PlanReport : PlanTool → Plan → List (List ℕ) → ToolStatus → List ℕ → Type 0

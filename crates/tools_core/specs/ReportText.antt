@@ -12,9 +12,8 @@ use Rattle.tools_core.specs.declared.status.ToolStatus.TheVariants as S
 use Rattle.tools_core.specs.declared.report.Report.TheVariants as R
 use Rattle.tools_core.specs.Refusals.{usage_line, file_line, long_line, plan_line, image_line, twins_line, end_line, verdict_line, text_line, text_long_line, malformed_line, bytes_line}
 use Rattle.tools_core.specs.FollowText.{order_line, last_text, passed_text}
-use Rattle.recorded_boot.specs.declared.follow.followed.Followed.{Followed}
+use Rattle.recorded_boot.specs.{declared.follow.followed.Followed.Followed, declared.passes.Passed.Passed}
 use Rattle.recorded_boot.specs.declared.follow.followed.Followed.TheVariants as F
-use Rattle.recorded_boot.specs.declared.passes.Passed.{Passed}
 use Rattle.recorded_boot.specs.declared.passes.Passed.TheVariants as P
 
 abbrev pub report_text : Report → List ℕ

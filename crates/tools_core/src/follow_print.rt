@@ -1,8 +1,7 @@
 // Printing how a boot in an order of starts ended.
 ghost use Rattle.std.specs.Prelude.{◌≡◌, ◌++◌, flat_map};
-ghost use Rattle.boot_io.specs.Sink.{Puts, SinkFaultsAfter};
+ghost use Rattle.boot_io.specs.{Sink.Puts, Sink.SinkFaultsAfter, Line.line_of};
 ghost use Rattle.recorded_boot.specs.declared.follow.against.Against.TheVariants.{NotEligible};
-ghost use Rattle.boot_io.specs.Line.{line_of};
 ghost use Rattle.tools_core.specs.FollowText.{against_line, guid_word, last_text, not_eligible_text, order_line, passed_text, start_words};
 ghost use Rattle.tools_core.specs.Refusals.{no_text};
 

@@ -6,8 +6,8 @@ use Rattle.recorded_boot.proofs.passes.pass_boot.Goals as goal
 pub boot_by_choice-requires-clause-opening : goal.boot_by_choice-requires-clause-opening
 boot_by_choice-requires-clause-opening g c = c.requires.opening
 
-pub leave-requires-clause-state : goal.leave-requires-clause-state
-leave-requires-clause-state g c =
+pub leave-passed-requires-clause-state : goal.leave-passed-requires-clause-state
+leave-passed-requires-clause-state g c =
     let T = g.S.Sink.text in
     let sink = c.args.sink.now in
     let board = c.requires.opening.0 in
@@ -15,8 +15,8 @@ leave-requires-clause-state g c =
     let t : Texts = record { old = T sink; new = T c.boot_by_choice.new.sink } in
     stands_there b g.M.PeiStore.stands_for c.in_ok-booted.booted t (c.in_ok-booted.ensures.row board c.requires.opening.1).by
 
-pub leave-requires-clause-in_dxe : goal.leave-requires-clause-in_dxe
-leave-requires-clause-in_dxe g c =
+pub leave-passed-requires-clause-in_dxe : goal.leave-passed-requires-clause-in_dxe
+leave-passed-requires-clause-in_dxe g c =
     let T = g.S.Sink.text in
     let sink = c.args.sink.now in
     let board = c.requires.opening.0 in

@@ -1,4 +1,4 @@
-use Rattle.std.proofs.lemmas.Result.{err_from_is_err_and}
+use Rattle.std.proofs.{Common.refl, lemmas.Result.err_from_is_err_and}
 use Rattle.boot_laws.specs.Naming.{Chooser}
 use Rattle.boot_core.specs.Choices.{choices_of}
 use Rattle.recorded_boot.specs.ByOrder.{order_rules}
@@ -20,8 +20,8 @@ returns-clause-row g c = λ board here.
     let b : OrderBoot = record { board = board; catalog = by.catalog.now; fuel = c.args.fuel; order = order; well = c.requires.catalog; apart = c.requires.apart; few = c.requires.order } in
     let chooser : Chooser g.row.S.Denot = record { rules = order_rules by.catalog.now names order; text = T; faults = F } in
     let choices = choices_of chooser by.catalog.now c.args.fuel sink in
-    let alike : NamesAlike b choices.peims choices.drivers = record { in_pei = λ m named may. may.is c.requires.names; in_dxe = λ pei earlier m named may. may.is c.requires.names } in
-    follows b choices.peims choices.drivers g.M.PeiStore.stands_for c.in_ok-booted.booted (record { old = T sink; new = T c.boot_by_choice.new.sink }) c.in_ok-followed.field-0 alike (c.in_ok-booted.ensures.row board here).by c.in_ok-followed.ensures
+    let alike : NamesAlike b choices.peims choices.drivers choices.lets_driver = record { in_pei = λ m named may. may.is c.requires.names; in_dxe = λ pei earlier named may. may.is c.requires.names; lets = λ pei earlier m number. refl } in
+    follows b choices.peims choices.drivers choices.lets_driver g.M.PeiStore.stands_for c.in_ok-booted.booted (record { old = T sink; new = T c.boot_by_choice.new.sink }) c.in_ok-followed.field-0 alike (c.in_ok-booted.ensures.row board here).by c.in_ok-followed.ensures
 
 pub leave-followed-requires-clause-state : goal.leave-followed-requires-clause-state
 leave-followed-requires-clause-state g c =
