@@ -16,8 +16,8 @@ use pi_base::OutOfMemory;
 use std::alloc::Global;
 use store_model::PeiStore;
 
-// What a PEI hands on that has ended so, over its store.
-fn handed_by<M: PeiStore>(alloc: Global, end: PeiEnd, store: &M) -> Result<HandOff, OutOfMemory>
+/// What a PEI hands on that has ended so, over its store.
+pub fn handed_by<M: PeiStore>(alloc: Global, end: PeiEnd, store: &M) -> Result<HandOff, OutOfMemory>
     requires state { Present (M.stands_for store.now) Anything }
     ensures { IfOk result
         (λ handed. (m : PeiMachine) → M.stands_for store.now m.store → m.ended ≡ Some end → HandsOn m handed) }

@@ -4,7 +4,7 @@ use boot_io::{Sink, SinkFault};
 
 /// Drops what is put, and never fails.
 #[derive(Drop)]
-pub(crate) struct Nowhere;
+pub struct Nowhere;
 
 impl Sink for Nowhere {
     ghost use Rattle.std.specs.Prelude.{None};

@@ -44,4 +44,5 @@ mod Pieces
 mod Places
 pub mod Telling
 pub mod Passing
+pub mod Handed
 mod OnePass

@@ -1,5 +1,5 @@
 -- The order of EDK2's dispatchers leads to one boot.
-use Rattle.std.proofs.Common.{◌≡◌, ℕ, List, ◌++◌, Option, Some, None, refl, sym, ap, ◌∙◌, subst, inl, inr, option_map}
+use Rattle.std.proofs.Common.{◌≡◌, ℕ, true≢false, List, ◌++◌, Option, Some, None, refl, sym, ap, ◌∙◌, subst, inl, inr, option_map}
 use Rattle.pi_base.specs.declared.phase.Phase.TheVariants.{Dxe}
 use Rattle.mod_catalog.specs.{declared.catalogue.Catalog.Catalog, WellFormed.IsWellFormed}
 use Rattle.store_model.specs.{HandleState.HandleState, HandleState.no_handles, StoreState.Board, StoreState.StoreState}
@@ -10,10 +10,13 @@ use Rattle.boot_model.specs.declared.phase_end.PeiEnd.TheVariants.{Handoff, NoMe
 use Rattle.boot_model.specs.Text.{text_of}
 use Rattle.boot_core.specs.{Choices.NameOne, Closing.closing}
 use Rattle.boot_core.specs.ByChoice.{BootBy, EndsAfter, EndsInDxe, all_lines, before_by}
-use Rattle.boot_core.proofs.OneRun.{Boot, DxeStands, RunLaws, Runs, barred, came, dxe_barred, dxe_over, one_dxe_run, one_run, over}
+use Rattle.boot_core.specs.{declared.handing_on.HandOff.HandOff, HandOff.HandsOn}
+use Rattle.boot_core.proofs.OneRun.{Boot, DxeStands, RunLaws, Runs, Stands, barred, came, dxe_barred, dxe_over, one_dxe_run, one_run, over}
 use Rattle.recorded_boot.specs.{declared.passes.Passed.Passed, declared.passes.Turn.Turn, OneBoot.put, OnePass.OnePass, Starts.module_start}
 use Rattle.recorded_boot.specs.declared.passes.Passed.TheVariants.{Ended, No}
-use Rattle.recorded_boot.specs.Passes.{HasEndedShort, IsLeft, IsTurnOf, PassesTo, lacks_in, pass_choices, turn_at_end, turn_behind}
+use Rattle.recorded_boot.specs.HandOff.{OneHandOff}
+use Rattle.recorded_boot.proofs.Handed.{has_ended_so, one_handed}
+use Rattle.recorded_boot.specs.Passes.{HasEndedShort, IsLeft, IsTurnOf, PassesTo, is_short, lacks_in, pass_choices, turn_at_end, turn_behind}
 
 -- its choices name one module at most
 name_one : (catalog : Catalog) (fuel : ℕ) → NameOne (pass_choices catalog fuel)
@@ -185,9 +188,9 @@ two_no p text told turn other (inl x) (inr y) = absurd (ended_is_not_left p x.en
 two_no p text told turn other (inr x) (inl y) = absurd (ended_is_not_left p y.ended.boot text turn x)
 two_no p text told turn other (inr x) (inr y) = two_left p text told turn other x y
 
--- one that ended where it was nobody's turn any more is no other
+-- one that has not ended short is no other
 not_both : (p : Pass) (text told : List ℕ) (end : RunEnd) (turn : Turn) → PassesTo p.board p.catalog p.fuel (put text) (Ended end) → PassesTo p.board p.catalog p.fuel (put told) (No turn) → ⊥
-not_both p text told end turn x (inl y) = y.some (ap (λ (a : AtEnd). a.turn) (sym (two_boots p x.0.boot y.ended.boot)) ∙ x.2)
+not_both p text told end turn x (inl y) = true≢false (sym y.short ∙ ap (λ (a : AtEnd). is_short a.result a.turn) (sym (two_boots p x.0.boot y.ended.boot)) ∙ x.2)
 not_both p text told end turn x (inr y) = ended_is_not_left p x.0.boot told turn y
 
 pub one_pass : RunLaws → OnePass
@@ -203,3 +206,13 @@ one_pass laws board catalog fuel well one other text told p q = by one other p q
     by (Ended a) (No turn) x y = absurd (not_both pass text told a turn x y)
     by (No turn) (Ended b) x y = absurd (not_both pass told text b turn y x)
     by (No turn) (No rest) x y = let same = two_no pass text told turn rest x y in (ap No same.0, same.1)
+
+-- a machine that hands something on goes no further
+has_stopped : (p : Pass) (m : PeiMachine) (handed : HandOff) → HandsOn m handed → Stands (boot_of p) m
+has_stopped p m handed is = let so = has_ended_so m handed is in over so.0 so.1
+
+pub one_hand_off : RunLaws → OneHandOff
+one_hand_off laws board catalog fuel well one other p q =
+    let pass : Pass = record { board = board; catalog = catalog; fuel = fuel; well = well; laws = laws } in
+    let same = (one_run (boot_of pass) p.comes.earlier q.comes.earlier p.pei q.pei p.comes.run (has_stopped pass p.pei one p.is) q.comes.run (has_stopped pass q.pei other q.is)).1 in
+    one_handed p.pei one other p.is (subst (λ m. HandsOn m other) (sym same) q.is)

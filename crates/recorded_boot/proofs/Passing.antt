@@ -1,5 +1,6 @@
 -- The boot in the order of EDK2's dispatchers, from what the boot by that choice came to.
-use Rattle.std.proofs.Common.{◌≡◌, ℕ, true≢false, List, Option, None, Ok, refl, sym, ap, ◌∙◌, subst, inl, inr}
+use Rattle.std.proofs.Common.{◌≡◌, ℕ, true≢false, List, Option, Some, None, Result, Ok, Err, IfOk, refl, sym, ap, ◌∙◌, subst, inl, inr}
+use Rattle.pi_base.specs.declared.memory.OutOfMemory.{OutOfMemory}
 use Rattle.boot_trace.specs.Printing.{Texts}
 use Rattle.mod_catalog.specs.declared.catalogue.Catalog.{Catalog}
 use Rattle.store_model.specs.{HandleState.HandleState, StoreCall.Anything, StoreState.Board, StoreState.StoreState}
@@ -17,7 +18,9 @@ use Rattle.boot_core.specs.ByChoice.{BootBy, ComesInDxe, EndsAfter, HasCome, Has
 use Rattle.dxe_dispatch.specs.declared.boot.Barred.{Barred}
 use Rattle.recorded_boot.specs.{declared.passes.Passed.Passed, declared.passes.Turn.Turn, Leaving.store_of}
 use Rattle.recorded_boot.specs.declared.passes.Passed.TheVariants.{Ended, No}
-use Rattle.recorded_boot.specs.Passes.{HasEnded, IsNotLeftInPei, IsTurnOf, LeavesBoot, PassesTo, pass_choices, turn_at_end, turn_rules}
+use Rattle.boot_core.specs.declared.handing_on.HandOff.{HandOff}
+use Rattle.recorded_boot.specs.HandOff.{HandsOnInTurns, LeavesHandOff}
+use Rattle.recorded_boot.specs.Passes.{HasEnded, IsNotLeftInPei, IsTurnOf, LeavesBoot, PassesTo, is_short, pass_choices, turn_at_end, turn_rules}
 use Rattle.recorded_boot.proofs.OrderRuns.{aimed_of, dxe_run_of, run_of}
 
 -- a boot by the choice in that order, over a sink
@@ -96,13 +99,16 @@ ran_passes b stands ran t passed free by leaves = stage passed (leaves by.boot.p
     turn_is : ran.before.turn ≡ turn_at_end boot
     turn_is = ap (λ (x : Before). x.turn) by.before_is ∙ same_turn b by.boot.pei by.boot.how by.boot.lines by.boot.handles by.boot.result by.boot.ends
 
+    short_is : is_short ran.«end» ran.before.turn ≡ is_short by.boot.result (turn_at_end boot)
+    short_is = ap (λ (x : RunEnd). is_short x ran.before.turn) by.end_is ∙ ap (is_short by.boot.result) turn_is
+
     stage : (passed : Passed) → LeavesBoot b.catalog by.boot.pei.store (B.Ended ran) passed → PassesTo b.board b.catalog b.fuel t passed
-    stage (Ended end) so = (ended, sym by.end_is ∙ so.1, sym turn_is ∙ so.0)
+    stage (Ended end) so = (ended, sym by.end_is ∙ so.1, sym short_is ∙ so.0)
     stage (No turn) so =
         let Is : HandleState → Option ℕ → Type 0 = λ handles number. IsTurnOf b.catalog by.boot.pei.store handles number turn in
         inl (record {
           ended = ended;
-          some = λ none. so.0 (turn_is ∙ none);
+          short = sym short_is ∙ so.0;
           is = subst (Is by.boot.handles) turn_is (subst (λ h. Is h ran.before.turn) by.handles_are so.1);
         })
 
@@ -154,3 +160,17 @@ pub stands_there : {M S : Type 0} (b : TurnBoot S) (stands : M → StoreState �
 stands_there b stands (B.Ended ran) t by = (by.boot.pei.store, by.left.store_is, tt)
 stands_there b stands (B.BarredInPei barred) t by = (by.m.store, by.store_is, tt)
 stands_there b stands (B.BarredInDxe left barred) t by = (by.pei.store, by.left_is.store_is, tt)
+
+-- its PEI hands on what its store does
+hands_on : {M S : Type 0} (b : TurnBoot S) (stands : M → StoreState → Type 0) (booted : Booted M) (t : Texts) (handed : HandOff) → HasCome (choices b) stands b.board b.catalog b.fuel t.old t.new booted
+    → LeavesHandOff stands booted handed → HandsOnInTurns b.board b.catalog b.fuel handed
+hands_on b stands (B.Ended ran) t handed by leaves =
+    record { pei = by.boot.pei; comes = pei_run b by.boot.pei by.boot.comes; is = leaves by.boot.pei by.left.store_is (by.boot.ended ∙ ap Some (sym by.how_is)) }
+hands_on b stands (B.BarredInPei barred) t handed by leaves = absurd leaves
+hands_on b stands (B.BarredInDxe left barred) t handed by leaves =
+    record { pei = by.pei; comes = pei_run b by.pei by.comes; is = leaves by.pei by.left_is.store_is (by.ended ∙ ap Some (sym by.how_is)) }
+
+pub all_hands_on : {M S : Type 0} (b : TurnBoot S) (stands : M → StoreState → Type 0) (booted : Booted M) (t : Texts) (handed : Result HandOff OutOfMemory) → HasCome (choices b) stands b.board b.catalog b.fuel t.old t.new booted
+    → IfOk handed (LeavesHandOff stands booted) → IfOk handed (HandsOnInTurns b.board b.catalog b.fuel)
+all_hands_on b stands booted t (Ok handed) by leaves = hands_on b stands booted t handed by leaves
+all_hands_on b stands booted t (Err e) by leaves = tt

@@ -37,3 +37,4 @@ pub mod Putting
 pub mod Spelled
 pub mod Passes
 pub mod OnePass
+pub mod HandOff

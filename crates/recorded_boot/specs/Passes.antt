@@ -1,6 +1,6 @@
--- The boot in the order of EDK2's dispatchers: the module whose turn it is starts, and no other. It ends where it is nobody's turn any more, or is left where the driver whose turn it is may not start.
+-- The boot in the order of EDK2's dispatchers: the module whose turn it is starts, and no other. It ends where it is nobody's turn any more, or where fuel or room is wanting; it is left where the driver whose turn it is may not start.
 -- Own; PI 1.8, volumes 1 and 2, leave the order of the modules that may start to the dispatchers.
-use Rattle.std.specs.Prelude.{◌≡◌, ◌≢◌, ◌⊎◌, ℕ, true, false, List, [], ◌++◌, Option, Some, None, Result, Ok, Err, ⊤, option_map}
+use Rattle.std.specs.Prelude.{◌≡◌, ◌⊎◌, ℕ, Bool, true, false, List, [], ◌++◌, Option, Some, None, Result, Ok, Err, ⊤, is_some, option_map}
 use Rattle.std.specs.Io.KnownBytes.{Appends}
 use Rattle.boot_plan.specs.declared.plan.Plan.{Plan}
 use Rattle.boot_trace.specs.Printing.{Texts}
@@ -9,6 +9,7 @@ use Rattle.mod_catalog.specs.{declared.catalogue.Catalog.Catalog, declared.catal
 use Rattle.mod_catalog.specs.ImageFault.{IsImageFault}
 use Rattle.store_model.specs.{HandleState.HandleState, StoreState.Board, StoreState.StoreState}
 use Rattle.boot_model.specs.{declared.line.RunEnd.RunEnd, declared.phase_end.PeiEnd.TheVariants.Handoff, DxeChoice.is_that}
+use Rattle.boot_model.specs.declared.line.RunEnd.TheVariants as E
 use Rattle.boot_model.specs.{DxeMachine.DxeMachine, DxeRun.dxe_opening, FreeRun.AreFreeLines, PeiMachine.PeiMachine, PeiRun.pei_opening}
 use Rattle.boot_model.specs.{PlanBoard.board_of, Text.text_of}
 use Rattle.boot_laws.specs.Naming.{Rules}
@@ -74,10 +75,18 @@ pub record HasEnded (board : Board) (catalog : Catalog) (fuel : ℕ) (t : Texts)
 abbrev pub turn_at_end : {board : Board} {catalog : Catalog} {fuel : ℕ} → BootBy (pass_choices catalog fuel) board catalog fuel → Option ℕ
 turn_at_end boot = (before_by (ending_of boot) boot.how boot.ends).turn
 
+-- a boot that ended so, with this module's turn left, has ended short: no fuel and no room was wanting
+abbrev pub is_short : RunEnd → Option ℕ → Bool
+is_short E.Done turn = is_some turn
+is_short E.NoMemory turn = false
+is_short E.NoIpl turn = false
+is_short E.Spent turn = false
+is_short E.Deep turn = false
+
 -- it has ended where it was still somebody's turn
 pub record HasEndedShort (board : Board) (catalog : Catalog) (fuel : ℕ) (t : Texts) (turn : Turn) : Type 0 where
   pub ended : HasEnded board catalog fuel t
-  pub some : turn_at_end ended.boot ≢ None
+  pub short : is_short ended.boot.result (turn_at_end ended.boot) ≡ true
   pub is : IsTurnOf catalog ended.boot.pei.store ended.boot.handles (turn_at_end ended.boot) turn
 
 -- or it was left in DXE, where another driver would start
@@ -96,13 +105,13 @@ pub record IsLeft (board : Board) (catalog : Catalog) (fuel : ℕ) (t : Texts) (
 
 -- what the boot in that order came to
 abbrev pub PassesTo : Board → Catalog → ℕ → Texts → Passed → Type 0
-PassesTo board catalog fuel t (Ended end) = (ended : HasEnded board catalog fuel t) × (ended.boot.result ≡ end) × (turn_at_end ended.boot ≡ None)
+PassesTo board catalog fuel t (Ended end) = (ended : HasEnded board catalog fuel t) × (ended.boot.result ≡ end) × (is_short ended.boot.result (turn_at_end ended.boot) ≡ false)
 PassesTo board catalog fuel t (No turn) = HasEndedShort board catalog fuel t turn ⊎ IsLeft board catalog fuel t turn
 
 -- by what the boot has come to, over the state of its store
 abbrev pub LeavesBoot : {M : Type 0} → Catalog → StoreState → Booted M → Passed → Type 0
-LeavesBoot catalog s (B.Ended ran) (Ended end) = (ran.before.turn ≡ None) × (ran.«end» ≡ end)
-LeavesBoot catalog s (B.Ended ran) (No turn) = (ran.before.turn ≢ None) × IsTurnOf catalog s ran.handles ran.before.turn turn
+LeavesBoot catalog s (B.Ended ran) (Ended end) = (is_short ran.«end» ran.before.turn ≡ false) × (ran.«end» ≡ end)
+LeavesBoot catalog s (B.Ended ran) (No turn) = (is_short ran.«end» ran.before.turn ≡ true) × IsTurnOf catalog s ran.handles ran.before.turn turn
 LeavesBoot catalog s (B.BarredInPei barred) passed = ⊥
 LeavesBoot catalog s (B.BarredInDxe pei barred) (Ended end) = ⊥
 LeavesBoot catalog s (B.BarredInDxe pei barred) (No turn) = IsTurnOf catalog s barred.handles barred.before.turn turn

@@ -9,7 +9,7 @@ ghost use Rattle.pi_base.specs.declared.phase.Phase.TheVariants.{Dxe};
 ghost use Rattle.store_model.specs.{Service.Present, Service.OfEach, StateFacts.IsBoard, StoreCall.Anything};
 ghost use Rattle.store_model.specs.StoreState.{Board, empty_store};
 ghost use Rattle.recorded_boot.specs.{Follow.FaultsAfter, Leaving.store_of, OnePass.OnePass, Starts.module_start};
-ghost use Rattle.recorded_boot.specs.Passes.{IsNotLeftInPei, IsTurnOf, LeavesBoot, Passes, PassesOver, PassesTo, lacks_in};
+ghost use Rattle.recorded_boot.specs.Passes.{IsNotLeftInPei, IsTurnOf, LeavesBoot, Passes, PassesOver, PassesTo, is_short, lacks_in};
 
 use crate::follow::{FollowFault, Installed, fault_of, lacking};
 use crate::order::Start;
@@ -77,7 +77,7 @@ pub struct Turn {
 /// How a boot in the order of EDK2's dispatchers ends.
 #[derive(Drop)]
 pub enum Passed {
-    /// Its end with this result, where it is nobody's turn any more.
+    /// Its end with this result: it is nobody's turn any more, or fuel or room is wanting.
     Ended(RunEnd),
     /// The driver whose turn it is may not start there: its expression held when it was scheduled, and does not any more, or a driver of a new volume's a priori file comes first.
     No(Turn),
@@ -133,6 +133,16 @@ fn turn_of<M: PeiStore>(
     Ok(Turn { start, lacks })
 }
 
+// Whether a boot that ended so has ended short, with this module's turn left: no fuel and no room was wanting.
+fn ends_short(end: RunEnd, turn: Option<u32>) -> bool
+    ensures { result ≡ is_short end turn }
+{
+    match end {
+        RunEnd::Done => turn.is_some(),
+        RunEnd::NoMemory | RunEnd::NoIpl | RunEnd::Spent | RunEnd::Deep => false,
+    }
+}
+
 // How a boot ends, by what it has come to.
 fn leave<M: PeiStore + Drop>(
     alloc: Global,
@@ -146,7 +156,7 @@ fn leave<M: PeiStore + Drop>(
 {
     match booted {
         Booted::Ended(ran) => {
-            if ran.before.turn.is_none() {
+            if !ends_short(ran.end, ran.before.turn) {
                 return Ok(Passed::Ended(ran.end));
             }
             let installed = Installed {

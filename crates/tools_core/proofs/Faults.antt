@@ -11,6 +11,8 @@ use Rattle.tools_core.specs.declared.status.ToolStatus.TheVariants as S
 use Rattle.tools_core.specs.{declared.command_line.PlanTool.PlanTool, declared.command_line.TraceTool.TraceTool}
 use Rattle.tools_core.specs.declared.command_line.PlanTool.TheVariants as P
 use Rattle.tools_core.specs.declared.command_line.TraceTool.TheVariants.{Check, Explain}
+use Rattle.boot_core.specs.{declared.handing_on.HandOff.HandOff, HandOff.IsHandOff}
+use Rattle.recorded_boot.specs.HandOff.{IsHandOffInTurns}
 use Rattle.tools_core.specs.CheckReport.{VerdictReport, no, yes}
 use Rattle.tools_core.specs.ExplainReport.{ExplainReport, explained_so, faulty_image}
 use Rattle.tools_core.specs.ToldReport.{ToldReport, goes_wrong, not_read, runs_so}
@@ -28,6 +30,7 @@ use Rattle.recorded_boot.specs.declared.follow.followed.Followed.TheVariants as 
 use Rattle.recorded_boot.specs.declared.passes.Passed.{Passed}
 use Rattle.recorded_boot.specs.declared.passes.Passed.TheVariants as Q
 use Rattle.tools_core.specs.PassesReport.{PassesReport, boots_so, wrong_image}
+use Rattle.tools_core.specs.TurnsReport.{TurnsReport, as_a_trace, in_turns_so, passes_limit, unsound_image}
 use Rattle.tools_core.specs.MpReport.{MpReport, ran, refused}
 use Rattle.tools_core.specs.Outcome.{ContentReport, Names, Outcome, both, commands_long, content, hobs_long, long, usage, words_ask_follow, words_ask_plan, words_ask_map, words_ask_tool, words_ask_trace}
 use Rattle.tools_core.specs.PrintReport.{PrintReport, printed, no_volume}
@@ -132,10 +135,10 @@ end_tells E.NoIpl status is = other status S.NoHandoff (λ (e : S.NoHandoff ≡ 
 end_tells E.Spent status is = other status S.Spent (λ (e : S.Spent ≡ S.FileFault). absurd (cc)) is
 end_tells E.Deep status is = other status S.Deep (λ (e : S.Deep ≡ S.FileFault). absurd (cc)) is
 
-hobs_tell : (plan : Plan) (images : List (List ℕ)) → Tells (HobsReport plan images)
-hobs_tell plan images status out (bad_image fault p is t) = other status S.ImageRefused (λ (e : S.ImageRefused ≡ S.FileFault). absurd (cc)) is
-hobs_tell plan images status out (handed hobs p is t) = done_tells status is
-hobs_tell plan images status out (ended end p is t) = end_tells end status is
+hobs_tell : (Hands : HandOff → Type 0) (plan : Plan) (images : List (List ℕ)) → Tells (HobsReport Hands plan images)
+hobs_tell Hands plan images status out (bad_image fault p is t) = other status S.ImageRefused (λ (e : S.ImageRefused ≡ S.FileFault). absurd (cc)) is
+hobs_tell Hands plan images status out (handed hobs p is t) = done_tells status is
+hobs_tell Hands plan images status out (ended end p is t) = end_tells end status is
 
 -- nor what a boot in the order of EDK2's dispatchers came to
 passed_tells : (passed : Passed) (status : ToolStatus) → status ≡ passed_status passed → status ≡ S.FileFault → ⊥
@@ -146,9 +149,17 @@ passes_tell : (plan : Plan) (images : List (List ℕ)) → Tells (PassesReport p
 passes_tell plan images status out (wrong_image fault p is t) = other status S.ImageRefused (λ (e : S.ImageRefused ≡ S.FileFault). absurd (cc)) is
 passes_tell plan images status out (boots_so catalog sound passed lines p is t) = passed_tells passed status is
 
+turns_tell : (plan : Plan) (images : List (List ℕ)) → Tells (TurnsReport plan images)
+turns_tell plan images status out (unsound_image fault p is t) = other status S.ImageRefused (λ (e : S.ImageRefused ≡ S.FileFault). absurd (cc)) is
+turns_tell plan images status out (in_turns_so catalog sound (Q.Ended end) text p (as_a_trace few o)) = trace_tells Explain text plan images status out o
+turns_tell plan images status out (in_turns_so catalog sound (Q.Ended end) text p (passes_limit many is t)) = long_tells status is
+turns_tell plan images status out (in_turns_so catalog sound (Q.No turn) text p o) = other status S.No (λ (e : S.No ≡ S.FileFault). absurd (cc)) o.0
+
 plan_tells : (tool : PlanTool) (plan : Plan) (images : List (List ℕ)) → Tells (PlanReport tool plan images)
-plan_tells P.Hobs plan images = hobs_tell plan images
+plan_tells P.Hobs plan images = hobs_tell (IsHandOff plan images) plan images
+plan_tells P.HobsInTurns plan images = hobs_tell (IsHandOffInTurns plan images) plan images
 plan_tells P.Reasons plan images = explain_tells plan images
+plan_tells P.ReasonsInTurns plan images = turns_tell plan images
 plan_tells P.Passes plan images = passes_tell plan images
 
 -- nor what a boot in an order of starts came to

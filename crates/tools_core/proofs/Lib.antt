@@ -10,6 +10,7 @@ mod OneCheck
 mod OneFollow
 mod OneExplain
 mod FewLines
+mod HandedOn
 mod Explanations
 mod StartNames
 mod OneTrace

@@ -1,5 +1,5 @@
--- A plan and its images have one report on a trace, where their catalogue has; and the text of a plan whose HOB list is asked for has one.
-use Rattle.std.proofs.Common.{◌≡◌, ℕ, List, Option, Some, None, inl, inr, sym, ap, ◌∙◌, subst, arith, option_and_then}
+-- A plan and its images have one report on a trace, where their catalogue has; and so on the HOB list that is handed on.
+use Rattle.std.proofs.Common.{◌≡◌, ℕ, List, Option, Some, None, inl, inr, sym, ap, ◌∙◌, subst, arith}
 use Rattle.std.proofs.lemmas.Bool.{cases_lt}
 use Rattle.boot_plan.specs.{declared.plan.Plan.Plan, declared.fault.PlanFault.PlanFault, declared.fault.PlanCause.PlanCause}
 use Rattle.boot_plan.specs.PlanText.{IsPlan, IsPlanFault}
@@ -14,8 +14,9 @@ use Rattle.boot_core.specs.Job.{IsJobOf, IsNamedIn, IsTextRefusal, text_long, te
 use Rattle.tools_core.specs.{declared.command_line.TraceTool.TraceTool, ReportText.end_status, declared.status.ToolStatus.ToolStatus}
 use Rattle.tools_core.specs.CheckReport.{VerdictReport, no, yes}
 use Rattle.boot_core.specs.declared.handing_on.HandOff.TheVariants.{Hobs, Ended}
-use Rattle.boot_core.specs.HandOff.{HandsOn, result_of}
-use Rattle.boot_model.specs.{declared.line.RunEnd.RunEnd, declared.phase_end.PeiEnd.PeiEnd}
+use Rattle.boot_core.specs.{declared.handing_on.HandOff.HandOff, HandOff.HandsOn, HandOff.IsHandOff}
+use Rattle.boot_model.specs.declared.line.RunEnd.{RunEnd}
+use Rattle.recorded_boot.proofs.Handed.{one_handed}
 use Rattle.tools_core.specs.HobsReport.{HobsReport, bad_image, ended, handed}
 use Rattle.tools_core.specs.JobOutcome.{JobOutcome, JobReport, job_long, job_plan, job_read, no_job}
 use Rattle.tools_core.specs.OneOutcome.{AreAllTold, IsOne}
@@ -56,7 +57,7 @@ one_verdict plan images catalog text a b s t (no m off e u) (no n also f v) =
 abbrev pub IsOneSaid : TraceTool → List ℕ → Plan → List (List ℕ) → Type 0
 IsOneSaid tool text plan images = (catalog : Catalog) → IsCatalogue plan images catalog → HasNoTwins catalog → IsOne (SaidBy tool plan images catalog text)
 
-one_report : Laws → (tool : TraceTool) (text : List ℕ) (plan : Plan) (images : List (List ℕ)) → IsOneSaid tool text plan images → Each AreBytes images → IsOne (TraceReport tool plan images text)
+pub one_report : Laws → (tool : TraceTool) (text : List ℕ) (plan : Plan) (images : List (List ℕ)) → IsOneSaid tool text plan images → Each AreBytes images → IsOne (TraceReport tool plan images text)
 one_report laws tool text plan images one are a b s t (image_refused f p e u) (image_refused g q h v) = (e ∙ sym h, u ∙ ap image_line (laws.image_faults plan images f g are p q) ∙ sym v)
 one_report laws tool text plan images one are a b s t (image_refused f p e u) (twins c sound n q h v) = absurd (laws.catalogue_or_fault plan images c f are sound p)
 one_report laws tool text plan images one are a b s t (image_refused f p e u) (said c sound apart o) = absurd (laws.catalogue_or_fault plan images c f are sound p)
@@ -137,42 +138,42 @@ pub one_trace : Laws → (tool : TraceTool) (told : List ℕ → Option (List �
 one_trace laws tool told content text one all =
     one_of_job laws (λ plan images. TraceReport tool plan images text) (λ plan images are. one_report laws tool text plan images (one plan images) are) told content all
 
--- a machine hands one list on
-one_list : (m : PeiMachine) (a b : List ℕ) → HandsOn m (Hobs a) → HandsOn m (Hobs b) → a ≡ b
-one_list m a b p q = p.1 ∙ sym q.1
+-- the images have one catalogue of which such a thing is handed on, and one such thing
+pub record HandsOneOn (plan : Plan) (images : List (List ℕ)) (Hands : HandOff → Type 0) : Type 0 where
+  pub one : (x y : HandOff) → Hands x → Hands y → x ≡ y
+  pub catalogue : (x : HandOff) → Hands x → (catalog : Catalog) × IsCatalogue plan images catalog
 
-one_end : (m : PeiMachine) (a b : RunEnd) → HandsOn m (Ended a) → HandsOn m (Ended b) → a ≡ b
-one_end m a b p q = let same : Some a ≡ Some b = sym p ∙ q in cc
+no_fault : Laws → (plan : Plan) (images : List (List ℕ)) (Hands : HandOff → Type 0) → HandsOneOn plan images Hands → Each AreBytes images → (x : HandOff) (fault : ImageFault) → Hands x → IsImageFault plan images fault → ⊥
+no_fault laws plan images Hands on are x fault p q = let of = on.catalogue x p in laws.catalogue_or_fault plan images of.0 fault are of.1 q
 
-list_or_end : (m : PeiMachine) (a : List ℕ) (b : RunEnd) → HandsOn m (Hobs a) → HandsOn m (Ended b) → ⊥
-list_or_end m a b p q =
-    let none : option_and_then result_of m.ended ≡ None = ap (λ (o : Option PeiEnd). option_and_then result_of o) p.0 in
-    let same : None ≡ Some b = sym none ∙ q in
-    cc
+one_list : (a b : List ℕ) → Hobs a ≡ Hobs b → a ≡ b
+one_list a b same = cc
 
--- the last machine of PEI, whatever the catalogue of the images
-of_one : Laws → (plan : Plan) (images : List (List ℕ)) (a b : Catalog) → IsCatalogue plan images a → IsCatalogue plan images b → pei_end (board_of plan b images) b plan.fuel ≡ pei_end (board_of plan a images) a plan.fuel
-of_one laws plan images a b p q = ap (λ (x : Catalog). pei_end (board_of plan x images) x plan.fuel) (laws.catalogues plan images b a q p)
+one_end : (a b : RunEnd) → Ended a ≡ Ended b → a ≡ b
+one_end a b same = cc
 
-one_hobs_report : Laws → (plan : Plan) (images : List (List ℕ)) → Each AreBytes images → IsOne (HobsReport plan images)
-one_hobs_report laws plan images are a b s t (bad_image f p e u) (bad_image g q h v) = (e ∙ sym h, u ∙ ap image_line (laws.image_faults plan images f g are p q) ∙ sym v)
-one_hobs_report laws plan images are a b s t (bad_image f p e u) (handed hobs q h v) = absurd (laws.catalogue_or_fault plan images q.catalog f are q.sound p)
-one_hobs_report laws plan images are a b s t (bad_image f p e u) (ended end q h v) = absurd (laws.catalogue_or_fault plan images q.catalog f are q.sound p)
-one_hobs_report laws plan images are a b s t (handed hobs p e u) (bad_image g q h v) = absurd (laws.catalogue_or_fault plan images p.catalog g are p.sound q)
-one_hobs_report laws plan images are a b s t (ended end p e u) (bad_image g q h v) = absurd (laws.catalogue_or_fault plan images p.catalog g are p.sound q)
-one_hobs_report laws plan images are a b s t (handed hobs p e u) (handed others q h v) =
-    let here = subst (λ (m : PeiMachine). HandsOn m (Hobs others)) (of_one laws plan images p.catalog q.catalog p.sound q.sound) q.is in
-    (e ∙ sym h, u ∙ one_list (pei_end (board_of plan p.catalog images) p.catalog plan.fuel) hobs others p.is here ∙ sym v)
-one_hobs_report laws plan images are a b s t (handed hobs p e u) (ended end q h v) =
-    let here = subst (λ (m : PeiMachine). HandsOn m (Ended end)) (of_one laws plan images p.catalog q.catalog p.sound q.sound) q.is in
-    absurd (list_or_end (pei_end (board_of plan p.catalog images) p.catalog plan.fuel) hobs end p.is here)
-one_hobs_report laws plan images are a b s t (ended end p e u) (handed others q h v) =
-    let here = subst (λ (m : PeiMachine). HandsOn m (Hobs others)) (of_one laws plan images p.catalog q.catalog p.sound q.sound) q.is in
-    absurd (list_or_end (pei_end (board_of plan p.catalog images) p.catalog plan.fuel) others end here p.is)
-one_hobs_report laws plan images are a b s t (ended end p e u) (ended other q h v) =
-    let here = subst (λ (m : PeiMachine). HandsOn m (Ended other)) (of_one laws plan images p.catalog q.catalog p.sound q.sound) q.is in
-    let same : end ≡ other = one_end (pei_end (board_of plan p.catalog images) p.catalog plan.fuel) end other p.is here in
+list_or_end : (a : List ℕ) (b : RunEnd) → Hobs a ≡ Ended b → ⊥
+list_or_end a b same = cc
+
+pub one_hobs_report : Laws → (plan : Plan) (images : List (List ℕ)) (Hands : HandOff → Type 0) → HandsOneOn plan images Hands → Each AreBytes images → IsOne (HobsReport Hands plan images)
+one_hobs_report laws plan images Hands on are a b s t (bad_image f p e u) (bad_image g q h v) = (e ∙ sym h, u ∙ ap image_line (laws.image_faults plan images f g are p q) ∙ sym v)
+one_hobs_report laws plan images Hands on are a b s t (bad_image f p e u) (handed hobs q h v) = absurd (no_fault laws plan images Hands on are (Hobs hobs) f q p)
+one_hobs_report laws plan images Hands on are a b s t (bad_image f p e u) (ended end q h v) = absurd (no_fault laws plan images Hands on are (Ended end) f q p)
+one_hobs_report laws plan images Hands on are a b s t (handed hobs p e u) (bad_image g q h v) = absurd (no_fault laws plan images Hands on are (Hobs hobs) g p q)
+one_hobs_report laws plan images Hands on are a b s t (ended end p e u) (bad_image g q h v) = absurd (no_fault laws plan images Hands on are (Ended end) g p q)
+one_hobs_report laws plan images Hands on are a b s t (handed hobs p e u) (handed others q h v) = (e ∙ sym h, u ∙ one_list hobs others (on.one (Hobs hobs) (Hobs others) p q) ∙ sym v)
+one_hobs_report laws plan images Hands on are a b s t (handed hobs p e u) (ended end q h v) = absurd (list_or_end hobs end (on.one (Hobs hobs) (Ended end) p q))
+one_hobs_report laws plan images Hands on are a b s t (ended end p e u) (handed others q h v) = absurd (list_or_end others end (on.one (Hobs others) (Ended end) q p))
+one_hobs_report laws plan images Hands on are a b s t (ended end p e u) (ended other q h v) =
+    let same : end ≡ other = one_end end other (on.one (Ended end) (Ended other) p q) in
     (e ∙ ap end_status same ∙ sym h, u ∙ ap end_line same ∙ sym v)
 
-pub one_hobs : Laws → (told : List ℕ → Option (List ℕ)) (content : List ℕ) → AreAllTold told (IsNamedIn told content) → IsOne (JobOutcome HobsReport told content)
-one_hobs laws told content all = one_of_job laws HobsReport (one_hobs_report laws) told content all
+-- the machine's own boot hands one thing on
+pub hands_one_on : Laws → (plan : Plan) (images : List (List ℕ)) → HandsOneOn plan images (IsHandOff plan images)
+hands_one_on laws plan images = record {
+  one = λ x y p q.
+      let same : pei_end (board_of plan q.catalog images) q.catalog plan.fuel ≡ pei_end (board_of plan p.catalog images) p.catalog plan.fuel =
+      ap (λ (c : Catalog). pei_end (board_of plan c images) c plan.fuel) (laws.catalogues plan images q.catalog p.catalog q.sound p.sound) in
+      one_handed (pei_end (board_of plan p.catalog images) p.catalog plan.fuel) x y p.is (subst (λ (m : PeiMachine). HandsOn m y) same q.is);
+  catalogue = λ x p. (p.catalog, p.sound);
+}

@@ -13,7 +13,6 @@ use Rattle.boot_reasons.specs.{Boots.HasOneExplanation, Explained.IsExplainedBy,
 use Rattle.tools_core.specs.ExplainReport.{ExplainReport, IsExplanation, RunsItself, explained_so, faulty_image}
 use Rattle.tools_core.specs.{JobOutcome.JobOutcome, OneOutcome.AreAllTold, OneOutcome.IsOne, Refusals.image_line}
 use Rattle.tools_core.proofs.OneCheck as C
-use Rattle.tools_core.proofs.OneCheck.{one_of_job}
 
 -- the laws of plans and catalogues; a catalogue has one text, and a boot by choices that name one module at most one explanation
 pub record Laws : Type 1 where
@@ -37,13 +36,10 @@ one_text Run texts runs images catalog a b p q =
     p.is ∙ ap (λ front. front ++ explained_text catalog.modules p.explained) (texts catalog.volumes images catalog.modules p.front q.front p.catalogue q.catalogue)
     ∙ ap (λ (e : Explained). q.front ++ explained_text catalog.modules e) (runs p.explained q.explained p.run q.run) ∙ sym q.is
 
-one_report : Laws → (plan : Plan) (images : List (List ℕ)) → Each AreBytes images → IsOne (ExplainReport plan images)
+pub one_report : Laws → (plan : Plan) (images : List (List ℕ)) → Each AreBytes images → IsOne (ExplainReport plan images)
 one_report laws plan images are a b s t (faulty_image f p e u) (faulty_image g q h v) = (e ∙ sym h, u ∙ ap image_line (laws.plans.image_faults plan images f g are p q) ∙ sym v)
 one_report laws plan images are a b s t (faulty_image f p e u) (explained_so c sound o h) = absurd (laws.plans.catalogue_or_fault plan images c f are sound p)
 one_report laws plan images are a b s t (explained_so c sound o e) (faulty_image g q h v) = absurd (laws.plans.catalogue_or_fault plan images c g are sound q)
 one_report laws plan images are a b s t (explained_so c sound o e) (explained_so d also u h) =
     let P : Catalog → Type 0 = λ x. IsExplanation (RunsItself plan images x) images x t in
     (e ∙ sym h, one_text (RunsItself plan images c) laws.texts (one_run laws own_choices (board_of plan c images) c plan.fuel (laws.well plan images c sound) (own_name_one c plan.fuel)) images c s t o (subst P (laws.plans.catalogues plan images d c also sound) u))
-
-pub one_explain : Laws → (told : List ℕ → Option (List ℕ)) (content : List ℕ) → AreAllTold told (IsNamedIn told content) → IsOne (JobOutcome ExplainReport told content)
-one_explain laws told content all = one_of_job laws.plans ExplainReport (one_report laws) told content all

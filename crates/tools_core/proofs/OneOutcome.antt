@@ -11,7 +11,7 @@ use Rattle.tools_core.specs.declared.command_line.TraceTool.TheVariants.{Check, 
 use Rattle.tools_core.specs.declared.command_line.Tool.TheVariants.{AssembleDepex, AssembleScript, ReadPei, ReadDxe, ReadScript, Mp, Volume, ReadVolume}
 use Rattle.tools_core.specs.{declared.status.ToolStatus.ToolStatus, GcdReport.GcdReport, JobOutcome.JobOutcome}
 use Rattle.tools_core.specs.declared.status.ToolStatus.TheVariants as S
-use Rattle.tools_core.specs.CommandLine.{AskForFollow, AskForMap, AskForPlan, AskForTool, AskForTrace, tool_words}
+use Rattle.tools_core.specs.CommandLine.{AskForFollow, AskForMap, AskForPlan, AskForTool, AskForTrace, plan_words, tool_words}
 use Rattle.tools_core.specs.Ends.{EndsBy, Ends, IsDue, Kind, OfMemory, OfSink, OfText, Trail, kind_of, outcome, status_after, unread}
 use Rattle.tools_core.specs.FollowReport.{FollowNames, FollowOutcome, OrderTextsOutcome, long_order, long_plan, names_order, names_plan, names_volume, order_limit, texts_read}
 use Rattle.tools_core.specs.PlanReport.{PlanNames, PlanOutcome, PlanReport, names_a_volume, names_the_plan, over_long, text_read}
@@ -45,6 +45,12 @@ abbrev head : List (List ℕ) → List ℕ
 head [] = []
 head (word ∷ words) = word
 
+abbrev second : List (List ℕ) → List ℕ
+second words = head (rest words)
+
+abbrev third : List (List ℕ) → List ℕ
+third words = head (rest (rest words))
+
 map_or_trace : (words : List (List ℕ)) (hobs commands : List ℕ) (asked : TraceTool) (plan trace : List ℕ) → AskForMap words hobs commands → AskForTrace words asked plan trace → ⊥
 map_or_trace words hobs commands Check plan trace p q = let e = ap first (sym p.0 ∙ q.0) in omega (arith, e)
 map_or_trace words hobs commands Explain plan trace p q = let e = ap first (sym p.0 ∙ q.0) in omega (arith, e)
@@ -73,14 +79,20 @@ trace_or_tool words Explain plan trace tool file p q = told_or_tool words plan t
 
 plan_or_map : (words : List (List ℕ)) (asked : PlanTool) (plan hobs commands : List ℕ) → AskForPlan words asked plan → AskForMap words hobs commands → ⊥
 plan_or_map words P.Hobs plan hobs commands p q = let e = ap first (sym p.0 ∙ q.0) in omega (arith, e)
+plan_or_map words P.HobsInTurns plan hobs commands p q = let e = ap first (sym p.0 ∙ q.0) in omega (arith, e)
 plan_or_map words P.Reasons plan hobs commands p q = let e = ap first (sym p.0 ∙ q.0) in omega (arith, e)
+plan_or_map words P.ReasonsInTurns plan hobs commands p q = let e = ap first (sym p.0 ∙ q.0) in omega (arith, e)
 plan_or_map words P.Passes plan hobs commands p q = let e = ap first (sym p.0 ∙ q.0) in omega (arith, e)
 
 plan_or_trace : (words : List (List ℕ)) (asked : PlanTool) (plan : List ℕ) (tool : TraceTool) (other trace : List ℕ) → AskForPlan words asked plan → AskForTrace words tool other trace → ⊥
 plan_or_trace words P.Hobs plan Check other trace p q = let e = ap first (sym p.0 ∙ q.0) in omega (arith, e)
 plan_or_trace words P.Hobs plan Explain other trace p q = let e = ap first (sym p.0 ∙ q.0) in omega (arith, e)
+plan_or_trace words P.HobsInTurns plan Check other trace p q = let e = ap first (sym p.0 ∙ q.0) in omega (arith, e)
+plan_or_trace words P.HobsInTurns plan Explain other trace p q = let e = ap first (sym p.0 ∙ q.0) in omega (arith, e)
 plan_or_trace words P.Reasons plan Check other trace p q = let e = ap first (sym p.0 ∙ q.0) in omega (arith, e)
 plan_or_trace words P.Reasons plan Explain other trace p q = let none : [] ≡ trace ∷ [] = ap (λ (x : List (List ℕ)). rest (rest x)) (sym p.0 ∙ q.0) in cc
+plan_or_trace words P.ReasonsInTurns plan Check other trace p q = let e = ap first (sym p.0 ∙ q.0) in omega (arith, e)
+plan_or_trace words P.ReasonsInTurns plan Explain other trace p q = q.2.1 (ap third (sym q.0 ∙ p.0))
 plan_or_trace words P.Passes plan Check other trace p q = let e = ap first (sym p.0 ∙ q.0) in omega (arith, e)
 plan_or_trace words P.Passes plan Explain other trace p q = let e = ap first (sym p.0 ∙ q.0) in omega (arith, e)
 
@@ -89,10 +101,18 @@ plan_or_tool words P.Hobs plan Mp file p q = let e = ap first (sym p.0 ∙ q.0) 
 plan_or_tool words P.Hobs plan Volume file p q = let e = ap first (sym p.0 ∙ q.0) in omega (arith, e)
 plan_or_tool words P.Hobs plan ReadVolume file p q = let e = ap first (sym p.0 ∙ q.0) in omega (arith, e)
 plan_or_tool words P.Hobs plan tool file p q = let e = ap first (sym p.0 ∙ q.0) in omega (arith, e)
+plan_or_tool words P.HobsInTurns plan Mp file p q = let e = ap first (sym p.0 ∙ q.0) in omega (arith, e)
+plan_or_tool words P.HobsInTurns plan Volume file p q = let e = ap first (sym p.0 ∙ q.0) in omega (arith, e)
+plan_or_tool words P.HobsInTurns plan ReadVolume file p q = let e = ap first (sym p.0 ∙ q.0) in omega (arith, e)
+plan_or_tool words P.HobsInTurns plan tool file p q = let e = ap first (sym p.0 ∙ q.0) in omega (arith, e)
 plan_or_tool words P.Reasons plan Mp file p q = let e = ap first (sym p.0 ∙ q.0) in omega (arith, e)
 plan_or_tool words P.Reasons plan Volume file p q = let e = ap first (sym p.0 ∙ q.0) in omega (arith, e)
 plan_or_tool words P.Reasons plan ReadVolume file p q = let e = ap first (sym p.0 ∙ q.0) in omega (arith, e)
 plan_or_tool words P.Reasons plan tool file p q = let e = ap first (sym p.0 ∙ q.0) in omega (arith, e)
+plan_or_tool words P.ReasonsInTurns plan Mp file p q = let e = ap first (sym p.0 ∙ q.0) in omega (arith, e)
+plan_or_tool words P.ReasonsInTurns plan Volume file p q = let e = ap first (sym p.0 ∙ q.0) in omega (arith, e)
+plan_or_tool words P.ReasonsInTurns plan ReadVolume file p q = let e = ap first (sym p.0 ∙ q.0) in omega (arith, e)
+plan_or_tool words P.ReasonsInTurns plan tool file p q = let e = ap first (sym p.0 ∙ q.0) in omega (arith, e)
 plan_or_tool words P.Passes plan Mp file p q = let e = ap first (sym p.0 ∙ q.0) in omega (arith, e)
 plan_or_tool words P.Passes plan Volume file p q = let e = ap first (sym p.0 ∙ q.0) in omega (arith, e)
 plan_or_tool words P.Passes plan ReadVolume file p q = let e = ap first (sym p.0 ∙ q.0) in omega (arith, e)
@@ -107,7 +127,9 @@ follow_or_trace words plan order Explain other trace p q = let e = ap first (sym
 
 follow_or_plan : (words : List (List ℕ)) (plan order : List ℕ) (asked : PlanTool) (other : List ℕ) → AskForFollow words plan order → AskForPlan words asked other → ⊥
 follow_or_plan words plan order P.Hobs other p q = let e = ap first (sym p.0 ∙ q.0) in omega (arith, e)
+follow_or_plan words plan order P.HobsInTurns other p q = let e = ap first (sym p.0 ∙ q.0) in omega (arith, e)
 follow_or_plan words plan order P.Reasons other p q = let e = ap first (sym p.0 ∙ q.0) in omega (arith, e)
+follow_or_plan words plan order P.ReasonsInTurns other p q = let e = ap first (sym p.0 ∙ q.0) in omega (arith, e)
 follow_or_plan words plan order P.Passes other p q = let e = ap first (sym p.0 ∙ q.0) in omega (arith, e)
 
 follow_or_tool : (words : List (List ℕ)) (plan order : List ℕ) (tool : Tool) (file : List ℕ) → AskForFollow words plan order → AskForTool words tool file → ⊥
@@ -116,16 +138,34 @@ follow_or_tool words plan order Volume file p q = let e = ap first (sym p.0 ∙ 
 follow_or_tool words plan order ReadVolume file p q = let e = ap first (sym p.0 ∙ q.0) in omega (arith, e)
 follow_or_tool words plan order tool file p q = let e = ap first (sym p.0 ∙ q.0) in omega (arith, e)
 
+-- a tool of a plan is told by the first byte of its word, and by whether a word stands behind the plan's name
+abbrev plan_tool_in : List (List ℕ) → PlanTool
+plan_tool_in words =
+    if first words == 112 then P.Passes
+    else if first words == 104 then (if first (rest (rest words)) == 112 then P.HobsInTurns else P.Hobs)
+    else if first (rest (rest words)) == 112 then P.ReasonsInTurns
+    else P.Reasons
+
+plan_tool_is : (tool : PlanTool) (plan : List ℕ) → plan_tool_in (plan_words tool plan) ≡ tool
+plan_tool_is P.Hobs plan = refl
+plan_tool_is P.HobsInTurns plan = refl
+plan_tool_is P.Reasons plan = refl
+plan_tool_is P.ReasonsInTurns plan = refl
+plan_tool_is P.Passes plan = refl
+
 one_plan_tool : (words : List (List ℕ)) (tool other : PlanTool) (plan name : List ℕ) → AskForPlan words tool plan → AskForPlan words other name → other ≡ tool
-one_plan_tool words P.Hobs P.Hobs plan name p q = refl
-one_plan_tool words P.Reasons P.Reasons plan name p q = refl
-one_plan_tool words P.Passes P.Passes plan name p q = refl
-one_plan_tool words P.Hobs P.Reasons plan name p q = absurd (let e = ap first (sym p.0 ∙ q.0) in omega (arith, e))
-one_plan_tool words P.Hobs P.Passes plan name p q = absurd (let e = ap first (sym p.0 ∙ q.0) in omega (arith, e))
-one_plan_tool words P.Reasons P.Hobs plan name p q = absurd (let e = ap first (sym p.0 ∙ q.0) in omega (arith, e))
-one_plan_tool words P.Reasons P.Passes plan name p q = absurd (let e = ap first (sym p.0 ∙ q.0) in omega (arith, e))
-one_plan_tool words P.Passes P.Hobs plan name p q = absurd (let e = ap first (sym p.0 ∙ q.0) in omega (arith, e))
-one_plan_tool words P.Passes P.Reasons plan name p q = absurd (let e = ap first (sym p.0 ∙ q.0) in omega (arith, e))
+one_plan_tool words tool other plan name p q = sym (plan_tool_is other name) ∙ ap plan_tool_in (sym q.0 ∙ p.0) ∙ plan_tool_is tool plan
+
+-- its name stands second
+plan_is : (tool : PlanTool) (plan : List ℕ) → second (plan_words tool plan) ≡ plan
+plan_is P.Hobs plan = refl
+plan_is P.HobsInTurns plan = refl
+plan_is P.Reasons plan = refl
+plan_is P.ReasonsInTurns plan = refl
+plan_is P.Passes plan = refl
+
+one_plan_name : (words : List (List ℕ)) (tool other : PlanTool) (plan name : List ℕ) → AskForPlan words tool plan → AskForPlan words other name → name ≡ plan
+one_plan_name words tool other plan name p q = sym (plan_is other name) ∙ ap second (sym q.0 ∙ p.0) ∙ plan_is tool plan
 
 one_asked : (words : List (List ℕ)) (tool other : TraceTool) (plan trace text lines : List ℕ) → AskForTrace words tool plan trace → AskForTrace words other text lines → other ≡ tool
 one_asked words Check Check plan trace text lines p q = refl
@@ -244,12 +284,6 @@ one_of_plan laws tool told plan all a b s t (text_read c p o) (text_read d q u) 
     let P : List ℕ → Type 0 = λ x. JobOutcome (PlanReport tool) told x b t in
     laws.plans tool told c (λ name named. all name (names_a_volume c p named)) a b s t o (subst P contents u)
 
-abbrev second : List (List ℕ) → List ℕ
-second words = head (rest words)
-
-abbrev third : List (List ℕ) → List ℕ
-third words = head (rest (rest words))
-
 pub one_outcome : Laws → (told : List ℕ → Option (List ℕ)) (words : List (List ℕ)) → AreTold told words → IsOne (Outcome told words)
 one_outcome laws told words all a b s t (usage none e u) (usage other f v) = (e ∙ sym f, u ∙ sym v)
 one_outcome laws told words all a b s t (usage none e u) (words_ask_map hobs commands q o) = absurd (none.no_map hobs commands q)
@@ -290,7 +324,7 @@ one_outcome laws told words all a b s t (words_ask_follow plan order p o) (words
 one_outcome laws told words all a b s t (words_ask_plan asked plan p o) (words_ask_plan tool other q u) =
     let P : PlanTool → Type 0 = λ x. PlanOutcome x told other b t in
     let Q : List ℕ → Type 0 = λ x. PlanOutcome asked told x b t in
-    let here = subst Q (ap second (sym q.0 ∙ p.0)) (subst P (one_plan_tool words asked tool plan other p q) u) in
+    let here = subst Q (one_plan_name words asked tool plan other p q) (subst P (one_plan_tool words asked tool plan other p q) u) in
     one_of_plan laws asked told plan (λ name named. all name (of_plan asked plan p named)) a b s t o here
 one_outcome laws told words all a b s t (words_ask_map hobs commands p o) (words_ask_map bytes lines q u) =
     let P : List ℕ → Type 0 = λ x. MapOutcome told x lines b t in

@@ -1,5 +1,6 @@
 -- The texts of a plan and of a trace have one report.
 use Rattle.std.proofs.Common.{◌≡◌, ℕ, List, Option, sym, ap, ◌∙◌, subst}
+use Rattle.pi_base.specs.{Field.AreBytes, Lists.Each}
 use Rattle.boot_plan.specs.declared.plan.Plan.{Plan}
 use Rattle.mod_catalog.specs.{declared.catalogue.Catalog.Catalog, Catalogue.IsCatalogue}
 use Rattle.boot_model.specs.{declared.line.Line.Line, FreeRun.AreFreeLines, PlanBoard.board_of}
@@ -11,8 +12,8 @@ use Rattle.tools_core.specs.declared.command_line.TraceTool.{TraceTool}
 use Rattle.tools_core.specs.declared.command_line.TraceTool.TheVariants.{Check, Explain}
 use Rattle.tools_core.specs.{ExplainReport.IsExplanation, OneOutcome.AreAllTold, OneOutcome.IsOne, Refusals.no_line}
 use Rattle.tools_core.specs.ToldReport.{RunsInOrder, ToldReport, goes_wrong, not_read, runs_so, start_choices}
-use Rattle.tools_core.specs.TraceReport.{TextsOutcome}
-use Rattle.tools_core.proofs.OneCheck.{IsOneSaid, one_off, one_trace, one_verdict}
+use Rattle.tools_core.specs.TraceReport.{TextsOutcome, TraceReport}
+use Rattle.tools_core.proofs.OneCheck.{IsOneSaid, one_off, one_report, one_trace, one_verdict}
 use Rattle.tools_core.proofs.OneExplain as E
 use Rattle.tools_core.proofs.{OneExplain.one_run, OneExplain.one_text, StartNames.name_one}
 
@@ -42,6 +43,9 @@ one_told laws plan images catalog text sound apart a b s t (not_read p m x e u) 
 one_said : Laws → (tool : TraceTool) (text : List ℕ) (plan : Plan) (images : List (List ℕ)) → IsOneSaid tool text plan images
 one_said laws Check text plan images catalog sound apart = one_verdict plan images catalog text
 one_said laws Explain text plan images catalog sound apart = one_told laws plan images catalog text sound apart
+
+pub one_of_text : Laws → (tool : TraceTool) (text : List ℕ) (plan : Plan) (images : List (List ℕ)) → Each AreBytes images → IsOne (TraceReport tool plan images text)
+one_of_text laws tool text plan images are = one_report laws.explains.plans tool text plan images (one_said laws tool text plan images) are
 
 pub one_trace_report : Laws → (tool : TraceTool) (told : List ℕ → Option (List ℕ)) (content text : List ℕ) → AreAllTold told (IsNamedIn told content) → IsOne (TextsOutcome tool told content text)
 one_trace_report laws tool told content text all = one_trace laws.explains.plans tool told content text (one_said laws tool text) all

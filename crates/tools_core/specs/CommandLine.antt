@@ -2,7 +2,7 @@
 -- Own.
 use Rattle.std.specs.Prelude.{◌≡◌, ◌≢◌, ℕ, List, [], ◌∷◌, ◌++◌, codes}
 use Rattle.tools_core.specs.{declared.command_line.Tool.Tool, declared.command_line.PlanTool.PlanTool}
-use Rattle.tools_core.specs.declared.command_line.PlanTool.TheVariants.{Hobs, Reasons, Passes}
+use Rattle.tools_core.specs.declared.command_line.PlanTool.TheVariants.{Hobs, HobsInTurns, Reasons, ReasonsInTurns, Passes}
 use Rattle.tools_core.specs.declared.command_line.TraceTool.{TraceTool}
 use Rattle.tools_core.specs.declared.command_line.TraceTool.TheVariants.{Check, Explain}
 use Rattle.tools_core.specs.declared.command_line.Tool.TheVariants.{AssembleDepex, AssembleScript, ReadPei, ReadDxe, ReadScript, Mp, Volume, ReadVolume}
@@ -31,23 +31,34 @@ abbrev pub trace_word : TraceTool → List ℕ
 trace_word Check = codes "check"
 trace_word Explain = codes "explain"
 
+-- the words behind a plan's name that ask for its boot in the order of EDK2's dispatchers
+abbrev pub in_turns : List (List ℕ)
+in_turns = codes "passes" ∷ []
+
+-- a word names the trace of the tool
+abbrev pub NamesTrace : TraceTool → List ℕ → Type 0
+NamesTrace Check trace = trace ≢ []
+NamesTrace Explain trace = (trace ≢ []) × (trace ≢ codes "passes")
+
 -- the words ask whether a file has the trace of a free boot of a plan, or why each module of that boot started
 abbrev pub AskForTrace : List (List ℕ) → TraceTool → List ℕ → List ℕ → Type 0
-AskForTrace words tool plan trace = (words ≡ trace_word tool ∷ plan ∷ trace ∷ []) × (plan ≢ []) × (trace ≢ [])
+AskForTrace words tool plan trace = (words ≡ trace_word tool ∷ plan ∷ trace ∷ []) × (plan ≢ []) × NamesTrace tool trace
 
 -- the words ask for the boot of a plan in an order of starts
 abbrev pub AskForFollow : List (List ℕ) → List ℕ → List ℕ → Type 0
 AskForFollow words plan order = (words ≡ codes "follow" ∷ plan ∷ order ∷ []) × (plan ≢ []) × (order ≢ [])
 
--- the word of a tool of a plan alone
-abbrev pub plan_word : PlanTool → List ℕ
-plan_word Hobs = codes "hobs"
-plan_word Reasons = codes "explain"
-plan_word Passes = codes "passes"
+-- the words that ask for a tool of a plan alone
+abbrev pub plan_words : PlanTool → List ℕ → List (List ℕ)
+plan_words Hobs plan = codes "hobs" ∷ plan ∷ []
+plan_words HobsInTurns plan = codes "hobs" ∷ plan ∷ in_turns
+plan_words Reasons plan = codes "explain" ∷ plan ∷ []
+plan_words ReasonsInTurns plan = codes "explain" ∷ plan ∷ in_turns
+plan_words Passes plan = codes "passes" ∷ plan ∷ []
 
 -- the words ask for the HOB list that the PEI of a plan hands on, for an explanation of each module of the plan's boot, or for its boot in the order of EDK2's dispatchers
 abbrev pub AskForPlan : List (List ℕ) → PlanTool → List ℕ → Type 0
-AskForPlan words tool plan = (words ≡ plan_word tool ∷ plan ∷ []) × (plan ≢ [])
+AskForPlan words tool plan = (words ≡ plan_words tool plan) × (plan ≢ [])
 
 -- the words ask for nothing that there is
 pub record AskForNothing (words : List (List ℕ)) : Type 0 where

@@ -18,6 +18,7 @@ pub mod TextReport
 pub mod SourceRefusal
 pub mod VolumeReport
 pub mod PassesReport
+pub mod TurnsReport
 pub mod PlanReport
 pub mod PrintReport
 pub mod Outcome

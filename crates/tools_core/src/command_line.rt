@@ -2,7 +2,8 @@
 ghost use Rattle.std.specs.Prelude.{◌≡◌, ◌↔◌, ℕ, List, [], ◌∷◌, codes, IfSome, IfNone, IsTrue};
 ghost use Rattle.tools_core.specs.{declared.command_line.Tool.Tool, declared.command_line.TraceTool.TraceTool};
 ghost use Rattle.tools_core.specs.declared.command_line.PlanTool.{PlanTool};
-ghost use Rattle.tools_core.specs.CommandLine.{tool_words, trace_word, plan_word, AskForTool, AskForMap, AskForFollow, AskForPlan, AskForTrace};
+ghost use Rattle.tools_core.specs.CommandLine.{AskForFollow, AskForMap, AskForPlan, AskForTool, AskForTrace, NamesTrace};
+ghost use Rattle.tools_core.specs.CommandLine.{in_turns, plan_words, tool_words, trace_word};
 ghost use Rattle.boot_io.specs.Words.{words_of};
 
 /// A tool of one file.
@@ -31,8 +32,12 @@ pub(crate) enum Tool {
 pub(crate) enum PlanTool {
     /// The HOB list that the plan's PEI hands on.
     Hobs,
+    /// That in the order of EDK2's dispatchers.
+    HobsInTurns,
     /// Why each module of the plan's boot started, or why it never did.
     Reasons,
+    /// That of the boot in the order of EDK2's dispatchers.
+    ReasonsInTurns,
     /// The plan's boot in the order of EDK2's dispatchers.
     Passes,
 }
@@ -168,8 +173,8 @@ fn asks_for_follow(verb: &str) -> bool
 
 // The tool of a plan that a word names.
 fn plan_tool_of(verb: &str) -> Option<PlanTool>
-    ensures found { IfSome result (λ tool. verb.now ≡ plan_word tool) }
-    ensures none { IfNone result ((tool : PlanTool) → verb.now ≡ plan_word tool → ⊥) }
+    ensures found { IfSome result (λ tool. (plan : List ℕ) → plan_words tool plan ≡ verb.now ∷ plan ∷ []) }
+    ensures none { IfNone result ((tool : PlanTool) (plan : List ℕ) → plan_words tool plan ≡ verb.now ∷ plan ∷ [] → ⊥) }
 {
     if verb == "hobs" {
         Some(PlanTool::Hobs)
@@ -182,23 +187,65 @@ fn plan_tool_of(verb: &str) -> Option<PlanTool>
     }
 }
 
+// The tool that a word names of the boot in the order of EDK2's dispatchers.
+fn turn_tool_of(verb: &str) -> Option<PlanTool>
+    ensures found { IfSome result (λ tool. (plan : List ℕ) → plan_words tool plan ≡ verb.now ∷ plan ∷ in_turns) }
+    ensures none { IfNone result ((tool : PlanTool) (plan : List ℕ) → plan_words tool plan ≡ verb.now ∷ plan ∷ in_turns → ⊥) }
+{
+    if verb == "hobs" {
+        Some(PlanTool::HobsInTurns)
+    } else if verb == "explain" {
+        Some(PlanTool::ReasonsInTurns)
+    } else {
+        None
+    }
+}
+
+// The tool of a plan that words name which stand before and behind the plan's name.
+fn tool_around(verb: &str, behind: &[String]) -> Option<PlanTool>
+    ensures found { IfSome result (λ tool. (plan : List ℕ) → plan_words tool plan ≡ verb.now ∷ plan ∷ words_of behind.now) }
+    ensures none { IfNone result ((tool : PlanTool) (plan : List ℕ) → plan_words tool plan ≡ verb.now ∷ plan ∷ words_of behind.now → ⊥) }
+{
+    match behind {
+        [] => plan_tool_of(verb),
+        [order] => {
+            if order.as_str() == "passes" {
+                turn_tool_of(verb)
+            } else {
+                None
+            }
+        }
+        _ => None,
+    }
+}
+
 /// The tool of a plan that the words ask for, and the name of the plan's file.
 pub(crate) fn asked_plan(words: &[String]) -> Option<(PlanTool, &str)>
     ensures found { IfSome result (λ asked. AskForPlan (words_of words.now) asked.0 asked.1.now) }
     ensures none { IfNone result ((tool : PlanTool) (plan : List ℕ) → AskForPlan (words_of words.now) tool plan → ⊥) }
 {
     match words {
-        [verb, plan] => {
+        [verb, plan, behind @ ..] => {
             let plan = plan.as_str();
             if plan.is_empty() {
                 return None;
             }
-            match plan_tool_of(verb.as_str()) {
+            match tool_around(verb.as_str(), behind) {
                 Some(tool) => Some((tool, plan)),
                 None => None,
             }
         }
         _ => None,
+    }
+}
+
+// Whether a word names the trace of such a tool: `explain PLAN passes` asks for the boot in the order of EDK2's dispatchers.
+fn names_trace(tool: TraceTool, trace: &str) -> bool
+    ensures { IsTrue result ↔ NamesTrace tool trace.now }
+{
+    match tool {
+        TraceTool::Check => !trace.is_empty(),
+        TraceTool::Explain => !trace.is_empty() && trace != "passes",
     }
 }
 
@@ -211,11 +258,17 @@ pub(crate) fn asked_trace(words: &[String]) -> Option<(TraceTool, &str, &str)>
         [verb, plan, trace] => {
             let plan = plan.as_str();
             let trace = trace.as_str();
-            if plan.is_empty() || trace.is_empty() {
+            if plan.is_empty() {
                 return None;
             }
             match trace_tool_of(verb.as_str()) {
-                Some(tool) => Some((tool, plan, trace)),
+                Some(tool) => {
+                    if names_trace(tool, trace) {
+                        Some((tool, plan, trace))
+                    } else {
+                        None
+                    }
+                }
                 None => None,
             }
         }

@@ -69,7 +69,9 @@ pub(crate) fn one_plan_report()
     explain_text::catalog::one_catalog_text();
     boot_laws::cursor_aims();
     boot_laws::order_is_of_modules();
+    trace_reader::one_reading();
     recorded_boot::passes::one_pass();
+    recorded_boot::handing_on::one_hand_off();
 }
 
 /// A command line and known file contents have one outcome: one status, and one text.

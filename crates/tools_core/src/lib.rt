@@ -27,6 +27,7 @@ mod text_tool;
 mod told_tool;
 mod tools;
 mod trace_tool;
+mod turn_tool;
 mod volume_tool;
 
 pub use status::ToolStatus;

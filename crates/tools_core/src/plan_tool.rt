@@ -1,4 +1,4 @@
-// A plan alone: the HOB list of its boot, its boot, explained, or its boot in the order of EDK2's dispatchers.
+// A plan alone: the HOB list of its boot, its boot, explained, each in the machine's order or in that of EDK2's dispatchers, or its boot in that order.
 ghost use Rattle.std.specs.Prelude.{◌≡◌, ◌≤◌, IfOk, OnErr, length};
 ghost use Rattle.boot_core.specs.Job.{IsNamedIn};
 ghost use Rattle.tools_core.specs.{Ends.Reports, JobOutcome.JobOutcome};
@@ -6,10 +6,11 @@ ghost use Rattle.tools_core.specs.PlanReport.{PlanNames, PlanOutcome, PlanReport
 
 use crate::command_line::PlanTool;
 use crate::explain_tool::explain_report;
-use crate::hobs_tool::hobs_report;
+use crate::hobs_tool::{hobs_report, turn_hobs_report};
 use crate::passes_tool::passes_report;
 use crate::reading::{Reading, read_file, report_of};
 use crate::report::Report;
+use crate::turn_tool::turns_report;
 use boot_core::plan_files::{NoJob, PLAN_LIMIT, job_of};
 use boot_io::Files;
 use pi_base::OutOfMemory;
@@ -31,7 +32,9 @@ fn with_text<F: Files>(
     match job_of(alloc, content, files) {
         Ok(job) => match tool {
             PlanTool::Hobs => hobs_report(alloc, job),
+            PlanTool::HobsInTurns => turn_hobs_report(alloc, job),
             PlanTool::Reasons => explain_report(alloc, job),
+            PlanTool::ReasonsInTurns => turns_report(alloc, job),
             PlanTool::Passes => passes_report(alloc, job),
         },
         Err(NoJob::Refused(line)) => Ok(report_of(line)),

@@ -35,8 +35,8 @@ fn image_copied(alloc: Global, image: &[u8]) -> Result<Seq<u8>, OutOfMemory>
     Ok(copy)
 }
 
-// A copy of images.
-fn copied(alloc: Global, images: &[Seq<u8>]) -> Result<Seq<Seq<u8>>, OutOfMemory>
+/// A copy of images.
+pub(crate) fn copied(alloc: Global, images: &[Seq<u8>]) -> Result<Seq<Seq<u8>>, OutOfMemory>
     ensures { IfOk result (λ copies. copies ≡ images.now) }
 {
     let mut copies = Seq::new(alloc);

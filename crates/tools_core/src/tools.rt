@@ -149,8 +149,8 @@ fn run_words<F: Files, S: Sink>(
     }
 }
 
-/// Does what the words of a command line ask for: `check PLAN TRACE`, `follow PLAN ORDER`, `passes PLAN`, `hobs PLAN`, `explain PLAN`, `explain PLAN TRACE`, `gcd HOBS
-/// COMMANDS`, `mp FILE`, `volume TEXT`, `text VOLUME`, `asm depex FILE`, `asm script FILE`, `dis pei FILE`, `dis dxe FILE` or `dis script FILE`. All files that
+/// Does what the words of a command line ask for: `check PLAN TRACE`, `follow PLAN ORDER`, `passes PLAN`, `hobs PLAN`, `explain PLAN`, both
+/// also with the word `passes` behind PLAN, `explain PLAN TRACE`, `gcd HOBS COMMANDS`, `mp FILE`, `volume TEXT`, `text VOLUME`, `asm depex FILE`, `asm script FILE`, `dis pei FILE`, `dis dxe FILE` or `dis script FILE`. All files that
 /// the words name are read, in their order, before the first is examined. The files of a plan's volumes are read after the plan is examined. The whole outcome
 /// is decided before anything is written.
 pub fn tools_main<F: Files, S: Sink>(

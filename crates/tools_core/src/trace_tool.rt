@@ -14,8 +14,8 @@ use boot_io::Files;
 use pi_base::OutOfMemory;
 use std::alloc::Global;
 
-// The most bytes of a trace.
-const TRACE_LIMIT: usize = 0x400_0000;
+/// The most bytes of a trace.
+pub(crate) const TRACE_LIMIT: usize = 0x400_0000;
 
 // What the texts of a plan and of a trace lead to, by the files of the plan's volumes.
 fn with_texts<F: Files>(

@@ -32,6 +32,18 @@ returns-in-Hobs-clause-report g c =
     (record { before = F c.args.files.now; now = F c.job_of.new.files; missed = g.F.Files.missed c.job_of.new.files })
     (λ s t o. job_read job row.0 o) row.1 (subst P (sym c.in-Hobs.is) c.hobs_report.ensures)
 
+pub returns-in-HobsInTurns-clause-report : goal.returns-in-HobsInTurns-clause-report
+returns-in-HobsInTurns-clause-report g c =
+    let F = g.F.Files.faults in
+    let told = g.F.Files.told c.args.files.now in
+    let content = c.args.content.now in
+    let job = c.in-Ok.job in
+    let row = c.in-Ok.ensures.row in
+    let P : PlanTool → Type 0 = λ tool. IfOk c.turn_hobs_report.result (Tells (PlanReport tool job.plan job.images)) in
+    told_reports c.turn_hobs_report.result (PlanReport c.args.tool job.plan job.images) (JobOutcome (PlanReport c.args.tool) told content) (IsNamedIn told content)
+    (record { before = F c.args.files.now; now = F c.job_of.new.files; missed = g.F.Files.missed c.job_of.new.files })
+    (λ s t o. job_read job row.0 o) row.1 (subst P (sym c.in-HobsInTurns.is) c.turn_hobs_report.ensures)
+
 pub returns-in-Reasons-clause-report : goal.returns-in-Reasons-clause-report
 returns-in-Reasons-clause-report g c =
     let F = g.F.Files.faults in
@@ -43,6 +55,18 @@ returns-in-Reasons-clause-report g c =
     told_reports c.explain_report.result (PlanReport c.args.tool job.plan job.images) (JobOutcome (PlanReport c.args.tool) told content) (IsNamedIn told content)
     (record { before = F c.args.files.now; now = F c.job_of.new.files; missed = g.F.Files.missed c.job_of.new.files })
     (λ s t o. job_read job row.0 o) row.1 (subst P (sym c.in-Reasons.is) c.explain_report.ensures)
+
+pub returns-in-ReasonsInTurns-clause-report : goal.returns-in-ReasonsInTurns-clause-report
+returns-in-ReasonsInTurns-clause-report g c =
+    let F = g.F.Files.faults in
+    let told = g.F.Files.told c.args.files.now in
+    let content = c.args.content.now in
+    let job = c.in-Ok.job in
+    let row = c.in-Ok.ensures.row in
+    let P : PlanTool → Type 0 = λ tool. IfOk c.turns_report.result (Tells (PlanReport tool job.plan job.images)) in
+    told_reports c.turns_report.result (PlanReport c.args.tool job.plan job.images) (JobOutcome (PlanReport c.args.tool) told content) (IsNamedIn told content)
+    (record { before = F c.args.files.now; now = F c.job_of.new.files; missed = g.F.Files.missed c.job_of.new.files })
+    (λ s t o. job_read job row.0 o) row.1 (subst P (sym c.in-ReasonsInTurns.is) c.turns_report.ensures)
 
 pub returns-in-Passes-clause-report : goal.returns-in-Passes-clause-report
 returns-in-Passes-clause-report g c =
