@@ -1,17 +1,16 @@
 -- The order of EDK2's dispatchers leads to one boot.
-use Rattle.std.proofs.Common.{◌≡◌, ℕ, true≢false, List, ◌++◌, Option, Some, None, refl, sym, ap, ◌∙◌, subst, inl, inr, option_map}
+use Rattle.std.proofs.Common.{◌≡◌, ℕ, true≢false, List, ◌++◌, Option, Some, None, sym, ap, ◌∙◌, subst, inl, inr, option_map}
 use Rattle.pi_base.specs.declared.phase.Phase.TheVariants.{Dxe}
 use Rattle.mod_catalog.specs.{declared.catalogue.Catalog.Catalog, WellFormed.IsWellFormed}
-use Rattle.store_model.specs.{HandleState.HandleState, HandleState.no_handles, StoreState.Board, StoreState.StoreState}
+use Rattle.store_model.specs.{HandleState.HandleState, StoreState.Board, StoreState.StoreState}
 use Rattle.boot_model.specs.{declared.line.Line.Line, declared.line.RunEnd.RunEnd, declared.phase_end.DxeEnd.DxeEnd}
-use Rattle.boot_model.specs.declared.line.RunEnd.TheVariants as E
 use Rattle.boot_model.specs.{declared.phase_end.PeiEnd.PeiEnd, BootRun.dxe_result, DxeMachine.DxeMachine, PeiMachine.PeiMachine}
 use Rattle.boot_model.specs.declared.phase_end.PeiEnd.TheVariants.{Handoff, NoMemory, NoIpl, Spent, Deep}
 use Rattle.boot_model.specs.Text.{text_of}
 use Rattle.boot_core.specs.{Choices.NameOne, Closing.closing}
-use Rattle.boot_core.specs.ByChoice.{BootBy, EndsAfter, EndsInDxe, all_lines, before_by}
+use Rattle.boot_core.specs.ByChoice.{BootBy, EndsAfter, EndsInDxe, before_by}
 use Rattle.boot_core.specs.{declared.handing_on.HandOff.HandOff, HandOff.HandsOn}
-use Rattle.boot_core.proofs.OneRun.{Boot, DxeStands, RunLaws, Runs, Stands, barred, came, dxe_barred, dxe_over, one_dxe_run, one_run, over}
+use Rattle.boot_core.proofs.OneRun.{Boot, DxeStands, RunLaws, Runs, Stands, came, dxe_barred, dxe_over, one_dxe_run, one_run, over}
 use Rattle.recorded_boot.specs.{declared.passes.Passed.Passed, declared.passes.Turn.Turn, OneBoot.put, OnePass.OnePass, Starts.module_start}
 use Rattle.recorded_boot.specs.declared.passes.Passed.TheVariants.{Ended, No}
 use Rattle.recorded_boot.specs.HandOff.{OneHandOff}

@@ -1,5 +1,5 @@
 -- The boot in the order of EDK2's dispatchers, from what the boot by that choice came to.
-use Rattle.std.proofs.Common.{◌≡◌, ℕ, true≢false, List, Option, Some, None, Result, Ok, Err, IfOk, refl, sym, ap, ◌∙◌, subst, inl, inr}
+use Rattle.std.proofs.Common.{◌≡◌, ℕ, true≢false, List, Option, Some, Result, Ok, Err, IfOk, refl, sym, ap, ◌∙◌, subst, inl, inr}
 use Rattle.pi_base.specs.declared.memory.OutOfMemory.{OutOfMemory}
 use Rattle.boot_trace.specs.Printing.{Texts}
 use Rattle.mod_catalog.specs.declared.catalogue.Catalog.{Catalog}
@@ -8,15 +8,15 @@ use Rattle.store_model.specs.Service.{OfEach, Present}
 use Rattle.boot_model.specs.{declared.line.Line.Line, declared.line.RunEnd.RunEnd, declared.phase_end.PeiEnd.PeiEnd, DxeMachine.DxeMachine}
 use Rattle.boot_model.specs.declared.phase_end.PeiEnd.TheVariants.{Handoff, NoMemory, NoIpl, Spent, Deep}
 use Rattle.boot_model.specs.{DxeRun.dxe_opening, PeiMachine.PeiMachine, PeiRun.pei_opening}
-use Rattle.boot_laws.specs.{declared.choice.Before.Before, Naming.Chooser, PeiAim.CursorAims}
+use Rattle.boot_laws.specs.{declared.choice.Before.Before, PeiAim.CursorAims}
 use Rattle.pei_dispatch.specs.{Choices.ComesTo, declared.boot.Ended.Ended as EndedPei}
 use Rattle.pei_dispatch.proofs.InTurns.{due_in_turn}
 use Rattle.boot_core.specs.{declared.whole.boot.Booted.Booted, declared.whole.boot.Ran.Ran, Choices.Choices, Choices.choices_of}
 use Rattle.boot_core.specs.FreeWay.{AreFree}
 use Rattle.boot_core.specs.declared.whole.boot.Booted.TheVariants as B
-use Rattle.boot_core.specs.ByChoice.{BootBy, ComesInDxe, EndsAfter, HasCome, HasRun, IsBarredInDxe, before_by, ending_of}
+use Rattle.boot_core.specs.ByChoice.{BootBy, ComesInDxe, EndsAfter, HasCome, HasRun, IsBarredInDxe, before_by}
 use Rattle.dxe_dispatch.specs.declared.boot.Barred.{Barred}
-use Rattle.recorded_boot.specs.{declared.passes.Passed.Passed, declared.passes.Turn.Turn, Leaving.store_of}
+use Rattle.recorded_boot.specs.{declared.passes.Passed.Passed, Leaving.store_of}
 use Rattle.recorded_boot.specs.declared.passes.Passed.TheVariants.{Ended, No}
 use Rattle.boot_core.specs.declared.handing_on.HandOff.{HandOff}
 use Rattle.recorded_boot.specs.HandOff.{HandsOnInTurns, LeavesHandOff}

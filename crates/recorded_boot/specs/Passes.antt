@@ -18,7 +18,7 @@ use Rattle.dxe_dispatch.specs.{Choices.IsDue, Choices.came, Passes.queued, Passe
 use Rattle.boot_core.specs.{declared.whole.boot.Booted.Booted, Choices.Choices, Choices.starts_of}
 use Rattle.boot_core.specs.declared.whole.boot.Booted.TheVariants as B
 use Rattle.boot_core.specs.ByChoice.{BootBy, ComesInDxe, all_lines, before_by, ending_of}
-use Rattle.recorded_boot.specs.{declared.order.line.Start.Start, declared.passes.Passed.Passed, declared.passes.Turn.Turn}
+use Rattle.recorded_boot.specs.{declared.passes.Passed.Passed, declared.passes.Turn.Turn}
 use Rattle.recorded_boot.specs.{Starts.module_start, declared.passes.Passed.TheVariants.Ended, declared.passes.Passed.TheVariants.No}
 use Rattle.recorded_boot.specs.declared.follow.images.FollowFault.{FollowFault}
 use Rattle.recorded_boot.specs.declared.follow.images.FollowFault.TheVariants.{Image, Twins, Sink, Memory}

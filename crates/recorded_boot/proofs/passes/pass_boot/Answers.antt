@@ -1,4 +1,3 @@
-use Rattle.std.proofs.lemmas.Result.{err_from_is_err_and}
 use Rattle.boot_trace.specs.Printing.{Texts}
 use Rattle.recorded_boot.proofs.Passing.{TurnBoot, not_in_pei, passes_to, stands_there}
 use Rattle.recorded_boot.proofs.passes.pass_boot.Goals as goal
