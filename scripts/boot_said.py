@@ -9,6 +9,7 @@ from explained import Boot, hob_list, read_explanation, read_map, read_trace
 from file_kinds import PLAN, TRACE, expect
 
 NO, HOBS_REFUSED = 11, 13  # exit statuses of pitools that are no fault of a command line
+IN_TURNS = "passes"  # in the place of a trace: the boot in the order of EDK2's dispatchers
 
 
 class NotTold(ValueError):
@@ -20,14 +21,18 @@ class NotTold(ValueError):
 
 
 def read_boot(plan: str, trace: str | None) -> Boot:
-    """The plan's boot, or that of a trace, as the programs print it."""
+    """The plan's boot, that of a trace, or that in the order of EDK2's dispatchers, as the programs print it."""
     expect(plan, PLAN)
-    if trace:
-        expect(trace, TRACE)
     folder, name = os.path.split(os.path.abspath(plan))
-    words = [name, *([os.path.relpath(trace, folder)] if trace else [])]
+    if trace == IN_TURNS:
+        words = [name, IN_TURNS]
+    elif trace:
+        expect(trace, TRACE)
+        words = [name, os.path.relpath(trace, folder)]
+    else:
+        words = [name]
     boot = read_explanation(lines_of(said("pitools", folder, "explain", *words)))
-    read_trace(boot, lines_of(content_of(trace) if trace else said("piboot", folder, "boot", name)))
+    read_trace(boot, lines_of(text_of(folder, name, trace)))
     if any(mark.kind == "handoff" for mark in boot.marks):
         with tempfile.TemporaryDirectory() as work:
             for file, content in (("hobs", hob_list(boot.trace)), ("commands", b"")):
@@ -39,6 +44,13 @@ def read_boot(plan: str, trace: str | None) -> Boot:
     return boot
 
 
+def text_of(folder: str, name: str, trace: str | None) -> bytes:
+    """The text of that boot."""
+    if trace == IN_TURNS:
+        return said("pitools", folder, "passes", name)
+    return content_of(trace) if trace else said("piboot", folder, "boot", name)
+
+
 def said(program: str, folder: str, *words: str) -> bytes:
     """What a program prints, run in a folder. A refusal is a NotTold."""
     began = time.monotonic()
@@ -46,6 +58,8 @@ def said(program: str, folder: str, *words: str) -> bytes:
     status, printed = pitools.answer(*words, folder=folder, program=program)
     speaking.clear()
     answer = printed.decode(errors="replace").strip()
+    if status == NO and words[0] == "explain" and words[-1] == IN_TURNS:
+        raise NotTold(f"{os.path.join(folder, words[1])}: EDK2 would start a driver that the rules do not allow there, and no page is made: {answer}", status, answer)
     if status == NO and words[0] == "explain":
         raise NotTold(no_boot(os.path.join(folder, words[-1]), int(answer.removeprefix("no "))), status, answer)
     if not answer or answer.startswith("refused ") and status != HOBS_REFUSED:

@@ -10,6 +10,7 @@ pub(crate) const PROGRAM: Program = Program {
        pitools hobs PLAN              the bytes of the HOB list that the boot of PLAN hands to DXE
        pitools explain PLAN           why each module of the boot of PLAN started, and what the others lack
        pitools explain PLAN TRACE     the same of the boot of PLAN of which TRACE tells
+       pitools hobs|explain PLAN passes  the same in the order of EDK2's dispatchers
        pitools gcd HOBS COMMANDS      the memory space map of a HOB list
        pitools mp FILE                what the MP services answer and leave
        pitools volume TEXT            the bytes of the volume that a text describes

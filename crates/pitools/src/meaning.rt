@@ -10,7 +10,7 @@ use tools_core::ToolStatus;
 const SHOWN_LEN: usize = 60;
 
 const USAGE: &str =
-    "usage: pitools check PLAN TRACE | pitools follow PLAN ORDER | pitools passes PLAN | pitools hobs PLAN | pitools explain PLAN [TRACE] | pitools gcd HOBS COMMANDS | pitools mp FILE | pitools volume TEXT | pitools text VOLUME | pitools asm depex|script FILE | pitools dis pei|dxe|script FILE";
+    "usage: pitools check PLAN TRACE | pitools follow PLAN ORDER | pitools passes PLAN | pitools hobs PLAN [passes] | pitools explain PLAN [TRACE | passes] | pitools gcd HOBS COMMANDS | pitools mp FILE | pitools volume TEXT | pitools text VOLUME | pitools asm depex|script FILE | pitools dis pei|dxe|script FILE";
 
 // The word after so many words.
 fn word_at(words: &[String], place: usize) -> &str {
@@ -20,19 +20,28 @@ fn word_at(words: &[String], place: usize) -> &str {
     }
 }
 
+// Whether the words ask for a boot in the order of EDK2's dispatchers, or for its explanation.
+fn is_in_turns(words: &[String]) -> bool {
+    let verb = word_at(words, 0);
+    verb == "passes" || (verb == "explain" && word_at(words, 2) == "passes")
+}
+
 // The tools, and what each takes.
 static VERB_WORDS: [(&str, &str); 11] = [
     ("check", "takes the names of two files behind it"),
     ("follow", "takes the names of two files behind it"),
     ("gcd", "takes the names of two files behind it"),
     ("mp", "takes the name of a file behind it"),
-    ("hobs", "takes the name of a file behind it"),
+    (
+        "hobs",
+        "takes the name of a plan behind it, and may take the word passes",
+    ),
     ("passes", "takes the name of a file behind it"),
     ("volume", "takes the name of a file behind it"),
     ("text", "takes the name of a file behind it"),
     (
         "explain",
-        "takes the name of a plan behind it, and may take that of a trace",
+        "takes the name of a plan behind it, and may take that of a trace, or the word passes",
     ),
     (
         "asm",
@@ -230,7 +239,7 @@ fn tell_fault(rt: &HostRuntime, words: &[String], status: ToolStatus, heard: &He
         ToolStatus::PlanRefused => PROGRAM.tell_plan(rt, first, heard),
         ToolStatus::ImageRefused if word_at(words, 0) == "text" => None,
         ToolStatus::ImageRefused => PROGRAM.tell_image(rt, first, heard),
-        ToolStatus::No if word_at(words, 0) == "passes" => None,
+        ToolStatus::No if is_in_turns(words) => None,
         ToolStatus::No if word_at(words, 0) == "follow" => tell_start(rt, word_at(words, 2), heard),
         ToolStatus::OrderRefused => tell_line(rt, word_at(words, 2), heard, LINE_FORMS),
         ToolStatus::No => tell_line(
@@ -271,7 +280,7 @@ fn meaning_of(words: &[String], status: ToolStatus) -> &'static str {
         ToolStatus::Spent | ToolStatus::Deep => {
             "PEI was given up before the hand-off, since its fuel was spent or its frames are nested too deep"
         }
-        ToolStatus::No if verb == "passes" => {
+        ToolStatus::No if is_in_turns(words) => {
             "it is the turn of the driver in the last line but one, which may not start there; the last line has the GUIDs that are not installed"
         }
         ToolStatus::Memory => "memory was wanting",
@@ -291,7 +300,7 @@ pub(crate) fn shown_file(words: &[String], status: ToolStatus) -> Option<&str> {
     let verb = word_at(words, 0);
     let place = match status {
         ToolStatus::Done if verb == "volume" => 1,
-        ToolStatus::No if verb == "passes" => return None,
+        ToolStatus::No if is_in_turns(words) => return None,
         ToolStatus::No | ToolStatus::OrderRefused => 2,
         ToolStatus::CommandRefused | ToolStatus::TextRefused if verb == "mp" || verb == "volume" =>
             1,
