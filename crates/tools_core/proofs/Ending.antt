@@ -18,6 +18,11 @@ pub answered : (result : Result Report OutOfMemory) (Out : ToolStatus → List �
 answered (Ok report) Out text is out = subst (Tells Out) (sym is) (out, refl)
 answered (Err e) Out text is out = tt
 
+-- what is told of an outcome is told of one that has it
+pub tells_up : (result : Result Report OutOfMemory) (Out Out' : ToolStatus → List ℕ → Type 0) → ((s : ToolStatus) (text : List ℕ) → Out s text → Out' s text) → IfOk result (Tells Out) → IfOk result (Tells Out')
+tells_up (Ok report) Out Out' up told = (up (report_status report) (report_text report) told.0, told.1)
+tells_up (Err e) Out Out' up told = tt
+
 -- a report of an outcome, or of a file, is one of an outcome that has it
 reports_by : (k : Failing) (Out Out' : ToolStatus → List ℕ → Type 0) (Named Named' : List ℕ → Type 0) (report : Report) (t : FilesTrail)
     → ((s : ToolStatus) (text : List ℕ) → Out s text → Out' s text) → ((name : List ℕ) → Named name → Named' name) → ReportsBy k Out Named report t → ReportsBy k Out' Named' report t

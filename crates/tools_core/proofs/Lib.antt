@@ -11,6 +11,7 @@ mod OneFollow
 mod OneExplain
 mod FewLines
 mod HandedOn
+mod Turning
 mod Explanations
 mod StartNames
 mod OneTrace

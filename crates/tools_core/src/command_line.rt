@@ -3,7 +3,7 @@ ghost use Rattle.std.specs.Prelude.{◌≡◌, ◌↔◌, ℕ, List, [], ◌∷�
 ghost use Rattle.tools_core.specs.{declared.command_line.Tool.Tool, declared.command_line.TraceTool.TraceTool};
 ghost use Rattle.tools_core.specs.declared.command_line.PlanTool.{PlanTool};
 ghost use Rattle.tools_core.specs.CommandLine.{AskForFollow, AskForMap, AskForPlan, AskForTool, AskForTrace, NamesTrace};
-ghost use Rattle.tools_core.specs.CommandLine.{in_turns, plan_words, tool_words, trace_word};
+ghost use Rattle.tools_core.specs.CommandLine.{plan_words, tool_words, trace_word};
 ghost use Rattle.boot_io.specs.Words.{words_of};
 
 /// A tool of one file.
@@ -187,12 +187,14 @@ fn plan_tool_of(verb: &str) -> Option<PlanTool>
     }
 }
 
-// The tool that a word names of the boot in the order of EDK2's dispatchers.
-fn turn_tool_of(verb: &str) -> Option<PlanTool>
-    ensures found { IfSome result (λ tool. (plan : List ℕ) → plan_words tool plan ≡ verb.now ∷ plan ∷ in_turns) }
-    ensures none { IfNone result ((tool : PlanTool) (plan : List ℕ) → plan_words tool plan ≡ verb.now ∷ plan ∷ in_turns → ⊥) }
+// The tool that two words name, one before and one behind the plan's name.
+fn turn_tool_of(verb: &str, order: &str) -> Option<PlanTool>
+    ensures found { IfSome result (λ tool. (plan : List ℕ) → plan_words tool plan ≡ verb.now ∷ plan ∷ order.now ∷ []) }
+    ensures none { IfNone result ((tool : PlanTool) (plan : List ℕ) → plan_words tool plan ≡ verb.now ∷ plan ∷ order.now ∷ [] → ⊥) }
 {
-    if verb == "hobs" {
+    if order != "passes" {
+        None
+    } else if verb == "hobs" {
         Some(PlanTool::HobsInTurns)
     } else if verb == "explain" {
         Some(PlanTool::ReasonsInTurns)
@@ -208,13 +210,7 @@ fn tool_around(verb: &str, behind: &[String]) -> Option<PlanTool>
 {
     match behind {
         [] => plan_tool_of(verb),
-        [order] => {
-            if order.as_str() == "passes" {
-                turn_tool_of(verb)
-            } else {
-                None
-            }
-        }
+        [order] => turn_tool_of(verb, order.as_str()),
         _ => None,
     }
 }
