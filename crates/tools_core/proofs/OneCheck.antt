@@ -1,5 +1,5 @@
 -- A plan and its images have one report on a trace, where their catalogue has; and so on the HOB list that is handed on.
-use Rattle.std.proofs.Common.{◌≡◌, ℕ, List, Option, Some, None, inl, inr, sym, ap, ◌∙◌, subst, arith}
+use Rattle.std.proofs.Common.{◌≡◌, ℕ, List, Option, inl, inr, sym, ap, ◌∙◌, subst, arith}
 use Rattle.std.proofs.lemmas.Bool.{cases_lt}
 use Rattle.boot_plan.specs.{declared.plan.Plan.Plan, declared.fault.PlanFault.PlanFault, declared.fault.PlanCause.PlanCause}
 use Rattle.boot_plan.specs.PlanText.{IsPlan, IsPlanFault}

@@ -1,5 +1,5 @@
 -- The text of a plan whose boot is explained has one report.
-use Rattle.std.proofs.Common.{◌≡◌, ℕ, List, ◌++◌, Option, sym, ap, ◌∙◌, subst}
+use Rattle.std.proofs.Common.{◌≡◌, ℕ, List, ◌++◌, sym, ap, ◌∙◌, subst}
 use Rattle.pi_base.specs.{Field.AreBytes, Lists.Each}
 use Rattle.boot_plan.specs.declared.plan.Plan.{Plan}
 use Rattle.mod_catalog.specs.{declared.catalogue.Catalog.Catalog, declared.catalogue.Module.Module}
@@ -8,10 +8,10 @@ use Rattle.boot_model.specs.PlanBoard.{board_of}
 use Rattle.store_model.specs.StoreState.{Board}
 use Rattle.explain_text.specs.{declared.reasons.Explained.Explained, Lines.IsCatalogText, Text.explained_text}
 use Rattle.boot_laws.specs.declared.choice.Reached.TheVariants as R
-use Rattle.boot_core.specs.{Choices.Choices, Choices.NameOne, Job.IsNamedIn}
+use Rattle.boot_core.specs.{Choices.Choices, Choices.NameOne}
 use Rattle.boot_reasons.specs.{Boots.HasOneExplanation, Explained.IsExplainedBy, Explained.own_choices}
 use Rattle.tools_core.specs.ExplainReport.{ExplainReport, IsExplanation, RunsItself, explained_so, faulty_image}
-use Rattle.tools_core.specs.{JobOutcome.JobOutcome, OneOutcome.AreAllTold, OneOutcome.IsOne, Refusals.image_line}
+use Rattle.tools_core.specs.{OneOutcome.IsOne, Refusals.image_line}
 use Rattle.tools_core.proofs.OneCheck as C
 
 -- the laws of plans and catalogues; a catalogue has one text, and a boot by choices that name one module at most one explanation
