@@ -147,7 +147,7 @@ fn other_word(expression: &[u8]) -> Option<&[u8]> {
 }
 
 // How far a line is as a form has it. None if it is so to its end.
-fn fit<'a>(form: &'static str, line: &'a [u8]) -> Option<Fit<'a>> {
+fn fit_of<'a>(form: &'static str, line: &'a [u8]) -> Option<Fit<'a>> {
     let mut rest = line;
     let mut count = 0usize;
     for slot in form.split(' ') {
@@ -178,7 +178,7 @@ fn best_fit<'a>(forms: [&[&'static str]; 2], line: &'a [u8]) -> Option<Fit<'a>> 
     let mut most = 0usize;
     for part in forms {
         for form in part {
-            let found = fit(*form, line)?;
+            let found = fit_of(*form, line)?;
             if found.count > most {
                 most = found.count;
                 best = Some(found);
