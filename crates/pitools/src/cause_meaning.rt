@@ -18,7 +18,7 @@ static SOURCE_WORDS: [(&str, &str); 41] = [
     ),
     (
         "Range",
-        "has a number out of its range; a volume has 72 to 67108864 bytes, a header an even number from 64 to 65534, a pad file 0 to 16777190, and a name stands behind the header",
+        "has a number out of its range; a volume has 72 to 67108864 bytes, a header an even number from 64 to 65534, a pad file 0 to 16777190, and a name stands behind the header; align has 1, 16, 128, 512, 1024, 4096 or a power of two from 32768 to 16777216",
     ),
     (
         "Guid",
@@ -59,11 +59,11 @@ static SOURCE_WORDS: [(&str, &str); 41] = [
     ),
     (
         "NoOperand",
-        "lacks an operand: an operator, a bracket or the end stands where one is due",
+        "is missing an operand: an operator, a bracket or the line's end is where one is expected; an expression ends with its line",
     ),
     (
         "NoGuid",
-        "has a word of an expression that is neither TRUE, FALSE, NOT, AND, OR, a bracket nor a GUID or a name of one",
+        "has a word of an expression that is neither TRUE, FALSE, NOT, AND, OR, a bracket nor a GUID or a name of one; a name of EDK2, as gEfiPcdProtocolGuid, is written as its GUID here",
     ),
     (
         "Bracket",

@@ -4,6 +4,7 @@
 
 mod cause_meaning;
 mod forms;
+mod line_forms;
 mod meaning;
 mod order_meaning;
 mod source_meaning;

@@ -1,13 +1,14 @@
 // Reports to a person on a run: what is at fault, and what to do.
 use crate::cause_meaning::{source_words, words_for};
 use crate::forms::PROGRAM;
+use crate::line_forms::{Misfit, misfit_in, open_line};
 use crate::order_meaning::{LINE_FORMS, against_words, boot_words};
 use crate::source_meaning::tell_readings;
-use program_edge::{Heard, line_at, text_of};
+use program_edge::{FileKind, Heard, line_at, text_of};
 use tools_core::ToolStatus;
 
 // The most bytes of a line that is shown.
-const SHOWN_LEN: usize = 60;
+const SHOWN_LEN: usize = 200;
 
 const USAGE: &str =
     "usage: pitools check PLAN TRACE | pitools follow PLAN ORDER | pitools passes PLAN | pitools hobs PLAN [passes] | pitools explain PLAN [TRACE | passes] | pitools gcd HOBS COMMANDS | pitools mp FILE | pitools volume TEXT | pitools text VOLUME | pitools asm depex|script FILE | pitools dis pei|dxe|script FILE";
@@ -100,7 +101,20 @@ fn tell_line(rt: &HostRuntime, name: &str, heard: &Heard, why: &str) -> Option<(
         .last()?
         .parse::<u32>()
         .ok()?;
-    tell_numbered(rt, name, heard, number, why)
+    tell_numbered(rt, name, heard, number, why)?;
+    let _ = tell_return(rt, name, heard, number);
+    Some(())
+}
+
+// That a line ends with a carriage return, if it does.
+fn tell_return(rt: &HostRuntime, name: &str, heard: &Heard, number: u32) -> Option<()> {
+    let line = line_at(heard.content(name)?, number)?;
+    if line.ends_with(b"\r".as_slice()) {
+        let _ = eprintln!(rt;
+            "pitools: {name}: line {number}: it ends with CR and LF; lines of this file end with LF alone"
+        );
+    }
+    Some(())
 }
 
 // Reports the line of an order that its boot refuses, and why its start is not possible.
@@ -114,12 +128,43 @@ fn tell_start(rt: &HostRuntime, name: &str, heard: &Heard) -> Option<()> {
     tell_numbered(rt, name, heard, number, against_words(heard.last()?))
 }
 
-// The line of a volume's text that a refusal names before its cause.
+// The line of a volume's text that a refusal names before its cause, the word that does not fit its form, and the line that is open at the text's end.
 fn tell_source(rt: &HostRuntime, name: &str, heard: &Heard) -> Option<()> {
     let mut words = heard.last()?.split_whitespace().skip(2);
     let number = words.next()?.parse::<u32>().ok()?;
-    let why = source_words(words.next()?);
-    tell_numbered(rt, name, heard, number, why)
+    let cause = words.next()?;
+    let text = heard.content(name)?;
+    tell_numbered(rt, name, heard, number, source_words(cause))?;
+    let _ = if cause == "NoEnd" {
+        tell_open(rt, name, text)
+    } else {
+        tell_misfit(rt, name, text, number)
+    };
+    Some(())
+}
+
+// The first word of a line that does not fit the line's form, if there is one.
+fn tell_misfit(rt: &HostRuntime, name: &str, text: &[u8], number: u32) -> Option<()> {
+    let Misfit { column, word, form } = misfit_in(text, number)?;
+    let word = text_of(word);
+    let _ = if word.is_empty() {
+        eprintln!(rt;
+            "pitools: {name}: line {number}, column {column}: the line ends there; its form is: {form}"
+        )
+    } else {
+        eprintln!(rt;
+            "pitools: {name}: line {number}, column {column}: {word:?} does not fit; the line's form is: {form}"
+        )
+    };
+    Some(())
+}
+
+// Which line is open at the end of a text.
+fn tell_open(rt: &HostRuntime, name: &str, text: &[u8]) -> Option<()> {
+    let number = open_line(rt.alloc(), text).ok()??;
+    let line = text_of(line_at(text, number)?);
+    let _ = eprintln!(rt; "pitools: {name}: line {number}: {line:?} has no line `end`");
+    Some(())
 }
 
 // The causes of a HOB list, and what each means.
@@ -150,7 +195,7 @@ static HOB_WORDS: [(&str, &str); 8] = [
 static BYTE_WORDS: [(&str, &str); 8] = [
     (
         "Malformed",
-        "no expression goes on there: the opcode is unknown, cut short or of the other phase, or it leaves another number of values than one",
+        "no expression goes on there: the opcode is unknown, cut short or of the other phase, or it leaves another number of values than one; what asm prints becomes bytes by xxd -r -p",
     ),
     (
         "Magic",
@@ -232,12 +277,44 @@ fn command_words(words: &[String]) -> &'static str {
     }
 }
 
+// What a file is that is of another kind than its tool asks for.
+fn tell_other_kind(
+    rt: &HostRuntime,
+    words: &[String],
+    status: ToolStatus,
+    heard: &Heard,
+) -> Option<()> {
+    let verb = word_at(words, 0);
+    let first = word_at(words, 1);
+    match status {
+        ToolStatus::ImageRefused if verb == "text" => {
+            PROGRAM.tell_kind(rt, first, heard, Some(FileKind::Image))
+        }
+        ToolStatus::No if verb == "check" || verb == "explain" => {
+            PROGRAM.tell_kind(rt, word_at(words, 2), heard, Some(FileKind::Trace))
+        }
+        ToolStatus::TextRefused if verb == "volume" => {
+            PROGRAM.tell_kind(rt, first, heard, Some(FileKind::VolumeText))
+        }
+        ToolStatus::TextRefused if verb == "dis" => {
+            PROGRAM.tell_kind(rt, word_at(words, 2), heard, None)
+        }
+        ToolStatus::HobsRefused => PROGRAM.tell_kind(rt, first, heard, None),
+        _ => None,
+    }
+}
+
 // Reports on a status that names a place of a file, if the files and the text were kept.
 fn tell_fault(rt: &HostRuntime, words: &[String], status: ToolStatus, heard: &Heard) -> Option<()> {
     let first = word_at(words, 1);
+    if tell_other_kind(rt, words, status, heard).is_some() {
+        return Some(());
+    }
     match status {
         ToolStatus::PlanRefused => PROGRAM.tell_plan(rt, first, heard),
-        ToolStatus::ImageRefused if word_at(words, 0) == "text" => None,
+        ToolStatus::ImageRefused if word_at(words, 0) == "text" => PROGRAM.tell_volume(
+            rt, first, heard,
+        ),
         ToolStatus::ImageRefused => PROGRAM.tell_image(rt, first, heard),
         ToolStatus::No if is_in_turns(words) => None,
         ToolStatus::No if word_at(words, 0) == "follow" => tell_start(rt, word_at(words, 2), heard),
@@ -301,10 +378,12 @@ pub(crate) fn shown_file(words: &[String], status: ToolStatus) -> Option<&str> {
     let place = match status {
         ToolStatus::Done if verb == "volume" => 1,
         ToolStatus::No if is_in_turns(words) => return None,
+        ToolStatus::ImageRefused if verb == "text" => 1,
+        ToolStatus::HobsRefused => 1,
         ToolStatus::No | ToolStatus::OrderRefused => 2,
         ToolStatus::CommandRefused | ToolStatus::TextRefused if verb == "mp" || verb == "volume" =>
             1,
-        ToolStatus::CommandRefused | ToolStatus::TextRefused if verb != "dis" => 2,
+        ToolStatus::CommandRefused | ToolStatus::TextRefused => 2,
         _ => return None,
     };
     Some(word_at(words, place))

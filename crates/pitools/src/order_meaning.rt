@@ -12,9 +12,9 @@ pub(crate) fn against_words(against: &str) -> &'static str {
     } else if against == "started" {
         "has a module start that has started, and may not again"
     } else if against == "not eligible" {
-        "has a module start that may not there, though all is installed that its dependency expression pushes"
+        "has a module start that may not there, though all is installed that its dependency expression pushes: NOT forbids it, an a priori module has to start first, or it has no expression and an architectural protocol is not installed"
     } else {
-        "has a module start that may not there; the last line printed has the GUIDs that its dependency expression pushes and that are not installed"
+        "has a module start that may not there; the last line printed has the GUIDs that its dependency expression pushes and that are not installed; or an a priori module has to start first"
     }
 }
 

@@ -1,5 +1,6 @@
 pub mod Asked
 pub mod BootStory
+pub mod FileKind
 pub mod KeptLines
 pub mod Mistake
 pub mod NotedVolumes

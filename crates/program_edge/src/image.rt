@@ -6,9 +6,10 @@ pub(crate) fn image_words(cause: ImageCause) -> &'static str {
     match cause {
         ImageCause::Short => "fewer than the 64 bytes of a volume's header are there",
         ImageCause::Signature =>
-            "no firmware volume begins there: bytes 40 to 43 of its header are _FVH",
+            "no firmware volume begins there: bytes 40 to 43 of its header are _FVH; pitools volume makes a volume of a text, and piboot-cut-volumes cuts those of an image",
         ImageCause::Revision => "the volume's revision is not 2",
-        ImageCause::FileSystem => "the volume's file system is neither FFS2 nor FFS3",
+        ImageCause::FileSystem =>
+            "the volume's file system is neither FFS2 nor FFS3, as in the first volume of many images; piboot-cut-volumes cuts an image into volumes",
         ImageCause::Length =>
             "the volume says that it is longer than its file is; is the file cut?",
         ImageCause::HeaderLength =>

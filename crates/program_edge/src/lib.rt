@@ -8,6 +8,7 @@
 mod asked;
 mod boot_story;
 mod call;
+mod file_kind;
 mod heard;
 mod image;
 mod kept_files;
@@ -31,6 +32,7 @@ mod version;
 pub use asked::{Asked, asked_by_person};
 pub use boot_story::{RefusedMemory, count_behind, first_behind, lost_drivers, refused_memory};
 pub use call::Call;
+pub use file_kind::{FileKind, kind_of_file};
 pub use heard::Heard;
 pub use kept_files::{AskedFile, Keeping, KeptFiles};
 pub use kept_lines::KeptLines;

@@ -1,4 +1,5 @@
 // Reports on files, plans and images that are refused, and on an output that failed.
+use crate::file_kind::{FileKind, kind_of_file};
 use crate::heard::Heard;
 use crate::image::image_words;
 use crate::kept_files::AskedFile;
@@ -34,7 +35,13 @@ impl Program {
             return self.put(rt, "a file", why);
         };
         let name = text_of(name.as_slice());
-        if is_long {
+        if !is_long && name.starts_with("-") {
+            self.put(
+                rt,
+                name,
+                "no file of this name can be read: a word that begins with - is taken for a file's name, since a command has no options",
+            );
+        } else if is_long {
             let _ = eprintln!(rt;
                 "{program}: {name}: the file is longer than {limit} bytes, its limit"
             );
@@ -45,8 +52,31 @@ impl Program {
         }
     }
 
-    /// Reports the line of a plan that is at fault, if the plan was kept.
+    /// Reports what a file is, if it was kept and shows that it is of another kind than is asked for.
+    pub fn tell_kind(
+        &self,
+        rt: &HostRuntime,
+        name: &str,
+        heard: &Heard,
+        asked: Option<FileKind>,
+    ) -> Option<()> {
+        let kind = kind_of_file(heard.content(name)?)?;
+        if asked == Some(kind) {
+            return None;
+        }
+        let (program, is_what) = (self.name, kind.words());
+        let _ = eprintln!(rt; "{program}: {name}: this is {is_what}");
+        Some(())
+    }
+
+    /// Reports the line of a plan that is at fault, if the plan was kept, or what else it is.
     pub fn tell_plan(&self, rt: &HostRuntime, plan: &str, heard: &Heard) -> Option<()> {
+        if self
+            .tell_kind(rt, plan, heard, Some(FileKind::Plan))
+            .is_some()
+        {
+            return Some(());
+        }
         let text = heard.content(plan)?;
         if text.len() > PLAN_LIMIT {
             return None;
@@ -76,6 +106,17 @@ impl Program {
         let plan = self.plan_in(rt, plan, heard)?;
         let volume = plan.volumes.as_slice().get(volume as usize)?;
         let name = text_of(volume.name.as_slice());
+        let why = image_words(cause);
+        let program = self.name;
+        let _ = eprintln!(rt; "{program}: {name}: at {at}: {why}");
+        Some(())
+    }
+
+    /// Reports the place of a volume's file that is at fault, as the last printed line has it, where a command line names this file alone.
+    pub fn tell_volume(&self, rt: &HostRuntime, name: &str, heard: &Heard) -> Option<()> {
+        let Line::RefusedImage { at, cause, .. } = refusal_in(rt.alloc(), heard.last()?)? else {
+            return None;
+        };
         let why = image_words(cause);
         let program = self.name;
         let _ = eprintln!(rt; "{program}: {name}: at {at}: {why}");
