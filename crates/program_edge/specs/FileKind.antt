@@ -9,17 +9,21 @@ use Rattle.program_edge.specs.declared.file_kind.FileKind.TheVariants.{Image, Lo
 abbrev pub begins_a_line : List ℕ → List ℕ → Bool
 begins_a_line text front = nat_lt 0 (count_behind front (lines text))
 
+-- a line begins in one of two ways
+abbrev pub begins_either : List ℕ → List ℕ → List ℕ → Bool
+begins_either text one other = begins_a_line text one || begins_a_line text other
+
 -- a firmware volume begins the bytes, alone or as an image's first one
 abbrev pub is_image : List ℕ → Bool
 is_image bytes = nat_le 44 (length bytes) && has_front (codes "_FVH") (drop 40 bytes)
 
 -- the text says that modules are loaded
 abbrev pub has_loading : List ℕ → Bool
-has_loading text = begins_a_line text (codes "Loading PEIM ") || begins_a_line text (codes "Loading driver ")
+has_loading text = begins_either text (codes "Loading PEIM ") (codes "Loading driver ")
 
 -- the text says that something is installed
 abbrev pub has_installing : List ℕ → Bool
-has_installing text = begins_a_line text (codes "InstallProtocolInterface: ") || begins_a_line text (codes "Install PPI: ")
+has_installing text = begins_either text (codes "InstallProtocolInterface: ") (codes "Install PPI: ")
 
 -- the debug log of a boot has lines of one or the other
 abbrev pub is_log : List ℕ → Bool

@@ -1,6 +1,6 @@
 // What a file is that is handed in for another one, as far as its bytes and the beginnings of its lines show.
 ghost use Rattle.std.specs.Prelude.{◌≡◌};
-ghost use Rattle.program_edge.specs.FileKind.{begins_a_line, has_installing, has_loading, is_image, is_log, is_plan, is_trace, is_volume_text, kind_of_file};
+ghost use Rattle.program_edge.specs.FileKind.{begins_a_line, begins_either, has_installing, has_loading, is_image, is_log, is_plan, is_trace, is_volume_text, kind_of_file};
 
 use crate::boot_story::count_behind;
 
@@ -31,6 +31,13 @@ fn begins_a_line(text: &[u8], front: &[u8]) -> bool
     count_behind(text, front) > 0
 }
 
+// Whether a line of a text begins in one of two ways.
+fn begins_either(text: &[u8], one: &[u8], other: &[u8]) -> bool
+    ensures { result ≡ begins_either text.now one.now other.now }
+{
+    begins_a_line(text, one) || begins_a_line(text, other)
+}
+
 // Whether a firmware volume begins the bytes.
 fn is_image(bytes: &[u8]) -> bool
     ensures { result ≡ is_image bytes.now }
@@ -48,16 +55,22 @@ fn is_image(bytes: &[u8]) -> bool
 fn has_loading(text: &[u8]) -> bool
     ensures { result ≡ has_loading text.now }
 {
-    begins_a_line(text, b"Loading PEIM ".as_slice())
-        || begins_a_line(text, b"Loading driver ".as_slice())
+    begins_either(
+        text,
+        b"Loading PEIM ".as_slice(),
+        b"Loading driver ".as_slice(),
+    )
 }
 
 // Whether it says that something is installed.
 fn has_installing(text: &[u8]) -> bool
     ensures { result ≡ has_installing text.now }
 {
-    begins_a_line(text, b"InstallProtocolInterface: ".as_slice())
-        || begins_a_line(text, b"Install PPI: ".as_slice())
+    begins_either(
+        text,
+        b"InstallProtocolInterface: ".as_slice(),
+        b"Install PPI: ".as_slice(),
+    )
 }
 
 // Whether it is the debug log of a boot.
