@@ -172,20 +172,27 @@ fn fit_of<'a>(form: &'static str, line: &'a [u8]) -> Option<Fit<'a>> {
     }
 }
 
-// The form of which a line has the most words. None if it has all of one, or not even the first word of any.
-fn best_fit<'a>(forms: [&[&'static str]; 2], line: &'a [u8]) -> Option<Fit<'a>> {
-    let mut best = None;
-    let mut most = 0usize;
-    for part in forms {
-        for form in part {
-            let found = fit_of(*form, line)?;
-            if found.count > most {
-                most = found.count;
-                best = Some(found);
-            }
+// Of several forms and one before them, the one of which a line has the most words. None if it has all of one.
+fn best_of<'a>(forms: &[&'static str], line: &'a [u8], before: Fit<'a>) -> Option<Fit<'a>> {
+    let mut best = before;
+    for form in forms {
+        let found = fit_of(*form, line)?;
+        if found.count > best.count {
+            best = found;
         }
     }
-    best
+    Some(best)
+}
+
+// The form of which a line has the most words. None if it has all of one, or not even the first word of any.
+fn best_fit<'a>(of_phase: &[&'static str], line: &'a [u8]) -> Option<Fit<'a>> {
+    let none = Fit {
+        count: 0,
+        rest: line,
+        form: "",
+    };
+    let best = best_of(of_phase, line, best_of(FORMS.as_slice(), line, none)?)?;
+    if best.count > 0 { Some(best) } else { None }
 }
 
 // The phase that a line `script` begins, if it is one.
@@ -231,7 +238,7 @@ pub(crate) fn misfit_in(text: &[u8], number: u32) -> Option<Misfit<'_>> {
         Phase::Dxe => DXE_FORMS.as_slice(),
         Phase::Pei => PEI_FORMS.as_slice(),
     };
-    let Fit { rest, form, .. } = best_fit([FORMS.as_slice(), of_phase], line)?;
+    let Fit { rest, form, .. } = best_fit(of_phase, line)?;
     let word = match next_word(rest) {
         Some((word, _)) => word,
         None => &[],
@@ -248,11 +255,12 @@ pub(crate) fn misfit_in(text: &[u8], number: u32) -> Option<Misfit<'_>> {
 pub(crate) fn open_line(alloc: Global, text: &[u8]) -> Result<Option<u32>, OutOfMemory> {
     let mut open = Seq::new(alloc);
     let mut rest = text;
-    let mut number = 0u32;
-    'lines: while !rest.is_empty() {
+    for number in 1..u32::MAX {
+        if rest.is_empty() {
+            return Ok(open.pop());
+        }
         let (line, after) = first_line(rest);
         rest = after;
-        number = number.saturating_add(1);
         if let Some((keyword, _)) = next_word(line) {
             if is_keyword(keyword, b"volume") || is_keyword(keyword, b"script") {
                 open.push(number)?;
