@@ -101,17 +101,20 @@ fn tell_line(rt: &HostRuntime, name: &str, heard: &Heard, why: &str) -> Option<(
         .last()?
         .parse::<u32>()
         .ok()?;
-    tell_numbered(rt, name, heard, number, why)?;
-    let _ = tell_return(rt, name, heard, number);
-    Some(())
+    tell_numbered(rt, name, heard, number, why)
 }
 
-// That a line ends with a carriage return, if it does.
-fn tell_return(rt: &HostRuntime, name: &str, heard: &Heard, number: u32) -> Option<()> {
-    let line = line_at(heard.content(name)?, number)?;
-    if line.ends_with(b"\r".as_slice()) {
+// The line of a trace that no boot prints there, and that the trace has carriage returns, if it does.
+fn tell_trace(rt: &HostRuntime, name: &str, heard: &Heard) -> Option<()> {
+    tell_line(
+        rt,
+        name,
+        heard,
+        "is printed there by no boot of the plan that the rules allow; docs/CHECK.md says how to read it",
+    )?;
+    if heard.content(name)?.iter().any(|byte| *byte == b'\r') {
         let _ = eprintln!(rt;
-            "pitools: {name}: line {number}: it ends with CR and LF; lines of this file end with LF alone"
+            "pitools: {name}: it has carriage returns (CR); a boot prints lines that end with LF alone"
         );
     }
     Some(())
@@ -319,12 +322,7 @@ fn tell_fault(rt: &HostRuntime, words: &[String], status: ToolStatus, heard: &He
         ToolStatus::No if is_in_turns(words) => None,
         ToolStatus::No if word_at(words, 0) == "follow" => tell_start(rt, word_at(words, 2), heard),
         ToolStatus::OrderRefused => tell_line(rt, word_at(words, 2), heard, LINE_FORMS),
-        ToolStatus::No => tell_line(
-            rt,
-            word_at(words, 2),
-            heard,
-            "is printed there by no boot of the plan that the rules allow; docs/CHECK.md says how to read it",
-        ),
+        ToolStatus::No => tell_trace(rt, word_at(words, 2), heard),
         ToolStatus::HobsRefused => tell_place(rt, first, heard, true),
         ToolStatus::CommandRefused => {
             let name = if word_at(words, 0) == "mp" {
