@@ -26,6 +26,7 @@ REASONS = {
     "unreported": "Its volume was never reported to the PEI core.",
     "undiscovered": "DXE never discovered its volume: no FV HOB has its base, and no driver processed it.",
 }
+CUT_OFF = "It might have started, and the boot was cut off before its turn."
 
 
 @dataclass
@@ -84,6 +85,11 @@ class Wait:
     has: list[tuple[str, str]] = field(default_factory=list)
     would: list[str] | None = None
     unless: list[str] = field(default_factory=list)
+
+    def says(self) -> str:
+        """Why the part never started, in a sentence."""
+        holds = self.reason in ("false", "absent") and self.would == [] or (self.phase, self.reason) == ("pei", "absent")
+        return CUT_OFF if holds else REASONS.get(self.reason, self.reason)
 
 
 @dataclass
@@ -161,7 +167,7 @@ class Boot:
         """Why a part never started, in a line."""
         missing = sorted(wait.lacks, key=lambda lack: bool(lack[1]))
         if not missing:
-            return REASONS.get(wait.reason, wait.reason).removesuffix(".")
+            return wait.says().removesuffix(".")
         guid, givers = missing[0]
         who = f"which {self.label(givers[0][0])} may install" if givers else "which no module's script installs"
         return f"missing {name(guid)}, {who}" + (f", and {len(missing) - 1} more" if len(missing) > 1 else "")

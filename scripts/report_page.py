@@ -11,7 +11,7 @@ from html import escape
 from boot_overview import Overview
 from boot_picture import NARROW, Picture
 from boot_picture import STYLE as PICTURE_STYLE
-from explained import CORE, NOBODY, REASONS, Boot, Module, Range, Start, Wait
+from explained import CORE, NOBODY, Boot, Module, Range, Start, Wait
 from guid_names import GUID
 from page_style import SCRIPT, STYLE
 
@@ -210,7 +210,7 @@ class Page:
         missing = [f"missing {self.names.full(guid)}: {self.givers(wait, guid, givers)}" for guid, givers in wait.lacks]
         has = [f"installed {self.names.full(guid)}, by {self.module(maker)}" for guid, maker in wait.has]
         parts = [f"<h3>{self.module(wait.module)} {word(wait.phase.upper())} {word(wait.reason)}</h3>"]
-        parts += [f"<p>{REASONS.get(wait.reason, '')} {self.named_driver(wait, module)}</p>", items(missing + has), self.would(wait, module)]
+        parts += [f"<p>{wait.says()} {self.named_driver(wait, module)}</p>", items(missing + has), self.would(wait, module)]
         if self.has_expression(wait, module):
             parts.append(f"<p>expression {self.expression(module, wait.phase)}</p>")
         return f'<article class="wait" id="waits{wait.module}{wait.phase}">{"".join(parts)}</article>'
